@@ -1,0 +1,108 @@
+-- When questions are answered yes, and what the first no gives.
+use mathlib.Core.Path.{_≡_, refl, sym, _∙_, ap, ap₂}
+use mathlib.Core.Logic.{_↔_, _≢_}
+use mathlib.Core.List.{List, [], _∷_, _++_, cons≢nil}
+use mathlib.Core.Bool.{Bool, true, false, _&&_}
+use Prim.Native.Nat.{ℕ, zero, suc, _≤_, _<_, _-_, _+_}
+use native.Mathlib.Omega.{arith}
+use lib.ListN.{length, take}
+use lib.Dec.{T, ltb, ltb→lt}
+use Rattle.lists.specs.Loop.{for, unless, all}
+use Rattle.lists.specs.Slice.{filled}
+use Rattle.lists.proofs.Tests.{and-iff}
+use Rattle.lists.proofs.Loops.{for-nil, for-split, unless-nil, unless-one}
+use Rattle.lists.proofs.Slices.{take-filled}
+use Rattle.answers.specs.declared.Answer.{Answer}
+use Rattle.answers.specs.Answers.{Question, refuse, accept, decide, lent}
+use Rattle.answers.specs.Fault.{FirstFault}
+
+-- a question is answered yes
+abbrev pub clear : Question → Bool
+clear [] = true
+clear (r ∷ rs) = false
+
+-- no refusal of a question has the number 0
+abbrev pub numbered : Question → Bool
+numbered q = all (λ r. ltb 0 (r .number)) q
+
+pub clear-iff : (q : Question) → T (clear q) ↔ (q ≡ [])
+clear-iff [] = ((λ t. refl), (λ e. tt))
+clear-iff (r ∷ rs) = ((λ t. absurd t), (λ e. cons≢nil e))
+
+-- no question has the number 0, so an answer is 0 exactly when each question is answered yes
+pub decide-iff : (qs : List Question) (c : ℕ) → T (all numbered qs) → ((decide qs c) .number ≡ 0) ↔ T (all clear qs)
+unfolding decide
+decide-iff [] c h = ((λ e. tt), (λ t. refl))
+decide-iff ([] ∷ qs) c h = decide-iff qs c h
+decide-iff ((r ∷ rs) ∷ qs) c h = (
+  (λ e. let l = ltb→lt 0 (r .number) (and-iff (ltb 0 (r .number)) _ .0 (and-iff (numbered (r ∷ rs)) _ .0 h .0) .0) in omega arith),
+  (λ t. absurd t),
+)
+
+-- the count of an acceptance
+pub decide-count : (qs : List Question) (c : ℕ) → T (all clear qs) → decide qs c ≡ accept c
+unfolding decide
+decide-count [] c t = refl
+decide-count ([] ∷ qs) c t = decide-count qs c t
+decide-count ((r ∷ rs′) ∷ qs) c t = absurd t
+
+-- questions that are answered yes may be passed over
+pub decide-after : (qs rs : List Question) (c : ℕ) → T (all clear qs) → decide (qs ++ rs) c ≡ decide rs c
+unfolding decide
+decide-after [] rs c t = refl
+decide-after ([] ∷ qs) rs c t = decide-after qs rs c t
+decide-after ((r ∷ rs′) ∷ qs) rs c t = absurd t
+
+pub numbered-second : (q r : Question) (qs : List Question) → T (numbered r) → T (all numbered (q ∷ qs)) → T (all numbered (q ∷ r ∷ qs))
+numbered-second q r qs t h = let (x, y) = and-iff (numbered q) _ .0 h in and-iff (numbered q) _ .1 (x, and-iff (numbered r) _ .1 (t, y))
+
+pub clear-second : (q r : Question) (qs : List Question) → T (clear r) → T (all clear (q ∷ r ∷ qs)) ↔ T (all clear (q ∷ qs))
+clear-second q r qs t = (
+  (λ h. let (x, y) = and-iff (clear q) _ .0 h in and-iff (clear q) _ .1 (x, and-iff (clear r) _ .0 y .1)),
+  (λ h. let (x, y) = and-iff (clear q) _ .0 h in and-iff (clear q) _ .1 (x, and-iff (clear r) _ .1 (t, y))),
+)
+
+-- where a refusal has been met, what would be asked later does not matter
+pub decide-front : (qs rs : List Question) (c : ℕ) → (decide qs c) .number ≢ 0 → decide (qs ++ rs) c ≡ decide qs c
+unfolding decide
+decide-front [] rs c d = absurd (d refl)
+decide-front ([] ∷ qs) rs c d = decide-front qs rs c d
+decide-front ((r ∷ rs′) ∷ qs) rs c d = refl
+
+-- a loop over the items of a question, from item 0 on: each item passes, or item a is the first to fail
+module _ (n : ℕ) (test : ℕ → Bool) (refusal : ℕ → Answer) (qs : List Question) (c : ℕ) where
+  pub decide-pass : ((i : ℕ) → i < n → T (test i)) → decide ((for n λ i. unless (test i) (refusal i)) ∷ qs) c ≡ decide qs c
+  unfolding decide
+  decide-pass h =
+      let e : for n (λ i. unless (test i) (refusal i)) ≡ [] = for-nil n _ .1 (λ i l. unless-nil (test i) (refusal i) .1 (h i l)) in
+      ap (λ q. decide (q ∷ qs) c) e
+
+  pub decide-stop : (a : ℕ) → a < n → ((i : ℕ) → i < a → T (test i)) → (T (test a) → ⊥)
+      → decide ((for n λ i. unless (test i) (refusal i)) ∷ qs) c ≡ refusal a
+  unfolding decide
+  decide-stop a l h f =
+      let g : ℕ → List Answer = λ i. unless (test i) (refusal i) in
+      let r : ℕ = n - suc a in
+      let e : n ≡ suc a + r = omega arith in
+      let low : for a g ≡ [] = for-nil a g .1 (λ i k. unless-nil (test i) (refusal i) .1 (h i k)) in
+      let here : g a ≡ refusal a ∷ [] = unless-one (test a) (refusal a) f in
+      let all′ : for n g ≡ refusal a ∷ for r (λ i. g (suc a + i)) =
+      ap (λ x. for x g) e ∙ for-split (suc a) r g ∙ ap₂ (λ x y. (x ++ y) ++ for r (λ i. g (suc a + i))) low here in
+      ap (λ q. decide (q ∷ qs) c) all′
+
+-- the same from what a loop returns
+module _ {n : ℕ} {test : ℕ → Bool} {r : ℕ} (f : FirstFault n test r) (refusal : ℕ → Answer) (qs : List Question) (c : ℕ) where
+  pub fault-pass : n ≤ r → decide ((for n λ i. unless (test i) (refusal i)) ∷ qs) c ≡ decide qs c
+  fault-pass l = decide-pass n test refusal qs c (λ i h. f .before i (omega arith))
+
+  pub fault-stop : r < n → decide ((for n λ i. unless (test i) (refusal i)) ∷ qs) c ≡ refusal r
+  fault-stop l = decide-stop n test refusal qs c r l (f .before) (f .here l)
+
+-- an accepted call's slice, and a refused one's
+module _ {A : Type 0} where
+  pub lent-accepted : (r : Answer) (out s : List A) → r .number ≡ 0 → lent r out s ≡ filled out s
+  unfolding lent
+  lent-accepted r out s e = rw e
+
+  pub lent-take : (r : Answer) (out s : List A) → r .number ≡ 0 → take (length out) (lent r out s) ≡ out
+  lent-take r out s e = rw (lent-accepted r out s e) (take-filled out s)

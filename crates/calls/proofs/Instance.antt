@@ -1,0 +1,79 @@
+-- What an accepted instance and horizon are known to have.
+use mathlib.Core.Path.{_≡_, refl}
+use mathlib.Core.Logic.{_↔_, _⊎_, inl, inr, ⊎-elim}
+use mathlib.Core.List.{List}
+use Prim.Native.Nat.{ℕ, suc, _+_, _*_, _-_, _/_, _≤_, _<_}
+use native.Mathlib.Nat.{mul-le-mul}
+use native.Mathlib.Omega.{arith}
+use lib.ListN.{length}
+use lib.Dec.{T, ltb}
+use Rattle.lists.specs.Loop.{all}
+use Rattle.lists.proofs.Tests.{and-iff, or-iff, not-iff, eqb-iff, ltb-iff, leb-iff, every-iff}
+use Rattle.lists.proofs.Loops.{for-all, for-nil, unless-nil, unless-all}
+use Rattle.answers.proofs.Laws.{clear, numbered, clear-iff, decide-iff}
+use Rattle.instance.specs.Instance.{Instance, instance, vertices, agents, edges, lowEnd, highEnd}
+use Rattle.instance.proofs.Graph.{Edges}
+use Rattle.formula.proofs.Limits.{Limits}
+use Rattle.valuation.proofs.Families.{Sound}
+use Rattle.calls.specs.Calls.{instanceQuestions, instanceAnswer}
+
+module _ (b : List ℕ) (m : ℕ) where
+  pub numbered-instance : T (all numbered (instanceQuestions b m))
+  unfolding instanceQuestions
+  numbered-instance =
+      simp (and-iff, for-all, unless-all)
+      ((λ f. tt), ((λ f. tt), ((λ f. tt), ((λ f. tt), ((λ f. tt), ((λ j l f. tt), ((λ j l f. tt), ((λ a l f. tt), ((λ a l f. tt), ((λ f. tt), tt))))))))))
+
+  -- questions 1 to 10 are all answered yes exactly where the number is 0
+  pub instance-iff : (instanceAnswer b m .number ≡ 0) ↔ T (all clear (instanceQuestions b m))
+  unfolding instanceAnswer
+  instance-iff = decide-iff (instanceQuestions b m) 0 numbered-instance
+
+  module _ (ok : T (all clear (instanceQuestions b m))) where
+    pub sound : Sound (instance b m)
+    unfolding instanceQuestions instance
+    sound =
+        let h = simp (and-iff, clear-iff, for-nil, unless-nil, every-iff, not-iff, eqb-iff, ltb-iff) at ok in
+        record {
+          startsInside = λ a l. h .1 .1 .1 .1 .1 .1 .1 .0 a l .0;
+          startsApart = λ a l. h .1 .1 .1 .1 .1 .1 .1 .0 a l .1;
+          goalsInside = λ a l. h .1 .1 .1 .1 .1 .1 .1 .1 .0 a l .0;
+        }
+
+    pub edges-known : Edges (instance b m)
+    unfolding instanceQuestions instance
+    edges-known =
+        let h = simp (and-iff, clear-iff, for-nil, unless-nil, eqb-iff, ltb-iff) at ok in
+        record {
+          ends = λ j l. h .1 .1 .1 .1 .1 .0 j l;
+          order = λ i l.
+              let t = h .1 .1 .1 .1 .1 .1 .0 i (omega arith) in
+              ⊎-elim
+              (λ x. inl (ltb-iff (lowEnd b i) (lowEnd b (suc i)) .0 x))
+              (λ x. inr (simp (and-iff, eqb-iff, ltb-iff) at x))
+              (or-iff (ltb (lowEnd b i) (lowEnd b (suc i))) _ .0 t);
+        }
+
+    -- the length and the sizes
+    pub length-known : length b ≡ 4 + 2 * edges b + 2 * agents b
+    unfolding instanceQuestions
+    length-known = (simp (and-iff, clear-iff, unless-nil, eqb-iff) at ok) .1 .1 .1 .1 .0
+
+    pub limits : Limits (instance b m .sizes)
+    unfolding instanceQuestions instance
+    limits =
+        let h = simp (and-iff, clear-iff, unless-nil, leb-iff) at ok in
+        let q : vertices b * (vertices b - 1) ≤ 4032 =
+        mul-le-mul {n₂ = 64} {m₂ = 63} (h .1 .0 .1) (omega (arith, h .1 .0 .1)) in
+        record {
+          n-least = h .1 .0 .0;
+          n-most = h .1 .0 .1;
+          k-least = h .1 .1 .0 .0 .0;
+          k-most = h .1 .1 .0 .0 .1;
+          e-most = omega (arith, h .1 .1 .1 .0, q);
+          m-most = h .1 .1 .1 .1 .1 .1 .1 .1 .1 .0;
+        }
+
+    pub agents-below : agents b ≤ vertices b
+    unfolding instanceQuestions
+    agents-below = (simp (and-iff, clear-iff, unless-nil, leb-iff) at ok) .1 .1 .0 .1

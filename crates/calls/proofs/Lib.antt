@@ -1,0 +1,3 @@
+pub mod Instance
+pub mod Plan
+pub mod Valuation

@@ -1,0 +1,102 @@
+-- The plan check's questions are answered yes exactly for the plans that pass.
+use mathlib.Core.Path.{_≡_, refl, sym}
+use mathlib.Core.Logic.{_↔_, _≢_, _⊎_, inl, inr, ⊎-elim, by-cases, Iff·trans}
+use mathlib.Core.List.{List, [], _∷_, _++_}
+use Prim.Native.Nat.{ℕ, suc, _<_}
+use native.Mathlib.Decide.{ℕ-discrete, decLt}
+use native.Mathlib.Omega.{arith}
+use lib.Dec.{T}
+use Rattle.lists.specs.Loop.{for, all}
+use Rattle.lists.proofs.Tests.{and-iff, or-imp, not-iff, eqb-iff, ltb-iff, every-iff}
+use Rattle.lists.proofs.Loops.{all-append, for-all, for-nil, unless-nil, unless-all}
+use Rattle.answers.specs.Answers.{Question}
+use Rattle.answers.proofs.Laws.{clear, numbered, clear-iff, decide-iff, decide-after}
+use Rattle.instance.specs.declared.Sizes.{Sizes}
+use Rattle.instance.specs.Instance.{Instance, instance, adjacent, Edge}
+use Rattle.instance.proofs.Graph.{adjacent-iff}
+use Rattle.plan.specs.Plan.{condition1, condition2, condition3, place}
+use Rattle.plan.specs.Passing.{ValidStep, Leads, Passes}
+use Rattle.calls.specs.Questions.{question13, question19, question20, question21}
+use Rattle.calls.specs.Calls.{instanceQuestions, planQuestions, checkAnswer}
+
+module _ (I : Instance) (p : List ℕ) where
+  open Instance I using (sizes)
+  open Sizes sizes using (k, m)
+
+  -- the three questions of step t
+  abbrev stepQuestions : ℕ → List Question
+  stepQuestions t = question19 I p t ∷ question20 I p t ∷ question21 I p t ∷ []
+
+  pub numbered-plan : T (all numbered (question13 I p ∷ planQuestions I p))
+  unfolding planQuestions
+  numbered-plan =
+      simp (and-iff, all-append numbered (for m stepQuestions), for-all, unless-all) (
+        (λ f. tt),
+        (
+          (λ i l f. tt),
+          (
+            (λ a l f. tt),
+            ((λ t l. ((λ a r f. tt), ((λ a r f. tt), ((λ a r f. tt), tt)))), ((λ a l f. tt), tt)),
+          ),
+        ),
+      )
+
+  -- "no two share" from "none shares with a lower one", and back
+  apart-any : (P : ℕ → ℕ) → ((a : ℕ) → a < k → (b : ℕ) → b < a → P b ≢ P a) → (a b : ℕ) → a < k → b < k → a ≢ b → P a ≢ P b
+  apart-any P h a b l r d e =
+      by-cases (decLt a b) (λ o. h b r a o e) (λ o. h a l b (omega arith) (sym e))
+
+  -- "keeps or crosses" from "where it changes, it crosses", and back
+  crosses-iff : (x y : ℕ) → (x ≢ y → T (adjacent I x y)) ↔ ((x ≡ y) ⊎ Edge I x y)
+  crosses-iff x y = (
+    (λ f. by-cases (ℕ-discrete x y) inl (λ d. inr (adjacent-iff I x y .0 (f d)))),
+    (λ o d. ⊎-elim (λ e. absurd (d e)) (λ g. adjacent-iff I x y .1 g) o),
+  )
+
+  pub clear-plan : T (all clear (question13 I p ∷ planQuestions I p)) ↔ Passes I p
+  unfolding planQuestions condition1 condition2 condition3
+  clear-plan =
+      let P : ℕ → ℕ → ℕ = place sizes p in
+      simp (and-iff, all-append clear (for m stepQuestions), for-all, clear-iff, for-nil, unless-nil, or-imp, not-iff, eqb-iff, ltb-iff, every-iff) (
+        (λ h. record {
+          size = h .0;
+          inside = h .1 .0;
+          leads = record {
+            starts = h .1 .1 .0;
+            steps = λ t l.
+                let step = h .1 .1 .1 .0 t l in
+                record {
+                  crosses = λ a r. crosses-iff (P t a) (P (suc t) a) .0 (step .0 a r);
+                  vacant = step .1 .0;
+                  apart = apart-any (P (suc t)) (step .1 .1 .0);
+                };
+            goals = h .1 .1 .1 .1 .0;
+          };
+        }),
+        (λ h.
+            let o = h .leads in (
+              h .size,
+              (
+                h .inside,
+                (
+                  o .starts,
+                  (
+                    (λ t l.
+                        let step = o .steps t l in (
+                          (λ a r. crosses-iff (P t a) (P (suc t) a) .1 (step .crosses a r)),
+                          (step .vacant, ((λ a r b q. step .apart b a (omega arith) r (omega arith)), tt)),
+                        )),
+                    (o .goals, tt),
+                  ),
+                ),
+              ),
+            )),
+      )
+
+-- the plan check passes a plan exactly when it leads from the starts to the goals and every step obeys the three conditions
+pub check-iff : (b : List ℕ) (m : ℕ) → T (all clear (instanceQuestions b m)) → (p : List ℕ)
+    → (checkAnswer b m p .number ≡ 0) ↔ Passes (instance b m) p
+unfolding checkAnswer
+check-iff b m ok p =
+    rw (decide-after (instanceQuestions b m) _ _ ok)
+    (Iff·trans (decide-iff (question13 (instance b m) p ∷ planQuestions (instance b m) p) _ (numbered-plan (instance b m) p)) (clear-plan (instance b m) p))

@@ -1,0 +1,56 @@
+-- The decoder's questions of a list of entries are answered yes exactly for the valuations that satisfy every clause.
+use mathlib.Core.Path.{_≡_, refl}
+use mathlib.Core.Logic.{_↔_, _⊎_, inl, inr, ⊎-elim}
+use mathlib.Core.List.{List, [], _∷_, List·Memᴰ}
+use Prim.Native.Nat.{ℕ, suc, _<_}
+use lib.ListN.{length, getD}
+use lib.Dec.{T}
+use lib.IntN.{ℤ, pos, negsuc, negℤ}
+use Rattle.lists.specs.Loop.{any, all}
+use Rattle.lists.proofs.Tests.{and-iff, or-iff, eqb-iff}
+use Rattle.lists.proofs.Loops.{for-all, for-nil, unless-nil, unless-all, all-getD, any-mem, all-mem}
+use Rattle.answers.proofs.Laws.{clear, numbered, clear-iff}
+use Rattle.instance.specs.Instance.{Instance}
+use Rattle.formula.specs.Variables.{Literal}
+use Rattle.formula.specs.Formula.{clauses}
+use Rattle.valuation.specs.Valuation.{sameNumber, entry, rightEntry, true?, satisfied?}
+use Rattle.valuation.specs.Satisfying.{True, Valuation, Satisfies}
+use Rattle.valuation.proofs.Families.{Sat}
+use Rattle.valuation.proofs.Entries.{sameNumber-iff}
+use Rattle.calls.specs.Questions.{question14, question23, question24}
+
+module _ (es : List ℤ) where
+  -- the test of a literal and its being one of the entries
+  pub true-iff : (l : Literal) → T (true? es l) ↔ True es l
+  unfolding true?
+  true-iff l = (
+    (λ t. let (x, i, e) = any-mem (sameNumber l) es .0 t in mathlib.Core.List.Memᴰ·cast (sameNumber-iff l x .0 e) i),
+    (λ i. any-mem (sameNumber l) es .1 (l, i, sameNumber-iff l l .1 refl)),
+  )
+
+  right-iff : (i : ℕ) → T (rightEntry es i) ↔ ((entry es i ≡ pos (suc i)) ⊎ (entry es i ≡ negℤ (pos (suc i))))
+  right-iff i =
+      let z : ℤ = entry es i in (
+        (λ t. ⊎-elim (λ u. inl (sameNumber-iff z (pos (suc i)) .0 u)) (λ u. inr (sameNumber-iff z (negsuc i) .0 u)) (or-iff (sameNumber z (pos (suc i))) _ .0 t)),
+        (λ o. or-iff (sameNumber z (pos (suc i))) _ .1 (⊎-elim (λ e. inl (sameNumber-iff z (pos (suc i)) .1 e)) (λ e. inr (sameNumber-iff z (negsuc i) .1 e)) o)),
+      )
+
+module _ (I : Instance) (es : List ℤ) where
+  pub satisfies-mem : Sat (true? es) (clauses I) ↔ Satisfies I es
+  satisfies-mem = (
+    (λ h c i. let (l, j, t) = any-mem (true? es) c .0 (all-mem (any (true? es)) (clauses I) .0 h c i) in (l, j, true-iff es l .0 t)),
+    (λ h. all-mem (any (true? es)) (clauses I) .1 (λ c i. let (l, j, t) = h c i in any-mem (true? es) c .1 (l, j, true-iff es l .1 t))),
+  )
+
+  pub numbered-valuation : T (all numbered (question14 I es ∷ question23 I es ∷ question24 I es ∷ []))
+  numbered-valuation = simp (and-iff, for-all, unless-all) ((λ f. tt), ((λ i l f. tt), ((λ i l f. tt), tt)))
+
+  pub clear-valuation : T (all clear (question14 I es ∷ question23 I es ∷ question24 I es ∷ []))
+      ↔ (Valuation (I .sizes) es × Sat (true? es) (clauses I))
+  clear-valuation =
+      let g : Sat (true? es) (clauses I) ↔ ((i : ℕ) → i < length (clauses I) → T (satisfied? es (getD (clauses I) i []))) =
+      all-getD [] (satisfied? es) (clauses I) in
+      simp (and-iff, clear-iff, for-nil, unless-nil, eqb-iff) (
+        (λ h. (record { size = h .0; each = λ i l. right-iff es i .0 (h .1 .0 i l) }, g .1 (h .1 .1 .0))),
+        (λ h. (h .0 .size, ((λ i l. right-iff es i .1 (h .0 .each i l)), (g .0 (h .1), tt)))),
+      )

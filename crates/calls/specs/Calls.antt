@@ -1,0 +1,98 @@
+-- For each call: the questions it asks, its answer, and what it leaves in the lent slice.
+-- b are the instance bytes and m is the horizon given; a size is the length of a lent slice.
+use mathlib.Core.List.{List, [], _∷_, _++_}
+use Prim.Native.Nat.{ℕ}
+use lib.ListN.{length, getD}
+use lib.IntN.{ℤ}
+use Rattle.lists.specs.Loop.{for}
+use Rattle.answers.specs.declared.Answer.{Answer}
+use Rattle.answers.specs.declared.Written.{Written}
+use Rattle.answers.specs.Answers.{Question, decide, lent, withClauses, byNumber}
+use Rattle.instance.specs.declared.Sizes.{Sizes}
+use Rattle.instance.specs.declared.Checked.{Checked}
+use Rattle.instance.specs.Instance.{Instance, instance, checked, unchecked}
+use Rattle.formula.specs.Variables.{variableCount}
+use Rattle.formula.specs.Formula.{Clause, clauses, line, words}
+use Rattle.plan.specs.Plan.{planBytes, cost}
+use Rattle.valuation.specs.Valuation.{namedPlan, planValuation}
+use Rattle.calls.specs.Questions.{question1, question2, question3, question4, question5, question6, question7, question8, question9, question10, question11, question12, question13, question14, question15, question16, question17, question18, question19, question20, question21, question22, question23, question24}
+
+-- 17 to 22: 19, 20 and 21 are asked of step 0, then of step 1, and so on
+unfoldable pub planQuestions : Instance → List ℕ → List Question
+planQuestions I p =
+    question17 I p
+    ∷ question18 I p
+    ∷ (for (I .sizes .m) λ t. question19 I p t ∷ question20 I p t ∷ question21 I p t ∷ [])
+    ++ question22 I p
+    ∷ []
+
+module _ (b : List ℕ) (m : ℕ) where
+  abbrev I : Instance
+  I = instance b m
+
+  -- ---- the instance and the horizon: 1 to 10
+  unfoldable pub instanceQuestions : List Question
+  instanceQuestions =
+      question1 b
+      ∷ question2 b
+      ∷ question3 b
+      ∷ question4 b
+      ∷ question5 b
+      ∷ question6 b
+      ∷ question7 b
+      ∷ question8 b
+      ∷ question9 b
+      ∷ question10 m
+      ∷ []
+
+  unfoldable pub instanceAnswer : Answer
+  instanceAnswer = decide instanceQuestions 0
+
+  -- the checked instance, of zeros where it is refused
+  unfoldable pub instanceChecked : Checked
+  instanceChecked = byNumber (instanceAnswer .number) (checked b m) unchecked
+
+  -- ---- the formula writer: 1 to 10, 12
+  unfoldable pub writeAnswer : ℕ → Written
+  writeAnswer size =
+      withClauses
+      (decide (instanceQuestions ++ question12 (length (words I)) size ∷ []) (length (words I)))
+      (length (clauses I))
+
+  unfoldable pub writeSlice : List ℤ → List ℤ
+  writeSlice s =
+      lent (decide (instanceQuestions ++ question12 (length (words I)) (length s) ∷ []) (length (words I))) (words I) s
+
+  -- ---- one clause: 1 to 12
+  -- the clause at a number, with its 0
+  abbrev pub clauseLine : ℕ → List ℤ
+  clauseLine c = line (getD (clauses I) c [])
+
+  unfoldable pub clauseAnswer : ℕ → ℕ → Answer
+  clauseAnswer c size =
+      decide (instanceQuestions ++ question11 I c ∷ question12 (length (clauseLine c)) size ∷ []) (length (clauseLine c))
+
+  unfoldable pub clauseSlice : ℕ → List ℤ → List ℤ
+  clauseSlice c s = lent (clauseAnswer c (length s)) (clauseLine c) s
+
+  -- ---- the plan check: 1 to 10, 13, 17 to 22
+  unfoldable pub checkAnswer : List ℕ → Answer
+  checkAnswer p = decide (instanceQuestions ++ question13 I p ∷ planQuestions I p) (cost I p)
+
+  -- ---- the decoder: 1 to 10, 14, 15, 23, 24
+  unfoldable pub decodeAnswer : List ℤ → ℕ → Answer
+  decodeAnswer entries size =
+      decide
+      (instanceQuestions ++ question14 I entries ∷ question15 I size ∷ question23 I entries ∷ question24 I entries ∷ [])
+      (planBytes (I .sizes))
+
+  unfoldable pub decodeSlice : List ℤ → List ℕ → List ℕ
+  decodeSlice entries s = lent (decodeAnswer entries (length s)) (namedPlan (I .sizes) entries) s
+
+  -- ---- the encoder: 1 to 10, 13, 16 to 22
+  unfoldable pub encodeAnswer : List ℕ → ℕ → Answer
+  encodeAnswer p size =
+      decide (instanceQuestions ++ question13 I p ∷ question16 I size ∷ planQuestions I p) (variableCount (I .sizes))
+
+  unfoldable pub encodeSlice : List ℕ → List ℤ → List ℤ
+  encodeSlice p s = lent (encodeAnswer p (length s)) (planValuation (I .sizes) p) s

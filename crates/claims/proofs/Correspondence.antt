@@ -1,0 +1,183 @@
+-- The correspondence, proved. A satisfying valuation puts each agent at one vertex at each time, by families C and D; at those
+-- places the formula says that they lead from the starts to the goals by valid steps, and so does a passing plan.
+use mathlib.Core.Path.{_≡_, refl, sym, _∙_, ap, subst}
+use mathlib.Core.Logic.{_↔_, ⊎-elim, Iff·trans, Iff·symm}
+use mathlib.Core.List.{List, [], _∷_, _++_}
+use Prim.Native.Nat.{ℕ, suc, _+_, _*_, _≤_, _<_}
+use native.Mathlib.Omega.{arith}
+use lib.ListN.{length, getD, take}
+use lib.Seq.{ext-getD}
+use lib.Dec.{T, leb}
+use lib.IntN.{ℤ, pos}
+use Rattle.lists.specs.Loop.{unless, all}
+use Rattle.lists.proofs.Tests.{leb-iff}
+use Rattle.lists.proofs.Loops.{unless-nil, unless-all}
+use Rattle.lists.proofs.Blocks.{place-lt, place-split}
+use Rattle.answers.specs.declared.Answer.{Answer}
+use Rattle.answers.proofs.Laws.{clear, numbered, clear-iff, clear-second, numbered-second, decide-iff, decide-after, lent-take}
+use Rattle.instance.specs.declared.Sizes.{Sizes}
+use Rattle.instance.specs.Instance.{Instance, instance}
+use Rattle.formula.specs.Variables.{X, variableCount}
+use Rattle.formula.specs.Formula.{clauses}
+use Rattle.plan.specs.Plan.{place}
+use Rattle.plan.specs.Passing.{Passes}
+use Rattle.valuation.specs.Valuation.{true?, named, namedPlan, planValuation}
+use Rattle.valuation.specs.Satisfying.{Valuation, Names}
+use Rattle.valuation.proofs.Families.{Sat, Places, Sound, satisfies-iff, sat-CD, places-cong, places-unique}
+use Rattle.valuation.proofs.Entries.{index-onto, true-yes, named-places, named-size, named-at, written-size, written-valuation, written-places}
+use Rattle.calls.specs.Questions.{question13, question14, question15, question16, question23, question24}
+use Rattle.calls.specs.Calls.{instanceQuestions, planQuestions, decodeAnswer, decodeSlice, encodeAnswer, encodeSlice}
+use Rattle.calls.proofs.Instance.{instance-iff, sound}
+use Rattle.calls.proofs.Plan.{numbered-plan, clear-plan, check-iff}
+use Rattle.calls.proofs.Valuation.{true-iff, satisfies-mem, numbered-valuation, clear-valuation}
+use Rattle.claims.specs.Correspondence.{Accepts, Correspondence, Claim, bytes, N, handedBack, written}
+
+-- a question whether a slice of s places has x or more
+fits : (x s : ℕ) (r : Answer) → x ≤ s → T (clear (unless (leb x s) r))
+fits x s r l = clear-iff (unless (leb x s) r) .1 (unless-nil (leb x s) r .1 (leb-iff x s .1 l))
+
+module _ (I : Instance) where
+  open Instance I using (sizes)
+  open Sizes sizes using (n, k, m)
+
+  plan-ext : (p q : List ℕ) → length p ≡ suc m * k → length q ≡ suc m * k
+      → ((t a : ℕ) → t < suc m → a < k → place sizes p t a ≡ place sizes q t a) → p ≡ q
+  plan-ext p q lp lq e =
+      ext-getD 0 p q (lp ∙ sym lq)
+      (λ i l.
+      let (t, a, x, y, s) = place-split (suc m) (k) i (subst (λ (z : ℕ). i < z) lp l) in
+      rw s (e t a x y))
+
+  inside-at : (p : List ℕ) → Passes I p → (t a : ℕ) → t < suc m → a < k → place sizes p t a < n
+  inside-at p w t a x y = w .inside (t * k + a) (place-lt (suc m) (k) t a x y)
+
+  names : (es : List ℤ) (p : List ℕ) → length p ≡ suc m * k → Places sizes (true? es) (place sizes p) → Names sizes es p
+  names es p l c =
+      record {
+        size = l;
+        inside = c .inside;
+        chosen = λ t a v x y z. Iff·trans (Iff·symm (true-iff es (X sizes t a v))) (c .here t a v x y z);
+      }
+
+  -- a valuation names one plan
+  pub names-unique : (es : List ℤ) (p q : List ℕ) → Names sizes es p → Names sizes es q → p ≡ q
+  names-unique es p q a b =
+      plan-ext p q (a .size) (b .size)
+      (λ t c x y. b .chosen t c (place sizes p t c) x y (a .inside t c x y) .0 (a .chosen t c (place sizes p t c) x y (a .inside t c x y) .1 refl))
+
+  -- the plan that a satisfying valuation names
+  module _ (es : List ℤ) (w : Valuation sizes es) (h : Sat (true? es) (clauses I)) where
+    pub named-at-places : Places sizes (true? es) (place sizes (namedPlan sizes es))
+    named-at-places =
+        let (c, d) = sat-CD I (true? es) h in
+        places-cong sizes (true? es) (named sizes es) (place sizes (namedPlan sizes es)) (named-places I es w c d) (λ t a x y. sym (named-at sizes es t a x y))
+
+    pub named-passes : Sound I → Passes I (namedPlan sizes es)
+    named-passes s =
+        record {
+          size = named-size sizes es;
+          inside = λ i l.
+              let (t, a, x, y, e) = place-split (suc m) (k) i l in
+              rw e (named-at-places .inside t a x y);
+          leads = satisfies-iff I s (place sizes (namedPlan sizes es)) (true? es) named-at-places .0 h;
+        }
+
+  -- two satisfying valuations that name one plan are equal
+  module _ (es fs : List ℤ) (w : Valuation sizes es) (x : Valuation sizes fs) (P : ℕ → ℕ → ℕ) where
+    same-valuation : Places sizes (true? es) P → Places sizes (true? fs) P → es ≡ fs
+    same-valuation c d =
+        ext-getD (pos 0) es fs (w .size ∙ sym (x .size))
+        (λ i l.
+        let l′ : i < variableCount sizes = omega (arith, w .size) in
+        let (t, a, v, p, q, r, e) = index-onto sizes i l′ in
+        let to : getD es i (pos 0) ≡ pos (suc i) → getD fs i (pos 0) ≡ pos (suc i) =
+        rw e (λ z. true-yes sizes fs x t a v p q r .0 (d .here t a v p q r .1 (c .here t a v p q r .0 (true-yes sizes es w t a v p q r .1 z)))) in
+        let from : getD fs i (pos 0) ≡ pos (suc i) → getD es i (pos 0) ≡ pos (suc i) =
+        rw e (λ z. true-yes sizes es w t a v p q r .0 (c .here t a v p q r .1 (d .here t a v p q r .0 (true-yes sizes fs x t a v p q r .1 z)))) in
+        ⊎-elim
+        (λ y. y ∙ sym (to y))
+        (λ y. ⊎-elim (λ z. from z ∙ sym z) (λ z. y ∙ sym z) (x .each i l′))
+        (w .each i l′))
+
+  -- the valuation of a passing plan
+  module _ (p : List ℕ) (w : Passes I p) where
+    pub written-names : Places sizes (true? (planValuation sizes p)) (place sizes p)
+    written-names = written-places sizes p (inside-at p w)
+
+    pub written-sat : Sound I → Sat (true? (planValuation sizes p)) (clauses I)
+    written-sat s = satisfies-iff I s (place sizes p) (true? (planValuation sizes p)) written-names .1 (w .leads)
+
+    pub round-trip : Sound I → namedPlan sizes (planValuation sizes p) ≡ p
+    round-trip s =
+        let v = written-valuation sizes p in
+        let h = written-sat s in
+        plan-ext (namedPlan sizes (planValuation sizes p)) p (named-size sizes (planValuation sizes p)) (w .size)
+        (places-unique sizes _ _ _ (named-at-places (planValuation sizes p) v h) written-names)
+
+module _ (b : List ℕ) (m : ℕ) (ok : T (all clear (instanceQuestions b m))) where
+  abbrev I : Instance
+  I = instance b m
+
+  -- ---- acceptance
+  pub encode-iff : (p : List ℕ) (s : ℕ) → N b m ≤ s → Accepts (encodeAnswer b m p s) ↔ Passes I p
+  unfolding encodeAnswer
+  encode-iff p s l =
+      rw (decide-after (instanceQuestions b m) _ _ ok)
+      (Iff·trans (decide-iff (question13 I p ∷ question16 I s ∷ planQuestions I p) _ (numbered-second (question13 I p) (question16 I s) (planQuestions I p) (unless-all _ (leb (N b m) s) _ .1 (λ f. tt)) (numbered-plan I p)))
+      (Iff·trans (clear-second (question13 I p) (question16 I s) (planQuestions I p) (fits (N b m) s _ l))
+      (clear-plan I p)))
+
+  pub decode-iff : (es : List ℤ) (s : ℕ) → bytes b m ≤ s → Accepts (decodeAnswer b m es s) ↔ (Valuation (I .sizes) es × Sat (true? es) (clauses I))
+  unfolding decodeAnswer
+  decode-iff es s l =
+      rw (decide-after (instanceQuestions b m) _ _ ok)
+      (Iff·trans (decide-iff (question14 I es ∷ question15 I s ∷ question23 I es ∷ question24 I es ∷ []) _ (numbered-second (question14 I es) (question15 I s) ((question23 I es ∷ question24 I es ∷ [])) (unless-all _ (leb (bytes b m) s) _ .1 (λ f. tt)) (numbered-valuation I es)))
+      (Iff·trans (clear-second (question14 I es) (question15 I s) ((question23 I es ∷ question24 I es ∷ [])) (fits (bytes b m) s _ l))
+      (clear-valuation I es)))
+
+  -- ---- slices
+  handed : (es : List ℤ) (s : List ℕ) → Accepts (decodeAnswer b m es (length s)) → handedBack b m es s ≡ namedPlan (I .sizes) es
+  unfolding decodeSlice
+  handed es s e = rw (← (named-size (I .sizes) es)) (lent-take (decodeAnswer b m es (length s)) (namedPlan (I .sizes) es) s e)
+
+  wrote : (p : List ℕ) (z : List ℤ) → Accepts (encodeAnswer b m p (length z)) → written b m p z ≡ planValuation (I .sizes) p
+  unfolding encodeSlice
+  wrote p z e = rw (← (written-size (I .sizes) p)) (lent-take (encodeAnswer b m p (length z)) (planValuation (I .sizes) p) z e)
+
+  pub correspondence-at : Correspondence b m
+  correspondence-at =
+      record {
+        decoder = λ es s l. Iff·trans (decode-iff es (length s) l) ((λ (w, h). (w, satisfies-mem I es .0 h)), (λ (w, h). (w, satisfies-mem I es .1 h)));
+        decoded = λ es s l e.
+            let (w, h) = decode-iff es (length s) l .0 e in
+            rw (handed es s e) (
+              names I es (namedPlan (I .sizes) es) (named-size (I .sizes) es) (named-at-places I es w h),
+              check-iff b m ok (namedPlan (I .sizes) es) .1 (named-passes I es w h (sound b m ok)),
+            );
+        injective = λ es fs s s′ l l′ e e′ q.
+            let (w, h) = decode-iff es (length s) l .0 e in
+            let (w′, h′) = decode-iff fs (length s′) l′ .0 e′ in
+            let np : namedPlan (I .sizes) fs ≡ namedPlan (I .sizes) es = sym (sym (handed es s e) ∙ q ∙ handed fs s′ e′) in
+            same-valuation I es fs w w′ (place (I .sizes) (namedPlan (I .sizes) es)) (named-at-places I es w h)
+            (subst (λ (p : List ℕ). Places (I .sizes) (true? fs) (place (I .sizes) p)) np (named-at-places I fs w′ h′));
+        encoder = λ p z l. Iff·trans (encode-iff p (length z) l) (Iff·symm (check-iff b m ok p));
+        encoded = λ p z l e.
+            let w = encode-iff p (length z) l .0 e in
+            rw (wrote p z e) (
+              written-valuation (I .sizes) p,
+              satisfies-mem I (planValuation (I .sizes) p) .0 (written-sat I p w (sound b m ok)),
+              names I (planValuation (I .sizes) p) p (w .size) (written-names I p w),
+              (λ s l′.
+                  let a = decode-iff (planValuation (I .sizes) p) (length s) l′ .1 (written-valuation (I .sizes) p, written-sat I p w (sound b m ok)) in
+                  (a, handed (planValuation (I .sizes) p) s a ∙ round-trip I p w (sound b m ok))),
+            );
+        satisfiable = (
+          (λ (es, w, h). (namedPlan (I .sizes) es, check-iff b m ok (namedPlan (I .sizes) es) .1 (named-passes I es w (satisfies-mem I es .1 h) (sound b m ok)))),
+          (λ (p, e).
+              let w = check-iff b m ok p .0 e in
+              (planValuation (I .sizes) p, written-valuation (I .sizes) p, satisfies-mem I (planValuation (I .sizes) p) .0 (written-sat I p w (sound b m ok)))),
+        );
+      }
+
+pub correspondence : Claim
+correspondence b m e = correspondence-at b m (instance-iff b m .0 e)

@@ -1,0 +1,2 @@
+pub mod Correspondence
+pub mod Examples

@@ -1,0 +1,65 @@
+-- The correspondence of satisfying valuations and passing plans: one claim, about the answers and the slices of the plan check,
+-- the decoder and the encoder.
+use mathlib.Core.Path.{_≡_}
+use mathlib.Core.Logic.{_↔_}
+use mathlib.Core.List.{List}
+use Prim.Native.Nat.{ℕ, _≤_}
+use lib.ListN.{length, take}
+use lib.IntN.{ℤ}
+use Rattle.answers.specs.declared.Answer.{Answer}
+use Rattle.instance.specs.Instance.{Instance, instance}
+use Rattle.formula.specs.Variables.{variableCount}
+use Rattle.plan.specs.Plan.{planBytes}
+use Rattle.valuation.specs.Satisfying.{Valuation, Satisfies, Names}
+use Rattle.calls.specs.Calls.{instanceAnswer, checkAnswer, decodeAnswer, decodeSlice, encodeAnswer, encodeSlice}
+
+-- a call accepts when its answer's number is 0
+abbrev pub Accepts : Answer → Type 0
+Accepts answer = answer .number ≡ 0
+
+-- for the instance bytes b and the horizon m
+module _ (b : List ℕ) (m : ℕ) where
+  abbrev I : Instance
+  I = instance b m
+
+  -- how many bytes a plan has, and how many variables the formula
+  abbrev pub bytes : ℕ
+  bytes = planBytes (I .sizes)
+
+  abbrev pub N : ℕ
+  N = variableCount (I .sizes)
+
+  -- the plan handed back: the first (m+1)·k bytes of the plan slice s
+  abbrev pub handedBack : List ℤ → List ℕ → List ℕ
+  handedBack entries s = take bytes (decodeSlice b m entries s)
+
+  -- the valuation written: the first N entries of its slice z
+  abbrev pub written : List ℕ → List ℤ → List ℤ
+  written p z = take N (encodeSlice b m p z)
+
+  pub record Correspondence : Type 0 where
+    -- the decoder accepts a list of entries exactly when it is a valuation of the formula's variables that satisfies every clause
+    pub decoder : (entries : List ℤ) (s : List ℕ) → bytes ≤ length s
+        → Accepts (decodeAnswer b m entries (length s)) ↔ (Valuation (I .sizes) entries × Satisfies I entries)
+    -- the plan handed back is the one that the valuation names, and it passes the check
+    pub decoded : (entries : List ℤ) (s : List ℕ) → bytes ≤ length s → Accepts (decodeAnswer b m entries (length s))
+        → Names (I .sizes) entries (handedBack entries s) × Accepts (checkAnswer b m (handedBack entries s))
+    -- no two accepted valuations give one plan
+    pub injective : (entries others : List ℤ) (s z : List ℕ) → bytes ≤ length s → bytes ≤ length z
+        → Accepts (decodeAnswer b m entries (length s)) → Accepts (decodeAnswer b m others (length z))
+        → handedBack entries s ≡ handedBack others z → entries ≡ others
+    -- the encoder accepts bytes exactly when the plan check passes them
+    pub encoder : (p : List ℕ) (z : List ℤ) → N ≤ length z
+        → Accepts (encodeAnswer b m p (length z)) ↔ Accepts (checkAnswer b m p)
+    -- what it writes is a satisfying valuation that names that plan, and the decoder turns it back into the same bytes
+    pub encoded : (p : List ℕ) (z : List ℤ) → N ≤ length z → Accepts (encodeAnswer b m p (length z))
+        → Valuation (I .sizes) (written p z) × Satisfies I (written p z) × Names (I .sizes) (written p z) p
+        × ((s : List ℕ) → bytes ≤ length s
+        → Accepts (decodeAnswer b m (written p z) (length s)) × (handedBack (written p z) s ≡ p))
+    -- some valuation satisfies the formula exactly when some plan of that makespan passes the check
+    pub satisfiable : ((entries : List ℤ) × Valuation (I .sizes) entries × Satisfies I entries)
+        ↔ ((p : List ℕ) × Accepts (checkAnswer b m p))
+
+-- for every accepted instance and horizon
+abbrev pub Claim : Type 0
+Claim = (b : List ℕ) (m : ℕ) → Accepts (instanceAnswer b m) → Correspondence b m

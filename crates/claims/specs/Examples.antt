@@ -1,0 +1,151 @@
+-- The worked examples, as one table and one claim. A row has an instance, a horizon, a call with what is lent to it, and what is
+-- then seen: the answer and the lent slice.
+use mathlib.Core.Path.{_≡_}
+use mathlib.Core.List.{List, [], _∷_, _++_, map}
+use Prim.Native.Nat.{ℕ}
+use lib.ListN.{length, replicate}
+use lib.IntN.{ℤ, pos, negℤ}
+use Rattle.answers.specs.declared.Answer.{Answer}
+use Rattle.answers.specs.declared.Written.{Written}
+use Rattle.answers.specs.Answers.{accept, refuse}
+use Rattle.calls.specs.Calls.{writeAnswer, writeSlice, checkAnswer, decodeAnswer, decodeSlice, encodeAnswer, encodeSlice}
+
+-- ---- instances
+-- two vertices, one edge, one agent from s to g; "pair" has s 0 and g 1
+abbrev pub pairWith : ℕ → ℕ → List ℕ
+pairWith s g = 2 ∷ 1 ∷ 1 ∷ 0 ∷ 0 ∷ 1 ∷ s ∷ g ∷ []
+
+abbrev pub pair : List ℕ
+pair = pairWith 0 1
+
+-- the pair's edge, agents 0→1 and 1→0
+abbrev pub exchange : List ℕ
+exchange = 2 ∷ 2 ∷ 1 ∷ 0 ∷ 0 ∷ 1 ∷ 0 ∷ 1 ∷ 1 ∷ 0 ∷ []
+
+-- the path, with edges 0-1 and 1-2, and one agent or two
+abbrev pub pathOne : ℕ → ℕ → List ℕ
+pathOne s g = 3 ∷ 1 ∷ 2 ∷ 0 ∷ 0 ∷ 1 ∷ 1 ∷ 2 ∷ s ∷ g ∷ []
+
+abbrev pub pathTwo : ℕ → ℕ → ℕ → ℕ → List ℕ
+pathTwo s₀ s₁ g₀ g₁ = 3 ∷ 2 ∷ 2 ∷ 0 ∷ 0 ∷ 1 ∷ 1 ∷ 2 ∷ s₀ ∷ s₁ ∷ g₀ ∷ g₁ ∷ []
+
+-- ---- calls, and what is seen of them
+pub data Call : Type 0 where
+  write : List ℤ → Call
+  check : List ℕ → Call
+  decode : List ℤ → List ℕ → Call
+  encode : List ℕ → List ℤ → Call
+
+pub data Seen : Type 0 where
+  words : Written → List ℤ → Seen
+  answer : Answer → Seen
+  plan : Answer → List ℕ → Seen
+  valuation : Answer → List ℤ → Seen
+
+abbrev pub run : List ℕ → ℕ → Call → Seen
+run b m (write s) = words (writeAnswer b m (length s)) (writeSlice b m s)
+run b m (check p) = answer (checkAnswer b m p)
+run b m (decode entries s) = plan (decodeAnswer b m entries (length s)) (decodeSlice b m entries s)
+run b m (encode p s) = valuation (encodeAnswer b m p (length s)) (encodeSlice b m p s)
+
+pub record Example : Type 0 where
+  pub bytes : List ℕ
+  pub horizon : ℕ
+  pub call : Call
+  pub seen : Seen
+
+abbrev example : List ℕ → ℕ → Call → Seen → Example
+example b m c s = record { bytes = b; horizon = m; call = c; seen = s }
+
+-- ---- numbers, and slices that hold 7 throughout when they are lent
+abbrev + : ℕ → ℤ
++ x = pos x
+
+abbrev - : ℕ → ℤ
+- x = negℤ (pos x)
+
+abbrev sevens : ℕ → List ℤ
+sevens size = replicate size (+ 7)
+
+abbrev lentPlan : List ℕ
+lentPlan = replicate 4 7
+
+abbrev written : ℕ → ℕ → Written
+written count clauses = record { number = 0; second = count; clauses = clauses }
+
+abbrev unwritten : ℕ → ℕ → Written
+unwritten number place = record { number = number; second = place; clauses = 0 }
+
+-- ---- the words of two formulas, a clause a line
+abbrev pairWords : List ℤ
+pairWords =
+    + 1 ∷ + 0
+    ∷ + 4 ∷ + 0
+    ∷ + 1 ∷ + 2 ∷ + 0
+    ∷ + 3 ∷ + 4 ∷ + 0
+    ∷ - 1 ∷ - 2 ∷ + 0
+    ∷ - 3 ∷ - 4 ∷ + 0
+    ∷ - 1 ∷ + 3 ∷ + 4 ∷ + 0
+    ∷ - 2 ∷ + 4 ∷ + 3 ∷ + 0
+    ∷ []
+
+abbrev exchangeWords : List ℤ
+exchangeWords =
+    + 1 ∷ + 0
+    ∷ + 4 ∷ + 0
+    ∷ + 6 ∷ + 0
+    ∷ + 7 ∷ + 0
+    ∷ + 1 ∷ + 2 ∷ + 0
+    ∷ + 3 ∷ + 4 ∷ + 0
+    ∷ + 5 ∷ + 6 ∷ + 0
+    ∷ + 7 ∷ + 8 ∷ + 0
+    ∷ - 1 ∷ - 2 ∷ + 0
+    ∷ - 3 ∷ - 4 ∷ + 0
+    ∷ - 5 ∷ - 6 ∷ + 0
+    ∷ - 7 ∷ - 8 ∷ + 0
+    ∷ - 1 ∷ - 3 ∷ + 0
+    ∷ - 2 ∷ - 4 ∷ + 0
+    ∷ - 5 ∷ - 7 ∷ + 0
+    ∷ - 6 ∷ - 8 ∷ + 0
+    ∷ - 1 ∷ + 5 ∷ + 6 ∷ + 0
+    ∷ - 2 ∷ + 6 ∷ + 5 ∷ + 0
+    ∷ - 3 ∷ + 7 ∷ + 8 ∷ + 0
+    ∷ - 4 ∷ + 8 ∷ + 7 ∷ + 0
+    ∷ - 3 ∷ - 5 ∷ + 0
+    ∷ - 4 ∷ - 6 ∷ + 0
+    ∷ - 1 ∷ - 7 ∷ + 0
+    ∷ - 2 ∷ - 8 ∷ + 0
+    ∷ []
+
+abbrev pub table : List Example
+table =
+    -- the pair's eight clauses, 24 words: a slice of 24 is filled, one of 26 keeps its last two words, one of 23 is refused
+    example pair 1 (write (sevens 24)) (words (written 24 8) pairWords)
+    ∷ example pair 1 (write (sevens 26)) (words (written 24 8) (pairWords ++ sevens 2))
+    ∷ example pair 1 (write (sevens 23)) (words (unwritten 12 24) (sevens 23))
+    -- the pair's valuations
+    ∷ example pair 1 (decode (+ 1 ∷ - 2 ∷ - 3 ∷ + 4 ∷ []) lentPlan) (plan (accept 2) (0 ∷ 1 ∷ 7 ∷ 7 ∷ []))
+    ∷ example pair 1 (encode (0 ∷ 1 ∷ []) (sevens 5)) (valuation (accept 4) (+ 1 ∷ - 2 ∷ - 3 ∷ + 4 ∷ + 7 ∷ []))
+    ∷ example pair 1 (decode (+ 1 ∷ - 2 ∷ + 3 ∷ + 4 ∷ []) lentPlan) (plan (refuse 24 5) lentPlan)
+    ∷ example pair 1 (decode (- 1 ∷ - 2 ∷ - 3 ∷ - 4 ∷ []) lentPlan) (plan (refuse 24 0) lentPlan)
+    ∷ example pair 1 (decode (+ 1 ∷ - 2 ∷ - 4 ∷ + 3 ∷ []) lentPlan) (plan (refuse 23 2) lentPlan)
+    -- the lowest 32-bit number is a wrong entry like any other
+    ∷ example pair 1 (decode (+ 1 ∷ - 2 ∷ - 2147483648 ∷ + 4 ∷ []) lentPlan) (plan (refuse 23 2) lentPlan)
+    -- two agents exchange the ends of an edge; their formula has 24 clauses, 72 words
+    ∷ example exchange 1 (check (0 ∷ 1 ∷ 1 ∷ 0 ∷ [])) (answer (refuse 20 2))
+    ∷ example exchange 1 (write (sevens 72)) (words (written 72 24) exchangeWords)
+    -- on the path one agent closes up behind another, then waits for it
+    ∷ example (pathTwo 0 1 1 2) 1 (check (0 ∷ 1 ∷ 1 ∷ 2 ∷ [])) (answer (refuse 20 2))
+    ∷ example (pathTwo 0 1 1 2) 2 (check (0 ∷ 1 ∷ 0 ∷ 2 ∷ 1 ∷ 2 ∷ [])) (answer (accept 2))
+    -- two agents meet on one vertex
+    ∷ example (pathTwo 0 2 1 2) 1 (check (0 ∷ 2 ∷ 1 ∷ 1 ∷ [])) (answer (refuse 21 3))
+    -- an agent jumps
+    ∷ example (pathOne 0 2) 1 (check (0 ∷ 2 ∷ [])) (answer (refuse 19 1))
+    -- no step at all
+    ∷ example pair 0 (check (0 ∷ [])) (answer (refuse 22 0))
+    ∷ example (pairWith 0 0) 0 (check (0 ∷ [])) (answer (accept 0))
+    ∷ []
+
+-- every row's call gives what the row says is seen
+abbrev pub Claim : Type 0
+Claim = map (λ x. run (x .bytes) (x .horizon) (x .call)) table ≡ map (λ x. x .seen) table

@@ -1,0 +1,1 @@
+// What is claimed of the calls together, over their definitions. There is no code here.

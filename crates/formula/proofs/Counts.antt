@@ -1,0 +1,128 @@
+-- The closed counts are the lengths of the lists of clauses and words.
+use mathlib.Core.Path.{_≡_, refl, sym, _∙_, ap, ap₂}
+use mathlib.Core.List.{List, [], _∷_, _++_, append-nil}
+use Prim.Native.Nat.{ℕ, suc, _+_, _*_, _-_, _/_, _≤_, _<_}
+use native.Mathlib.Nat.{mul-one, mul-comm, mul-assoc, mul-left-comm}
+use native.Mathlib.Numerals.{add-one}
+use native.Mathlib.Omega.{arith}
+use lib.ListN.{length, length-append}
+use lib.IntN.{ℤ}
+use Rattle.lists.specs.Loop.{for, when, each, sum}
+use Rattle.lists.proofs.Loops.{for-length, each-for, each-append, each-when}
+use Rattle.lists.proofs.Blocks.{for1-length}
+use Rattle.lists.proofs.Sums.{for-sum, sum-ext, sum-const, sum-add, above-length, others-length, when-count}
+use Rattle.instance.specs.declared.Sizes.{Sizes}
+use Rattle.instance.specs.Instance.{Instance, adjacent}
+use Rattle.instance.proofs.Graph.{Edges, degree, handshake}
+use Rattle.formula.specs.Variables.{X}
+use Rattle.formula.specs.Formula.{Clause, A, B, C, D, E, F, G, clauses, line, words}
+use Rattle.formula.specs.Counts.{pairs, clausesBy, wordsBy, clauseCount, wordCount}
+
+pub one-line : (c : Clause) → length (each line (c ∷ [])) ≡ suc (length c)
+one-line c = ap length (append-nil (line c)) ∙ length-append c _ ∙ add-one (length c)
+
+thrice : (x y z : ℕ) → x * (y * (z * 3)) ≡ 3 * (x * y * z)
+thrice x y z = simp (mul-comm, mul-left-comm)
+
+module _ (I : Instance) where
+  open Instance I using (sizes)
+  open Sizes sizes using (n, k, e, m)
+
+  -- ---- clauses
+  pub count-A : length (A I) ≡ clausesBy sizes .A
+  unfolding A
+  count-A = for1-length k _
+
+  pub count-B : length (B I) ≡ clausesBy sizes .B
+  unfolding B
+  count-B = for1-length k _
+
+  pub count-C : length (C I) ≡ clausesBy sizes .C
+  unfolding C
+  count-C = for-length (suc m) k _ (λ t l. for1-length k _)
+
+  pub count-D : length (D I) ≡ clausesBy sizes .D
+  unfolding D
+  count-D =
+      for-length (suc m) _ _ (λ t l. for-length k (pairs n) _ (λ a l. above-length n 1 _ (λ v w. refl) ∙ mul-one _))
+      ∙ sym (mul-assoc (suc m) k (pairs n))
+
+  pub count-E : length (E I) ≡ clausesBy sizes .E
+  unfolding E
+  count-E =
+      for-length (suc m) _ _ (λ t l. for-length n (pairs k) _ (λ v l. above-length k 1 _ (λ a b. refl) ∙ mul-one _))
+      ∙ sym (mul-assoc (suc m) n (pairs k))
+
+  pub count-F : length (F I) ≡ clausesBy sizes .F
+  unfolding F
+  count-F = for-length m (k * n) _ (λ t l. for-length k n _ (λ a l. for1-length n _)) ∙ sym (mul-assoc m k n)
+
+  pub count-G : length (G I) ≡ clausesBy sizes .G
+  unfolding G
+  count-G =
+      for-length m _ _ (λ t l. for-length k _ _ (λ a r. others-length k n a r _ (λ b h. for1-length n _)))
+      ∙ sym (ap (λ x. x * n) (mul-assoc m k (k - 1)) ∙ mul-assoc m (k * (k - 1)) n ∙ ap (λ x. m * x) (mul-assoc k (k - 1) n))
+
+  pub clause-count : length (clauses I) ≡ clauseCount sizes
+  unfolding clauses clauseCount
+  clause-count = simp (length-append, count-A, count-B, count-C, count-D, count-E, count-F, count-G)
+
+  -- ---- words
+  pub words-A : length (each line (A I)) ≡ wordsBy sizes .A
+  unfolding A
+  words-A = simp each-for (for-length k 2 _ (λ a l. refl) ∙ mul-comm k 2)
+
+  pub words-B : length (each line (B I)) ≡ wordsBy sizes .B
+  unfolding B
+  words-B = simp each-for (for-length k 2 _ (λ a l. refl) ∙ mul-comm k 2)
+
+  pub words-C : length (each line (C I)) ≡ wordsBy sizes .C
+  unfolding C
+  words-C =
+      simp each-for
+      (for-length (suc m) _ _ (λ t l. for-length k (n + 1) _ (λ a l. rw (one-line, add-one n) (ap suc (for1-length n (X sizes t a)))))
+      ∙ sym (mul-assoc (suc m) k (n + 1)))
+
+  pub words-D : length (each line (D I)) ≡ wordsBy sizes .D
+  unfolding D
+  words-D =
+      simp (each-for, each-when)
+      (for-length (suc m) _ _ (λ t l. for-length k (pairs n * 3) _ (λ a l. above-length n 3 _ (λ v w. refl)))
+      ∙ thrice (suc m) k (pairs n))
+
+  pub words-E : length (each line (E I)) ≡ wordsBy sizes .E
+  unfolding E
+  words-E =
+      simp (each-for, each-when)
+      (for-length (suc m) _ _ (λ t l. for-length n (pairs k * 3) _ (λ v l. above-length k 3 _ (λ a b. refl)))
+      ∙ thrice (suc m) n (pairs k))
+
+  -- 3 words for each vertex beside its neighbours, which the handshake counts
+  pub words-F : Edges I → length (each line (F I)) ≡ wordsBy sizes .F
+  unfolding F
+  words-F g =
+      simp each-for
+      (for-length m _ _ (λ t l. for-length k (3 * n + 2 * e) _ (λ a l.
+      for-sum n _
+      ∙ sum-ext n _ (λ v. 3 + degree I v) (λ v l. rw one-line (omega (arith, when-count n (adjacent I v) (X sizes (suc t) a))))
+      ∙ sum-add n (λ v. 3) (degree I)
+      ∙ ap₂ _+_ (sum-const n 3 ∙ mul-comm n 3) (handshake I g)))
+      ∙ sym (mul-assoc m k (3 * n + 2 * e)))
+
+  pub words-G : length (each line (G I)) ≡ wordsBy sizes .G
+  unfolding G
+  words-G =
+      simp (each-for, each-when)
+      (for-length m _ _ (λ t l. for-length k _ _ (λ a r. others-length k (n * 3) a r _ (λ b h. for-length n 3 _ (λ v l. refl))))
+      ∙ ap (λ x. m * x) (sym (mul-assoc k (k - 1) (n * 3)))
+      ∙ thrice m (k * (k - 1)) n
+      ∙ ap (λ x. 3 * (x * n)) (sym (mul-assoc m k (k - 1))))
+
+  pub word-count : Edges I → length (words I) ≡ wordCount sizes
+  unfolding words clauses wordCount
+  word-count g = simp (each-append, length-append, words-A, words-B, words-C, words-D, words-E, words-F g, words-G)
+
+-- the largest formula: 64 vertices, 16 agents, 2,016 edges, horizon 32
+pub largest : wordCount (record { n = 64; k = 16; e = 2016; m = 32 }) ≡ 7_625_296
+unfolding wordCount
+largest = refl

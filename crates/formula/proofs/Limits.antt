@@ -1,0 +1,154 @@
+-- No formula of an accepted instance is longer than the largest, and no clause has more than 66 words.
+use mathlib.Core.Path.{_≡_, refl, sym, _∙_, ap, ap₂}
+use mathlib.Core.Logic.{⊎-elim, by-cases}
+use mathlib.Core.List.{List, [], _∷_, _++_, List·Memᴰ}
+use mathlib.Core.Bool.{Bool, true, false}
+use Prim.Native.Nat.{ℕ, zero, suc, _+_, _*_, _-_, _/_, _≤_, _<_}
+use native.Mathlib.Nat.{mul-le-mul, not-suc-le-zero, le-refl, eq-or-lt-of-le, le-of-suc-le-suc}
+use native.Mathlib.Decide.{ℕ-discrete}
+use native.Mathlib.Omega.{arith}
+use lib.ListN.{length, length-append}
+use lib.Dec.{T, leb}
+use Rattle.lists.specs.Loop.{for, when, all, sum}
+use Rattle.lists.proofs.Tests.{leb-iff}
+use Rattle.lists.proofs.Loops.{for-all, when-all, one-all, all-append, all-mem}
+use Rattle.lists.proofs.Blocks.{for1-length}
+use Rattle.lists.proofs.Sums.{ind, when-count}
+use Rattle.instance.specs.declared.Sizes.{Sizes}
+use Rattle.instance.specs.Instance.{Instance, adjacent}
+use Rattle.instance.proofs.Graph.{Edges, adjacent-iff, degree}
+use Rattle.formula.specs.Variables.{X, ¬X, variableCount}
+use Rattle.formula.specs.Formula.{Clause, A, B, C, D, E, F, G, clauses, line}
+use Rattle.formula.specs.Counts.{pairs, clausesBy, wordsBy, clauseCount, wordCount}
+
+-- the sizes of an accepted instance and horizon
+pub record Limits (s : Sizes) : Type 0 where
+  pub n-least : 1 ≤ s .n
+  pub n-most : s .n ≤ 64
+  pub k-least : 1 ≤ s .k
+  pub k-most : s .k ≤ 16
+  pub e-most : s .e ≤ 2016
+  pub m-most : s .m ≤ 32
+
+module _ (s : Sizes) (w : Limits s) where
+  open Sizes s using (n, k, e, m)
+
+  pub pairs-most : (x y : ℕ) → x ≤ y → pairs x ≤ pairs y
+  pairs-most x y h = let q : x * (x - 1) ≤ y * (y - 1) = mul-le-mul h (omega arith) in omega arith
+
+  rows : suc m * k ≤ 528
+  rows = mul-le-mul {n₂ = 33} {m₂ = 16} (omega arith) (w .k-most)
+
+  pub variables-most : variableCount s ≤ 33792
+  variables-most =
+      let q : n * k ≤ 1024 = mul-le-mul {n₂ = 64} {m₂ = 16} (w .n-most) (w .k-most) in
+      mul-le-mul {n₂ = 1024} {m₂ = 33} q (omega arith)
+
+  -- the counts of the five longer families
+  moves : m * k ≤ 512
+  moves = mul-le-mul {n₂ = 32} {m₂ = 16} (w .m-most) (w .k-most)
+
+  count-D-most : clausesBy s .D ≤ 1064448
+  count-D-most = mul-le-mul {n₂ = 528} {m₂ = 2016} rows (pairs-most n 64 (w .n-most))
+
+  count-E-most : clausesBy s .E ≤ 253440
+  count-E-most =
+      let q : suc m * n ≤ 2112 = mul-le-mul {n₂ = 33} {m₂ = 64} (omega arith) (w .n-most) in
+      mul-le-mul {n₂ = 2112} {m₂ = 120} q (pairs-most k 16 (w .k-most))
+
+  count-F-most : clausesBy s .F ≤ 32768
+  count-F-most = mul-le-mul {n₂ = 512} {m₂ = 64} moves (w .n-most)
+
+  count-G-most : clausesBy s .G ≤ 491520
+  count-G-most =
+      let q : m * k * (k - 1) ≤ 7680 = mul-le-mul {n₂ = 512} {m₂ = 15} moves (omega arith) in
+      mul-le-mul {n₂ = 7680} {m₂ = 64} q (w .n-most)
+
+  pub clauses-most : clauseCount s ≤ 1842736
+  unfolding clauseCount
+  clauses-most = omega (arith, rows, count-D-most, count-E-most, count-F-most, count-G-most, w .k-most)
+
+  pub words-most : wordCount s ≤ 7_625_296
+  unfolding wordCount
+  words-most =
+      let c : suc m * k * (n + 1) ≤ 34320 = mul-le-mul {n₂ = 528} {m₂ = 65} rows (omega arith) in
+      let f : m * k * (3 * n + 2 * e) ≤ 2162688 = mul-le-mul {n₂ = 512} {m₂ = 4224} moves (omega arith) in
+      omega (arith, c, f, count-D-most, count-E-most, count-G-most, w .k-most)
+
+-- ---- the longest clause: one of family F, with a vertex and at most n - 1 neighbours
+ind-most : (b : Bool) → ind b ≤ 1
+ind-most true = le-refl 1
+ind-most false = omega arith
+
+sum-most : (n : ℕ) (p : ℕ → Bool) → sum n (λ i. ind (p i)) ≤ n
+sum-most zero p = le-refl 0
+sum-most (suc n) p = omega (arith, sum-most n p, ind-most (p n))
+
+ind-none : (b : Bool) → (T b → ⊥) → ind b ≡ 0
+ind-none true f = absurd (f tt)
+ind-none false f = refl
+
+sum-but-one : (n : ℕ) (p : ℕ → Bool) (v : ℕ) → v < n → (T (p v) → ⊥) → sum n (λ i. ind (p i)) ≤ n - 1
+sum-but-one zero p v l f = absurd (not-suc-le-zero l)
+sum-but-one (suc n) p v l f =
+    ⊎-elim
+    (λ q. let z : ind (p n) ≡ 0 = rw (← q) (ind-none (p v) f) in omega (arith, sum-most n p))
+    (λ h. omega (arith, sum-but-one n p v h f, ind-most (p n)))
+    (eq-or-lt-of-le (le-of-suc-le-suc l))
+
+module _ (I : Instance) (g : Edges I) where
+  open Instance I using (sizes)
+  open Sizes sizes using (n, k, m)
+
+  loopless : (v : ℕ) → T (adjacent I v v) → ⊥
+  loopless v t =
+      let (j, l, o) = adjacent-iff I v v .0 t in
+      let h = g .ends j l .0 in
+      ⊎-elim (λ (x, y). omega arith) (λ (x, y). omega arith) o
+
+  pub degree-most : (v : ℕ) → v < n → degree I v ≤ n - 1
+  degree-most v l = sum-but-one n (adjacent I v) v l (loopless v)
+
+  short : Clause → Bool
+  short c = leb (length (line c)) 66
+
+  module _ (w : n ≤ 64) where
+    short-A : T (all short (A I))
+    unfolding A short
+    short-A = simp (for-all, one-all, leb-iff) (λ a l. omega arith)
+
+    short-B : T (all short (B I))
+    unfolding B short
+    short-B = simp (for-all, one-all, leb-iff) (λ a l. omega arith)
+
+    short-C : T (all short (C I))
+    unfolding C short
+    short-C =
+        simp (for-all, one-all, leb-iff) (λ t l a r. simp length-append (omega (arith, for1-length n (X sizes t a))))
+
+    short-D : T (all short (D I))
+    unfolding D short
+    short-D = simp (for-all, when-all, one-all, leb-iff) (λ t l a r v p w q o. omega arith)
+
+    short-E : T (all short (E I))
+    unfolding E short
+    short-E = simp (for-all, when-all, one-all, leb-iff) (λ t l v p a r b q o. omega arith)
+
+    short-F : T (all short (F I))
+    unfolding F short
+    short-F =
+        simp (for-all, one-all, leb-iff)
+        (λ t l a r v p. simp length-append (omega (arith, when-count n (adjacent I v) (X sizes (suc t) a), degree-most v p)))
+
+    short-G : T (all short (G I))
+    unfolding G short
+    short-G = simp (for-all, when-all, one-all, leb-iff) (λ t l a r b q o v p. omega arith)
+
+    all-short : T (all short (clauses I))
+    unfolding clauses
+    all-short = simp all-append ((((((short-A, short-B), short-C), short-D), short-E), short-F), short-G)
+
+  -- a clause with its 0 has at most 66 words
+  pub clause-most : n ≤ 64 → (c : Clause) → List·Memᴰ c (clauses I) → length (line c) ≤ 66
+  unfolding short
+  clause-most w c i = leb-iff _ 66 .0 (all-mem short (clauses I) .0 (all-short w) c i)

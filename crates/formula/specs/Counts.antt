@@ -1,0 +1,54 @@
+-- The closed counts of clauses and words, by family and in all.
+use Prim.Native.Nat.{ℕ, suc, _+_, _*_, _-_, _/_}
+use Rattle.instance.specs.declared.Sizes.{Sizes}
+
+-- pairs of two different numbers below n
+abbrev pub pairs : ℕ → ℕ
+pairs n = n * (n - 1) / 2
+
+-- one number for each family, A to G
+pub record Families : Type 0 where
+  pub A : ℕ
+  pub B : ℕ
+  pub C : ℕ
+  pub D : ℕ
+  pub E : ℕ
+  pub F : ℕ
+  pub G : ℕ
+
+abbrev pub total : Families → ℕ
+total c = c .A + c .B + c .C + c .D + c .E + c .F + c .G
+
+module _ (s : Sizes) where
+  open Sizes s using (n, k, e, m)
+
+  abbrev pub clausesBy : Families
+  clausesBy =
+      record {
+        A = k;
+        B = k;
+        C = suc m * k;
+        D = suc m * k * pairs n;
+        E = suc m * n * pairs k;
+        F = m * k * n;
+        G = m * k * (k - 1) * n;
+      }
+
+  -- zeros included
+  abbrev pub wordsBy : Families
+  wordsBy =
+      record {
+        A = 2 * k;
+        B = 2 * k;
+        C = suc m * k * (n + 1);
+        D = 3 * clausesBy .D;
+        E = 3 * clausesBy .E;
+        F = m * k * (3 * n + 2 * e);
+        G = 3 * clausesBy .G;
+      }
+
+  unfoldable pub clauseCount : ℕ
+  clauseCount = total clausesBy
+
+  unfoldable pub wordCount : ℕ
+  wordCount = total wordsBy

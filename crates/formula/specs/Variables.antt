@@ -1,0 +1,26 @@
+-- Variables and literals.
+use Prim.Native.Nat.{ℕ, suc, _+_, _*_}
+use lib.IntN.{ℤ, pos, negℤ}
+use Rattle.instance.specs.declared.Sizes.{Sizes}
+
+-- A literal is a variable number, or its negative for "not".
+abbrev pub Literal : Type 0
+Literal = ℤ
+
+module _ (s : Sizes) where
+  open Sizes s using (n, k, m)
+
+  -- N
+  abbrev pub variableCount : ℕ
+  variableCount = n * k * suc m
+
+  -- The number of X(t,a,v) is 1 + (t·k + a)·n + v. What is added to 1 is the place of the variable's entry in a valuation.
+  unfoldable pub index : ℕ → ℕ → ℕ → ℕ
+  index t a v = (t * k + a) * n + v
+
+  -- X(t,a,v): agent a is at vertex v at time t
+  abbrev pub X : ℕ → ℕ → ℕ → Literal
+  X t a v = pos (suc (index t a v))
+
+  abbrev pub ¬X : ℕ → ℕ → ℕ → Literal
+  ¬X t a v = negℤ (X t a v)

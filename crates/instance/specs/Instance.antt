@@ -1,0 +1,96 @@
+-- The instance bytes.
+use mathlib.Core.Path.{_≡_}
+use mathlib.Core.Logic.{_⊎_}
+use mathlib.Core.List.{List}
+use mathlib.Core.Bool.{Bool, _&&_, _||_}
+use Prim.Native.Nat.{ℕ, _+_, _*_, _<_}
+use lib.ListN.{getD, take, drop, replicate}
+use lib.Dec.{eqb}
+use Rattle.lists.specs.Loop.{some}
+use Rattle.lists.specs.Slice.{filled}
+use Rattle.instance.specs.declared.Sizes.{Sizes}
+use Rattle.instance.specs.declared.Checked.{Checked}
+
+-- The sizes n, k, e and the horizon m; the low and the high end of edge j; the start and the goal of agent a.
+pub record Instance : Type 0 where
+  pub sizes : Sizes
+  pub low : ℕ → ℕ
+  pub high : ℕ → ℕ
+  pub start : ℕ → ℕ
+  pub goal : ℕ → ℕ
+
+module _ (b : List ℕ) where
+  -- Sizes come first: n, k, and e in two bytes, low byte first.
+  abbrev pub vertices : ℕ
+  vertices = getD b 0 0
+
+  abbrev pub agents : ℕ
+  agents = getD b 1 0
+
+  abbrev pub edges : ℕ
+  edges = getD b 2 0 + 256 * getD b 3 0
+
+  -- Then the low ends and the high ends of the edges, then the starts and the goals: the offset of each of these arrays.
+  abbrev pub lows : ℕ
+  lows = 4
+
+  abbrev pub highs : ℕ
+  highs = 4 + edges
+
+  abbrev pub starts : ℕ
+  starts = 4 + 2 * edges
+
+  abbrev pub goals : ℕ
+  goals = 4 + 2 * edges + agents
+
+  -- an element of each
+  abbrev pub lowEnd : ℕ → ℕ
+  lowEnd j = getD b (lows + j) 0
+
+  abbrev pub highEnd : ℕ → ℕ
+  highEnd j = getD b (highs + j) 0
+
+  abbrev pub startOf : ℕ → ℕ
+  startOf a = getD b (starts + a) 0
+
+  abbrev pub goalOf : ℕ → ℕ
+  goalOf a = getD b (goals + a) 0
+
+  -- the instance that the bytes hold, with the horizon m given beside them
+  unfoldable pub instance : ℕ → Instance
+  instance m =
+      record {
+        sizes = record { n = vertices; k = agents; e = edges; m = m };
+        low = lowEnd;
+        high = highEnd;
+        start = startOf;
+        goal = goalOf;
+      }
+
+  -- k bytes from an offset on, in an array for 16 agents, 0 beyond agent k - 1
+  unfoldable pub forAgents : ℕ → List ℕ
+  forAgents offset = filled (take agents (drop offset b)) (replicate 16 0)
+
+  -- the checked instance of accepted bytes
+  unfoldable pub checked : ℕ → Checked
+  checked m = record { sizes = instance m .sizes; starts = forAgents starts; goals = forAgents goals }
+
+-- what stands in its place at a refusal
+abbrev pub unchecked : Checked
+unchecked = record { sizes = record { n = 0; k = 0; e = 0; m = 0 }; starts = replicate 16 0; goals = replicate 16 0 }
+
+module _ (I : Instance) where
+  open Instance I using (sizes, low, high)
+  open Sizes sizes using (e)
+
+  -- edge j has the ends v and w, in this order or the other
+  abbrev pub joins : ℕ → ℕ → ℕ → Bool
+  joins v w j = eqb (low j) v && eqb (high j) w || eqb (low j) w && eqb (high j) v
+
+  -- v and w are the two ends of an edge: w is a neighbour of v
+  unfoldable pub adjacent : ℕ → ℕ → Bool
+  adjacent v w = some e (joins v w)
+
+  -- the same as a proposition
+  abbrev pub Edge : ℕ → ℕ → Type 0
+  Edge v w = (j : ℕ) × (j < e) × (((low j ≡ v) × (high j ≡ w)) ⊎ ((low j ≡ w) × (high j ≡ v)))

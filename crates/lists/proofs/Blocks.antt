@@ -1,0 +1,45 @@
+-- A number i * c + j with j < c: the place of element j of block i, where each block has c elements.
+use mathlib.Core.Path.{_≡_, refl, sym, _∙_, ap, subst}
+use mathlib.Core.List.{[], _∷_}
+use Prim.Native.Nat.{ℕ, zero, suc, _+_, _*_, _/_, _%_, _<_}
+use native.Mathlib.Nat.{suc-mul, mul-zero, mul-one, mul-le-mul-right, div-lt-iff-lt-mul, mod-lt, div-add-mod', zero-lt-suc, not-suc-le-zero, mul-assoc, add-mul, add-assoc}
+use native.Mathlib.Omega.{arith}
+use lib.ListN.{length, getD}
+use Rattle.lists.specs.Loop.{for}
+use Rattle.lists.proofs.Loops.{for-length, for-getD}
+
+pub place-lt : (n c i j : ℕ) → i < n → j < c → i * c + j < n * c
+place-lt n c i j l r = omega (arith, suc-mul i c, mul-le-mul-right c l)
+
+pub place-split : (n c x : ℕ) → x < n * c → (i j : ℕ) × (i < n) × (j < c) × (x ≡ i * c + j)
+place-split n zero x h = absurd (not-suc-le-zero (subst (λ (y : ℕ). x < y) (mul-zero n) h))
+place-split n (suc c) x h =
+    (x / suc c, x % suc c, div-lt-iff-lt-mul (zero-lt-suc c) .1 h, mod-lt x (zero-lt-suc c), sym (div-add-mod' x (suc c)))
+
+-- one loop, two loops and three loops, the innermost with one element: element (i·b + j)·c + l is f i j l
+module _ {A : Type 0} where
+  pub for1-length : (c : ℕ) (f : ℕ → A) → length (for c λ l. f l ∷ []) ≡ c
+  for1-length c f = for-length c 1 _ (λ l h. refl) ∙ mul-one c
+
+  pub for1-getD : (c : ℕ) (f : ℕ → A) (d : A) (l : ℕ) → l < c → getD (for c λ l. f l ∷ []) l d ≡ f l
+  for1-getD c f d l h =
+      let e : l ≡ l * 1 + 0 = omega arith in
+      ap (λ x. getD (for c λ l. f l ∷ []) x d) e ∙ for-getD c 1 (λ l. f l ∷ []) d (λ l h. refl) l 0 h (zero-lt-suc 0)
+
+  pub for2-length : (b c : ℕ) (f : ℕ → ℕ → A) → length (for b λ j. for c λ l. f j l ∷ []) ≡ b * c
+  for2-length b c f = for-length b c _ (λ j h. for1-length c (f j))
+
+  pub for2-getD : (b c : ℕ) (f : ℕ → ℕ → A) (d : A) (j l : ℕ) → j < b → l < c → getD (for b λ j. for c λ l. f j l ∷ []) (j * c + l) d ≡ f j l
+  for2-getD b c f d j l q r =
+      for-getD b c (λ j. for c λ l. f j l ∷ []) d (λ j h. for1-length c (f j)) j l q r ∙ for1-getD c (f j) d l r
+
+  pub for3-length : (a b c : ℕ) (f : ℕ → ℕ → ℕ → A) → length (for a λ i. for b λ j. for c λ l. f i j l ∷ []) ≡ a * (b * c)
+  for3-length a b c f = for-length a (b * c) _ (λ i h. for2-length b c (f i))
+
+  pub for3-getD : (a b c : ℕ) (f : ℕ → ℕ → ℕ → A) (d : A) (i j l : ℕ) → i < a → j < b → l < c
+      → getD (for a λ i. for b λ j. for c λ l. f i j l ∷ []) ((i * b + j) * c + l) d ≡ f i j l
+  for3-getD a b c f d i j l p q r =
+      let e : (i * b + j) * c + l ≡ i * (b * c) + (j * c + l) = simp (add-mul, mul-assoc, add-assoc) in
+      ap (λ x. getD (for a λ i. for b λ j. for c λ l. f i j l ∷ []) x d) e
+      ∙ for-getD a (b * c) (λ i. for b λ j. for c λ l. f i j l ∷ []) d (λ i h. for2-length b c (f i)) i (j * c + l) p (place-lt b c j l q r)
+      ∙ for2-getD b c (f i) d j l q r

@@ -1,0 +1,6 @@
+-- Laws of the notation.
+pub mod Tests
+pub mod Loops
+pub mod Blocks
+pub mod Sums
+pub mod Slices

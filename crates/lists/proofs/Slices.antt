@@ -1,0 +1,46 @@
+-- A slice that is filled from its start.
+use mathlib.Core.Path.{_≡_, refl, sym, _∙_, ap, ap₂}
+use mathlib.Core.List.{List, [], _∷_, _++_, append-nil, append-assoc}
+use Prim.Native.Nat.{ℕ, _+_, _-_, _≤_, _<_}
+use native.Mathlib.Nat.{zero-add}
+use native.Mathlib.Numerals.{add-one}
+use native.Mathlib.Omega.{arith}
+use borrow.Rule.Slice.PartMut.{putMid}
+use lib.ListN.{length, take, drop, set, length-append, length-drop, drop-of-length-le}
+use lib.Seq.{drop-cons, set-at, take-at, drop-at, drop-drop, take-all, sets, sets-eq, take-append-seam}
+use Rattle.lists.specs.Slice.{filled}
+
+module _ {A : Type 0} where
+  pub filled-nil : (s : List A) → filled [] s ≡ s
+  unfolding filled
+  filled-nil s = refl
+
+  -- what fits changes no length
+  pub filled-length : (out s : List A) → length out ≤ length s → length (filled out s) ≡ length s
+  unfolding filled
+  filled-length out s h = simp (length-append, length-drop) (omega arith)
+
+  pub take-filled : (out s : List A) → take (length out) (filled out s) ≡ out
+  unfolding filled
+  take-filled out s = take-append-seam out (drop (length out) s)
+
+  -- stores at 0, 1, 2, ..
+  pub sets-filled : (out s : List A) → length out ≤ length s → sets s 0 out ≡ filled out s
+  unfolding filled
+  sets-filled out s h = sets-eq out s 0 (omega arith) ∙ ap (λ (n : ℕ). out ++ drop n s) (zero-add (length out))
+
+  -- one store at the place after out; d is any element
+  pub filled-set : (out s : List A) (n : ℕ) (x d : A) → length out ≡ n → n < length s → set (filled out s) n x ≡ filled (out ++ x ∷ []) s
+  unfolding filled
+  filled-set out s n x d e h = rw (e, drop-cons s n d h, set-at out _ _ x n e, append-assoc, length-append, e, add-one)
+
+  -- more, written to the part of the slice that starts after out: what comes back from a call on `&mut f[n..]` that left ys there
+  pub filled-part : (f s out more ys : List A) (n : ℕ) → f ≡ filled out s → length out ≡ n → n ≤ length s
+      → ys ≡ filled more (take (length f - n) (drop n f)) → putMid n (length f - n) f ys ≡ filled (out ++ more) s
+  unfolding filled
+  filled-part f s out more ys n ef e hn ey =
+      let p : take n f ≡ out = ap (take n) ef ∙ take-at out _ n e in
+      let q : drop n f ≡ drop n s = ap (drop n) ef ∙ drop-at out _ n e ∙ ap (λ (k : ℕ). drop k s) e in
+      let el : length f ≡ length s = ap length ef ∙ filled-length out s (omega arith) in
+      let h : length (drop n s) ≤ length f - n = simp length-drop (omega arith) in
+      rw (ey, p, q, take-all _ _ h, drop-of-length-le _ h, append-nil, append-assoc, length-append, e, drop-drop)

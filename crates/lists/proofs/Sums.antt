@@ -1,0 +1,171 @@
+-- Sums, and lists whose blocks have different lengths: pairs v < w, and the numbers other than one.
+use mathlib.Core.Path.{_≡_, refl, sym, _∙_, ap, ap₂}
+use mathlib.Core.Logic.{⊎-elim}
+use mathlib.Core.List.{List, [], _∷_, _++_}
+use mathlib.Core.Bool.{Bool, true, false, not, _&&_, _||_}
+use Prim.Native.Nat.{ℕ, zero, suc, _+_, _*_, _-_, _/_, _≤_, _<_}
+use native.Mathlib.Nat.{suc-mul, mul-suc, zero-mul, mul-zero, mul-one, add-mul, le-refl, not-suc-le-zero, eq-or-lt-of-le, le-of-suc-le-suc, mul-div-cancel-left, zero-lt-suc, add-zero}
+use native.Mathlib.Omega.{arith}
+use borrow.Author.Tests.{eq-eqb, ne-eqb}
+use lib.ListN.{length, getD, length-append, List·getD-append}
+use lib.Seq.{getD-append-add}
+use lib.Dec.{T, ltb, eqb}
+use Rattle.lists.specs.Loop.{for, when, sum, some}
+use Rattle.lists.proofs.Tests.{some-iff}
+use Rattle.lists.proofs.Loops.{for-length, for-getD, for-ext, for-above, for-others}
+use Rattle.lists.proofs.Blocks.{place-lt, for1-length, for1-getD}
+
+pub sum-ext : (n : ℕ) (f g : ℕ → ℕ) → ((i : ℕ) → i < n → f i ≡ g i) → sum n f ≡ sum n g
+sum-ext zero f g h = refl
+sum-ext (suc n) f g h = ap₂ _+_ (sum-ext n f g (λ i l. h i (omega arith))) (h n (le-refl (suc n)))
+
+pub sum-const : (n c : ℕ) → sum n (λ i. c) ≡ n * c
+sum-const zero c = sym (zero-mul c)
+sum-const (suc n) c = rw (sum-const n c, suc-mul)
+
+pub sum-mul : (n : ℕ) (f : ℕ → ℕ) (c : ℕ) → sum n (λ i. f i * c) ≡ sum n f * c
+sum-mul zero f c = sym (zero-mul c)
+sum-mul (suc n) f c = rw (sum-mul n f c, add-mul)
+
+pub sum-le : (n : ℕ) (f : ℕ → ℕ) (i : ℕ) → i < n → sum i f + f i ≤ sum n f
+sum-le zero f i l = absurd (not-suc-le-zero l)
+sum-le (suc n) f i l =
+    ⊎-elim (λ e. rw e (le-refl _)) (λ b. omega (arith, sum-le n f i b)) (eq-or-lt-of-le (le-of-suc-le-suc l))
+
+module _ {A : Type 0} where
+  pub for-sum : (n : ℕ) (f : ℕ → List A) → length (for n f) ≡ sum n (λ i. length (f i))
+  for-sum zero f = refl
+  for-sum (suc n) f = rw (length-append, for-sum n f)
+
+  -- element j of block i, for blocks of any lengths
+  pub for-at : (n : ℕ) (f : ℕ → List A) (d : A) (i j : ℕ) → i < n → j < length (f i)
+      → getD (for n f) (sum i (λ u. length (f u)) + j) d ≡ getD (f i) j d
+  for-at zero f d i j l r = absurd (not-suc-le-zero l)
+  for-at (suc n) f d i j l r =
+      ⊎-elim
+      (λ e. rw e (rw (← (for-sum n f)) (getD-append-add (for n f) (f n) j d)))
+      (λ b.
+      List·getD-append (for n f) (f n) d (sum i (λ u. length (f u)) + j) (omega (arith, for-sum n f, sum-le n (λ u. length (f u)) i b))
+      ∙ for-at n f d i j b r)
+      (eq-or-lt-of-le (le-of-suc-le-suc l))
+
+-- ---- pairs v < w below n: how many begin below v
+pub pairs-double : (n v : ℕ) → v ≤ n → 2 * sum v (λ u. n - suc u) ≡ v * (2 * n - v - 1)
+pairs-double n zero h = sym (zero-mul _)
+pairs-double n (suc v) h =
+    let y : ℕ = 2 * n - v - 2 in
+    let e : 2 * n - v - 1 ≡ suc (2 * n - v - 2) = omega arith in
+    let e′ : 2 * n - suc v - 1 ≡ 2 * n - v - 2 = omega arith in
+    rw e′ (omega (arith, rw e at (pairs-double n v (omega arith)), mul-suc v (2 * n - v - 2), suc-mul v (2 * n - v - 2)))
+
+pub pairs-below : (n v : ℕ) → v ≤ n → sum v (λ u. n - suc u) ≡ v * (2 * n - v - 1) / 2
+pairs-below n v h = sym (ap (λ x. x / 2) (sym (pairs-double n v h)) ∙ mul-div-cancel-left (sum v (λ u. n - suc u)) (zero-lt-suc 1))
+
+pub pairs-all : (n : ℕ) → sum n (λ u. n - suc u) ≡ n * (n - 1) / 2
+pairs-all n =
+    let e : 2 * n - n - 1 ≡ n - 1 = omega arith in
+    rw (← e) (pairs-below n n (le-refl n))
+
+-- ---- the two guarded loops
+sum-others : {a k : ℕ} → a < k → a + (k - suc a) ≡ k - 1
+sum-others l = omega arith
+
+module _ {L : Type 0} where
+  pub above-length : (n c : ℕ) (f : ℕ → ℕ → List L) → ((v w : ℕ) → length (f v w) ≡ c) → length (for n λ v. for n λ w. when (ltb v w) (f v w)) ≡ n * (n - 1) / 2 * c
+  above-length n c f h =
+      for-sum n _
+      ∙ sum-ext n _ _ (λ v l. ap length (for-above v n (f v)) ∙ for-length (n - suc v) c _ (λ i r. h v (suc v + i)))
+      ∙ sum-mul n (λ v. n - suc v) c
+      ∙ ap (λ x. x * c) (pairs-all n)
+
+  pub above-getD : (n : ℕ) (f : ℕ → ℕ → L) (d : L) (v i : ℕ) → v < n → suc v + i < n
+      → getD (for n λ v. for n λ w. when (ltb v w) (f v w ∷ [])) (sum v (λ u. n - suc u) + i) d ≡ f v (suc v + i)
+  above-getD n f d v i r s =
+      let g : ℕ → List L = λ v. for (n - suc v) λ i. f v (suc v + i) ∷ [] in
+      let len : (u : ℕ) → length (g u) ≡ n - suc u = λ u. for1-length (n - suc u) (λ i. f u (suc u + i)) in
+      let b : i < n - suc v = omega arith in
+      ap (λ l. getD l (sum v (λ u. n - suc u) + i) d) (for-ext n _ g (λ v l. for-above v n (λ w. f v w ∷ [])))
+      ∙ ap (λ x. getD (for n g) (x + i) d) (sum-ext v _ _ (λ u h. sym (len u)))
+      ∙ for-at n g d v i r (omega (arith, len v))
+      ∙ for1-getD (n - suc v) (λ i. f v (suc v + i)) d i b
+
+  pub others-length : (k c a : ℕ) → a < k → (f : ℕ → List L) → ((b : ℕ) → b < k → length (f b) ≡ c) → length (for k λ b. when (not (eqb a b)) (f b)) ≡ (k - 1) * c
+  others-length k c a l f h =
+      ap length (for-others a k l f)
+      ∙ length-append (for a f) _
+      ∙ ap₂ _+_ (for-length a c f (λ i r. h i (omega arith))) (for-length (k - suc a) c _ (λ i r. h (suc a + i) (omega arith)))
+      ∙ sym (add-mul a (k - suc a) c)
+      ∙ ap (λ x. x * c) (sum-others l)
+
+-- ---- counting where a test holds
+abbrev pub ind : Bool → ℕ
+ind true = 1
+ind false = 0
+
+pub when-count : {L : Type 0} (n : ℕ) (p : ℕ → Bool) (f : ℕ → L) → length (for n λ w. when (p w) (f w ∷ [])) ≡ sum n (λ w. ind (p w))
+when-count {L} n p f = for-sum n _ ∙ sum-ext n _ _ (λ w l. go (p w) (f w))
+  where
+    go : (b : Bool) (x : L) → length (when b (x ∷ [])) ≡ ind b
+    go true x = refl
+    go false x = refl
+
+pub sum-add : (n : ℕ) (f g : ℕ → ℕ) → sum n (λ i. f i + g i) ≡ sum n f + sum n g
+sum-add zero f g = refl
+sum-add (suc n) f g = omega (arith, sum-add n f g)
+
+-- ---- double counting
+pub sum-zero : (n : ℕ) (f : ℕ → ℕ) → ((i : ℕ) → i < n → f i ≡ 0) → sum n f ≡ 0
+sum-zero n f h = sum-ext n f (λ i. 0) h ∙ sum-const n 0 ∙ mul-zero n
+
+pub sum-swap : (a b : ℕ) (f : ℕ → ℕ → ℕ) → sum a (λ i. sum b (λ j. f i j)) ≡ sum b (λ j. sum a (λ i. f i j))
+sum-swap zero b f = sym (sum-zero b (λ j. 0) (λ i l. refl))
+sum-swap (suc a) b f = ap (λ x. x + sum b (f a)) (sum-swap a b f) ∙ sym (sum-add b (λ j. sum a (λ i. f i j)) (f a))
+
+-- one place of n has the value x
+pub sum-one : (n x : ℕ) → x < n → sum n (λ w. ind (eqb x w)) ≡ 1
+sum-one zero x l = absurd (not-suc-le-zero l)
+sum-one (suc n) x l =
+    ⊎-elim
+    (λ q. rw (eq-eqb x n q) (ap (λ s. s + 1) (sum-zero n _ (λ i h. rw (ne-eqb x i (omega arith))))))
+    (λ h. rw (ne-eqb x n (omega arith)) (add-zero _ ∙ sum-one n x h))
+    (eq-or-lt-of-le (le-of-suc-le-suc l))
+
+pub ind-and : (a b : Bool) → ind (a && b) ≡ ind a * ind b
+ind-and true true = refl
+ind-and true false = refl
+ind-and false true = refl
+ind-and false false = refl
+
+pub ind-or : (a b : Bool) → (T a → T b → ⊥) → ind (a || b) ≡ ind a + ind b
+ind-or true true h = absurd (h tt tt)
+ind-or true false h = refl
+ind-or false true h = refl
+ind-or false false h = refl
+
+-- at most one number below n passes the test
+pub some-count : (n : ℕ) (p : ℕ → Bool) → ((i j : ℕ) → i < n → j < n → T (p i) → T (p j) → i ≡ j) → ind (some n p) ≡ sum n (λ j. ind (p j))
+some-count zero p h = refl
+some-count (suc n) p h =
+    ind-or (some n p) (p n) (λ a b. let (i, l, t) = some-iff n p .0 a in let q = h i n (omega (arith, l)) (le-refl (suc n)) t b in omega (arith, l))
+    ∙ ap (λ x. x + ind (p n)) (some-count n p (λ i j l r. h i j (omega arith) (omega arith)))
+
+module _ {L : Type 0} where
+  -- the agents other than a, in order: those below a keep their places, those above move up by one
+  pub others-below : (k c a b i : ℕ) (f : ℕ → List L) (d : L) → a < k → b < a → i < c → ((b : ℕ) → b < k → length (f b) ≡ c)
+      → getD (for k λ b. when (not (eqb a b)) (f b)) (b * c + i) d ≡ getD (f b) i d
+  others-below k c a b i f d l r s h =
+      let len : length (for a f) ≡ a * c = for-length a c f (λ j q. h j (omega arith)) in
+      ap (λ x. getD x (b * c + i) d) (for-others a k l f)
+      ∙ List·getD-append (for a f) _ d (b * c + i) (omega (arith, len, place-lt a c b i r s))
+      ∙ for-getD a c f d (λ j q. h j (omega arith)) b i r s
+
+  pub others-above : (k c a j i : ℕ) (f : ℕ → List L) (d : L) → a < k → suc a + j < k → i < c → ((b : ℕ) → b < k → length (f b) ≡ c)
+      → getD (for k λ b. when (not (eqb a b)) (f b)) ((a + j) * c + i) d ≡ getD (f (suc a + j)) i d
+  others-above k c a j i f d l r s h =
+      let g : ℕ → List L = λ j. f (suc a + j) in
+      let len : length (for a f) ≡ a * c = for-length a c f (λ j q. h j (omega arith)) in
+      let e : (a + j) * c + i ≡ length (for a f) + (j * c + i) = omega (arith, len, add-mul a j c) in
+      let b : j < k - suc a = omega arith in
+      ap₂ (λ x y. getD x y d) (for-others a k l f) e
+      ∙ getD-append-add (for a f) (for (k - suc a) g) (j * c + i) d
+      ∙ for-getD (k - suc a) c g d (λ j q. h (suc a + j) (omega arith)) j i b s

@@ -1,0 +1,1 @@
+// Plans and valid steps, as definitions and their laws. There is no code here.

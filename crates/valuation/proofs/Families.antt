@@ -1,0 +1,195 @@
+-- What each family says of the places P t a, where X(t,a,v) is true for v = P t a and for no other v: the formula holds exactly
+-- where the places lead from the starts to the goals by valid steps.
+use mathlib.Core.Path.{_≡_, refl, sym, _∙_, ap, subst}
+use mathlib.Core.Logic.{_↔_, _≢_, _⊎_, inl, inr, ⊎-elim, by-cases}
+use mathlib.Core.List.{List, [], _∷_, _++_}
+use mathlib.Core.Bool.{Bool, not}
+use Prim.Native.Nat.{ℕ, zero, suc, _<_}
+use native.Mathlib.Nat.{zero-lt-suc, le-refl}
+use native.Mathlib.Decide.{ℕ-discrete, decLt}
+use native.Mathlib.Omega.{arith}
+use lib.Dec.{T}
+use Rattle.lists.specs.Loop.{any, all}
+use Rattle.lists.proofs.Tests.{ltb-iff, not-iff, or-imp, eqb-iff}
+use Rattle.lists.proofs.Loops.{for-all, when-all, one-all, for-any, when-any, all-append, any-one, any-two}
+use Rattle.instance.specs.declared.Sizes.{Sizes}
+use Rattle.instance.specs.Instance.{Instance, adjacent, Edge}
+use Rattle.instance.proofs.Graph.{adjacent-iff}
+use Rattle.formula.specs.Variables as variables
+use Rattle.formula.specs.Variables.{Literal}
+use Rattle.formula.specs.Formula.{Clause, A, B, C, D, E, F, G, clauses}
+use Rattle.plan.specs.Passing.{ValidStep, Leads}
+
+-- a truth of literals h satisfies the clauses
+abbrev pub Sat : (Literal → Bool) → List Clause → Type 0
+Sat h cs = T (all (any h) cs)
+
+module _ (s : Sizes) where
+  open Sizes s using (n, k, m)
+
+  -- the truth h puts agent a at P t a at time t, and nowhere else
+  pub record Places (h : Literal → Bool) (P : ℕ → ℕ → ℕ) : Type 0 where
+    pub inside : (t a : ℕ) → t < suc m → a < k → P t a < n
+    pub here : (t a v : ℕ) → t < suc m → a < k → v < n → T (h (variables.X s t a v)) ↔ (v ≡ P t a)
+    pub elsewhere : (t a v : ℕ) → t < suc m → a < k → v < n → T (h (variables.¬X s t a v)) ↔ (v ≢ P t a)
+
+  module _ (h : Literal → Bool) (P Q : ℕ → ℕ → ℕ) (c : Places h P) where
+    pub places-cong : ((t a : ℕ) → t < suc m → a < k → P t a ≡ Q t a) → Places h Q
+    places-cong e =
+        record {
+          inside = λ t a p q. rw (e t a p q) at (c .inside t a p q);
+          here = λ t a v p q r. rw (e t a p q) at (c .here t a v p q r);
+          elsewhere = λ t a v p q r. rw (e t a p q) at (c .elsewhere t a v p q r);
+        }
+
+    pub places-unique : Places h Q → (t a : ℕ) → t < suc m → a < k → P t a ≡ Q t a
+    places-unique d t a p q = d .here t a (P t a) p q (c .inside t a p q) .0 (c .here t a (P t a) p q (c .inside t a p q) .1 refl)
+
+module _ (I : Instance) where
+  open Instance I using (sizes, start, goal)
+  open Sizes sizes using (n, k, m)
+
+  abbrev X : ℕ → ℕ → ℕ → Literal
+  X = variables.X sizes
+
+  abbrev ¬X : ℕ → ℕ → ℕ → Literal
+  ¬X = variables.¬X sizes
+
+  module _ (h : Literal → Bool) (P : ℕ → ℕ → ℕ) (c : Places sizes h P) where
+    pub read-A : ((a : ℕ) → a < k → start a < n) → Sat h (A I) ↔ ((a : ℕ) → a < k → start a ≡ P 0 a)
+    unfolding A
+    read-A s =
+        simp (for-all, one-all, any-one) (
+          (λ q a l. c .here 0 a (start a) (zero-lt-suc m) l (s a l) .0 (q a l)),
+          (λ q a l. c .here 0 a (start a) (zero-lt-suc m) l (s a l) .1 (q a l)),
+        )
+
+    pub read-B : ((a : ℕ) → a < k → goal a < n) → Sat h (B I) ↔ ((a : ℕ) → a < k → goal a ≡ P m a)
+    unfolding B
+    read-B s =
+        simp (for-all, one-all, any-one) (
+          (λ q a l. c .here m a (goal a) (le-refl (suc m)) l (s a l) .0 (q a l)),
+          (λ q a l. c .here m a (goal a) (le-refl (suc m)) l (s a l) .1 (q a l)),
+        )
+
+    pub read-C : Sat h (C I)
+    unfolding C
+    read-C = simp (for-all, one-all, for-any, any-one) (λ t l a r. (P t a, c .inside t a l r, c .here t a (P t a) l r (c .inside t a l r) .1 refl))
+
+    pub read-D : Sat h (D I)
+    unfolding D
+    read-D =
+        simp (for-all, when-all, one-all, ltb-iff, any-two)
+        (λ t l a r v p w q o f. c .elsewhere t a w l r q .1 (λ e. f (c .elsewhere t a v l r p .1 (λ e′. omega arith))))
+
+    pub read-E : Sat h (E I) ↔ ((t : ℕ) → t < suc m → (a b : ℕ) → a < b → b < k → P t a ≢ P t b)
+    unfolding E
+    read-E =
+        simp (for-all, when-all, one-all, ltb-iff, any-two) (
+          (λ q t l a b o s e.
+              let r : a < k = omega arith in
+              let i = c .inside t a l r in
+              c .elsewhere t b (P t a) l s i .0 (q t l (P t a) i a r b s o (λ f. c .elsewhere t a (P t a) l r i .0 f refl)) e),
+          (λ q t l v p a r b s o f.
+              c .elsewhere t b v l s p .1 (λ e. f (c .elsewhere t a v l r p .1 (λ e′. q t l a b o s (sym e′ ∙ e))))),
+        )
+
+    pub read-F : Sat h (F I) ↔ ((t : ℕ) → t < m → (a : ℕ) → a < k → P t a ≢ P (suc t) a → T (adjacent I (P t a) (P (suc t) a)))
+    unfolding F
+    read-F =
+        simp (for-all, one-all, any-one, or-imp, for-any, when-any) (
+          (λ q t l a r ne.
+              let l′ : suc t < suc m = omega arith in
+              let i = c .inside t a (omega arith) r in
+              let w = q t l a r (P t a) i (λ f. c .elsewhere t a (P t a) (omega arith) r i .0 f refl) (λ f. ne (c .here (suc t) a (P t a) l′ r i .0 f)) in
+              subst (λ (x : ℕ). T (adjacent I (P t a) x)) (c .here (suc t) a (w .0) l′ r (w .1) .0 (w .2 .1)) (w .2 .0)),
+          (λ q t l a r v p f g.
+              let e : v ≡ P t a = by-cases (ℕ-discrete v (P t a)) (λ e. e) (λ d. absurd (f (c .elsewhere t a v (omega arith) r p .1 d))) in
+              let l′ : suc t < suc m = omega arith in
+              let w = P (suc t) a in
+              let i = c .inside (suc t) a l′ r in (
+                w,
+                i,
+                (
+                  rw e (q t l a r (λ e′. g (c .here (suc t) a v l′ r p .1 (e ∙ e′)))),
+                  c .here (suc t) a w l′ r i .1 refl,
+                ),
+              )),
+        )
+
+    pub read-G : Sat h (G I) ↔ ((t : ℕ) → t < m → (a b : ℕ) → a < k → b < k → a ≢ b → P t b ≢ P (suc t) a)
+    unfolding G
+    read-G =
+        simp (for-all, when-all, one-all, not-iff, eqb-iff, any-two) (
+          (λ q t l a b r s d e.
+              let i = c .inside t b (omega arith) s in
+              c .elsewhere (suc t) a (P t b) (omega arith) r i .0 (q t l a r b s d (P t b) i (λ f. c .elsewhere t b (P t b) (omega arith) s i .0 f refl)) e),
+          (λ q t l a r b s d v p f.
+              c .elsewhere (suc t) a v (omega arith) r p .1 (λ e. f (c .elsewhere t b v (omega arith) s p .1 (λ e′. q t l a b r s d (sym e′ ∙ e))))),
+        )
+
+  -- what the argument needs of an accepted instance
+  pub record Sound : Type 0 where
+    pub startsInside : (a : ℕ) → a < k → start a < n
+    pub startsApart : (a : ℕ) → a < k → (b : ℕ) → b < a → start b ≢ start a
+    pub goalsInside : (a : ℕ) → a < k → goal a < n
+
+  module _ (s : Sound) (P : ℕ → ℕ → ℕ) where
+    -- no two agents share a vertex in any row
+    abbrev Apart : Type 0
+    Apart = (t : ℕ) → t < suc m → (a b : ℕ) → a < b → b < k → P t a ≢ P t b
+
+    apart-any : Apart → (t : ℕ) → t < suc m → (a b : ℕ) → a < k → b < k → a ≢ b → P t a ≢ P t b
+    apart-any o t l a b p q d e =
+        by-cases (decLt a b) (λ r. o t l a b r q e) (λ r. o t l b a (omega arith) p (sym e))
+
+    -- in row 0 by the distinct starts, in a later row by condition 3
+    rows-apart : Leads I P → Apart
+    rows-apart o zero l a b q r e = s .startsApart b r a q (sym (o .starts a (omega arith)) ∙ e ∙ o .starts b r)
+    rows-apart o (suc t) l a b q r e = o .steps t (omega arith) .apart a b (omega arith) r (omega arith) e
+
+    -- Family G and condition 2, where no two agents share a vertex. Of an agent that stays G says more than condition 2, and
+    -- that part is E: another agent on the same vertex would share it in row t.
+    second : (h : Literal → Bool) → Places sizes h P → Apart
+        → Sat h (G I) ↔ ((t : ℕ) → t < m → (a : ℕ) → a < k → P t a ≢ P (suc t) a → (b : ℕ) → b < k → P t b ≢ P (suc t) a)
+    second h c o =
+        simp (read-G h P c) (
+          (λ q t l a r d b u e. by-cases (ℕ-discrete a b) (λ e′. d (ap (λ x. P t x) e′ ∙ e)) (λ d′. q t l a b r u d′ e)),
+          (λ q t l a b r u d e.
+              by-cases (ℕ-discrete (P t a) (P (suc t) a))
+              (λ stays. apart-any o t (omega arith) a b r u d (stays ∙ sym e))
+              (λ moves. q t l a r moves b u e)),
+        )
+
+    -- "keeps or crosses" from "where it changes, it crosses", and back
+    crosses : (x y : ℕ) → (x ≢ y → T (adjacent I x y)) → (x ≡ y) ⊎ Edge I x y
+    crosses x y f = by-cases (ℕ-discrete x y) inl (λ d. inr (adjacent-iff I x y .0 (f d)))
+
+    changes : (x y : ℕ) → (x ≡ y) ⊎ Edge I x y → x ≢ y → T (adjacent I x y)
+    changes x y o d = ⊎-elim (λ e. absurd (d e)) (λ g. adjacent-iff I x y .1 g) o
+
+    pub satisfies-iff : (h : Literal → Bool) → Places sizes h P → Sat h (clauses I) ↔ Leads I P
+    unfolding clauses
+    satisfies-iff h c =
+        simp (all-append, read-A h P c (s .startsInside), read-B h P c (s .goalsInside), read-E h P c, read-F h P c) (
+          (λ q. record {
+            starts = λ a l. sym (q .0 .0 .0 .0 .0 .0 a l);
+            steps = λ t l. record {
+              crosses = λ a r. crosses (P t a) (P (suc t) a) (q .0 .1 t l a r);
+              vacant = second h c (q .0 .0 .1) .0 (q .1) t l;
+              apart = λ a b r u d. apart-any (q .0 .0 .1) (suc t) (omega arith) a b r u d;
+            };
+            goals = λ a l. sym (q .0 .0 .0 .0 .0 .1 a l);
+          }),
+          (λ o. (
+            (
+              (((((λ a l. sym (o .starts a l)), (λ a l. sym (o .goals a l))), read-C h P c), read-D h P c), rows-apart o),
+              (λ t l a r. changes (P t a) (P (suc t) a) (o .steps t l .crosses a r)),
+            ),
+            second h c (rows-apart o) .1 (λ t l. o .steps t l .vacant),
+          )),
+        )
+
+  pub sat-CD : (h : Literal → Bool) → Sat h (clauses I) → Sat h (C I) × Sat h (D I)
+  unfolding clauses
+  sat-CD h q = let r = simp all-append at q in (r .0 .0 .0 .0 .1, r .0 .0 .0 .1)

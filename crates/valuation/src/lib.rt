@@ -1,0 +1,1 @@
+// Valuations, as definitions and their laws. There is no code here.
