@@ -13,7 +13,7 @@ use Rattle.lists.proofs.Tests.{and-iff}
 use Rattle.lists.proofs.Loops.{for-nil, for-split, unless-nil, unless-one}
 use Rattle.lists.proofs.Slices.{take-filled}
 use Rattle.answers.specs.declared.Answer.{Answer}
-use Rattle.answers.specs.Answers.{Question, refuse, accept, decide, lent}
+use Rattle.answers.specs.Answers.{Question, refuse, accept, decide, byNumber, lent}
 use Rattle.answers.specs.Fault.{FirstFault}
 
 -- a question is answered yes
@@ -45,6 +45,16 @@ unfolding decide
 decide-count [] c t = refl
 decide-count ([] ∷ qs) c t = decide-count qs c t
 decide-count ((r ∷ rs′) ∷ qs) c t = absurd t
+
+-- one test: it holds, or it fails
+module _ (test : Bool) (r : Answer) (qs : List Question) (c : ℕ) where
+  pub ask-yes : T test → decide (unless test r ∷ qs) c ≡ decide qs c
+  unfolding decide
+  ask-yes t = rw (unless-nil test r .1 t)
+
+  pub ask-no : (T test → ⊥) → decide (unless test r ∷ qs) c ≡ r
+  unfolding decide
+  ask-no f = rw (unless-one test r f)
 
 -- questions that are answered yes may be passed over
 pub decide-after : (qs rs : List Question) (c : ℕ) → T (all clear qs) → decide (qs ++ rs) c ≡ decide rs c
@@ -106,3 +116,17 @@ module _ {A : Type 0} where
 
   pub lent-take : (r : Answer) (out s : List A) → r .number ≡ 0 → take (length out) (lent r out s) ≡ out
   lent-take r out s e = rw (lent-accepted r out s e) (take-filled out s)
+
+-- the two sides of an answer
+module _ {A : Type 0} where
+  pub byNumber-accepted : (q : ℕ) (x y : A) → q ≡ 0 → byNumber q x y ≡ x
+  byNumber-accepted zero x y e = refl
+  byNumber-accepted (suc q) x y e = absurd (let f : ⊥ = omega arith in f)
+
+  pub byNumber-refused : (q : ℕ) (x y : A) → q ≢ 0 → byNumber q x y ≡ y
+  byNumber-refused zero x y d = absurd (d refl)
+  byNumber-refused (suc q) x y d = refl
+
+pub lent-refused : {A : Type 0} (r : Answer) (out s : List A) → r .number ≢ 0 → lent r out s ≡ s
+unfolding lent
+lent-refused r out s d = byNumber-refused (r .number) (filled out s) s d

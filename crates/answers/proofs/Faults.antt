@@ -1,0 +1,43 @@
+-- How a loop over the items of a question comes to the first that fails, and what that says of all of them.
+use mathlib.Core.Path.{_≡_, refl, sym, _∙_, subst}
+use mathlib.Core.Logic.{by-cases}
+use mathlib.Core.Bool.{Bool, true, false, not}
+use Prim.Native.Nat.{ℕ, suc, _<_}
+use native.Mathlib.Decide.{decLt}
+use native.Mathlib.Omega.{arith}
+use borrow.Author.Tests.{eq-eqb, ne-eqb}
+use lib.Dec.{T, eqb}
+use Rattle.lists.specs.Loop.{every}
+use Rattle.lists.proofs.Tests.{every-iff}
+use Rattle.answers.specs.Fault.{FirstFault}
+
+-- a test whose value a call has returned
+pub holds : {test x : Bool} → x ≡ test → x ≡ true → T test
+holds {test} e h = subst T (sym h ∙ e) tt
+
+pub fails : {test x : Bool} → x ≡ test → x ≡ false → T test → ⊥
+fails {test} e h t = subst T (sym e ∙ h) t
+
+pub T-true : (a : Bool) → T a → a ≡ true
+T-true true t = refl
+T-true false t = absurd t
+
+pub T-false : (a : Bool) → (T a → ⊥) → a ≡ false
+T-false true f = absurd (f tt)
+T-false false f = refl
+
+-- the loop stops at an item that fails, or has passed them all
+pub fault-at : {n r : ℕ} {test : ℕ → Bool} → r < n → ((i : ℕ) → i < r → T (test i)) → (T (test r) → ⊥) → FirstFault n test r
+fault-at l b f = record { within = omega arith; before = b; here = λ h. f }
+
+pub fault-none : {n r : ℕ} {test : ℕ → Bool} → r ≡ n → ((i : ℕ) → i < r → T (test i)) → FirstFault n test n
+fault-none e b = record { within = omega arith; before = λ i l. b i (omega arith); here = λ h. absurd (let f : ⊥ = omega arith in f) }
+
+-- all items pass exactly where the first that fails is none of them
+pub fault-every : (n : ℕ) (test : ℕ → Bool) (r : ℕ) → FirstFault n test r → eqb r n ≡ every n test
+fault-every n test r f =
+    by-cases (decLt r n)
+    (λ l. ne-eqb r n (omega arith) ∙ sym (T-false (every n test) (λ t. f .here l (every-iff n test .0 t r l))))
+    (λ l.
+    let w = f .within in
+    eq-eqb r n (omega arith) ∙ sym (T-true (every n test) (every-iff n test .1 (λ i h. f .before i (omega arith)))))

@@ -1,0 +1,277 @@
+//! The formula writer and one clause by number.
+
+use crate::instance::Instance;
+use crate::{answer, refuse, Answer, Written};
+
+/// Writes the whole formula. Family F looks the neighbours of each vertex up
+/// once in the edge arrays.
+pub fn write_formula(instance: &[u8], horizon: u64, words: &mut [i32]) -> Written {
+    write(instance, horizon, words, write_f)
+}
+
+/// The same formula, but family F searches the edge arrays anew for each clause.
+pub fn write_formula_searching(instance: &[u8], horizon: u64, words: &mut [i32]) -> Written {
+    write(instance, horizon, words, write_f_searching)
+}
+
+type WriteF = fn(&Instance, &mut [i32]);
+
+fn write(bytes: &[u8], horizon: u64, words: &mut [i32], write_f: WriteF) -> Written {
+    match fill(bytes, horizon, words, write_f) {
+        Ok((count, clauses)) => Written {
+            number: 0,
+            second: count as u64,
+            clauses: clauses as u64,
+        },
+        Err(Answer { number, second }) => Written {
+            number,
+            second,
+            clauses: 0,
+        },
+    }
+}
+
+/// Gives the word count and the clause count.
+fn fill(
+    bytes: &[u8],
+    horizon: u64,
+    words: &mut [i32],
+    write_f: WriteF,
+) -> Result<(usize, usize), Answer> {
+    let instance = Instance::read(bytes, horizon)?;
+    let counts = instance.word_counts();
+    let needed = counts.iter().sum();
+    if words.len() < needed {
+        return refuse(12, needed);
+    }
+    let (part_a, rest) = words.split_at_mut(counts[0]);
+    let (part_b, rest) = rest.split_at_mut(counts[1]);
+    let (part_c, rest) = rest.split_at_mut(counts[2]);
+    let (part_d, rest) = rest.split_at_mut(counts[3]);
+    let (part_e, rest) = rest.split_at_mut(counts[4]);
+    let (part_f, rest) = rest.split_at_mut(counts[5]);
+    let part_g = &mut rest[..counts[6]];
+    write_ends(&instance, part_a, 0, instance.starts);
+    write_ends(&instance, part_b, instance.m, instance.goals);
+    write_c(&instance, part_c);
+    write_d(&instance, part_d);
+    write_e(&instance, part_e);
+    write_f(&instance, part_f);
+    write_g(&instance, part_g);
+    Ok((needed, instance.clause_counts().iter().sum()))
+}
+
+/// Families A and B: the agents' vertices at time t.
+fn write_ends(instance: &Instance, part: &mut [i32], t: usize, vertices: &[u8]) {
+    for (a, (clause, &v)) in part.chunks_exact_mut(2).zip(vertices).enumerate() {
+        clause[0] = instance.x(t, a, usize::from(v));
+        clause[1] = 0;
+    }
+}
+
+fn write_c(instance: &Instance, part: &mut [i32]) {
+    let mut variable = 1;
+    for clause in part.chunks_exact_mut(instance.n + 1) {
+        for word in &mut clause[..instance.n] {
+            *word = variable;
+            variable += 1;
+        }
+        clause[instance.n] = 0;
+    }
+}
+
+fn write_d(instance: &Instance, mut part: &mut [i32]) {
+    let n = instance.n;
+    for row in 0..instance.plan_length() {
+        let x = (1 + row * n) as i32;
+        for v in 0..n {
+            let (now, rest) = part.split_at_mut(3 * (n - 1 - v));
+            write_pairs(now, x + v as i32, x + v as i32 + 1, 1);
+            part = rest;
+        }
+    }
+}
+
+fn write_e(instance: &Instance, mut part: &mut [i32]) {
+    let (n, k) = (instance.n, instance.k);
+    for t in 0..=instance.m {
+        for v in 0..n {
+            for a in 0..k {
+                let (now, rest) = part.split_at_mut(3 * (k - 1 - a));
+                let x = instance.x(t, a, v);
+                write_pairs(now, x, x + n as i32, n as i32);
+                part = rest;
+            }
+        }
+    }
+}
+
+/// Clauses of two negative literals: `first` with `second`, `second` + `stride`, ..
+fn write_pairs(part: &mut [i32], first: i32, mut second: i32, stride: i32) {
+    for clause in part.chunks_exact_mut(3) {
+        clause[0] = -first;
+        clause[1] = -second;
+        clause[2] = 0;
+        second += stride;
+    }
+}
+
+fn write_f(instance: &Instance, part: &mut [i32]) {
+    let (n, k) = (instance.n, instance.k);
+    // The neighbour lists one after the other; that of v ends before ends[v].
+    let mut list = [0u8; 64 * 63];
+    let mut ends = [0; 64];
+    let mut length = 0;
+    for (v, end) in ends.iter_mut().enumerate().take(n) {
+        for w in instance.neighbours(v) {
+            list[length] = w as u8;
+            length += 1;
+        }
+        *end = length;
+    }
+    let mut at = 0;
+    for row in 0..instance.m * k {
+        let x = (1 + row * n) as i32;
+        let next = x + (k * n) as i32;
+        let mut from = 0;
+        for v in 0..n {
+            let neighbours = &list[from..ends[v]];
+            from = ends[v];
+            let clause = &mut part[at..at + 3 + neighbours.len()];
+            at += clause.len();
+            clause[0] = -(x + v as i32);
+            clause[1] = next + v as i32;
+            for (word, &w) in clause[2..].iter_mut().zip(neighbours) {
+                *word = next + i32::from(w);
+            }
+            clause[2 + neighbours.len()] = 0;
+        }
+    }
+}
+
+fn write_f_searching(instance: &Instance, part: &mut [i32]) {
+    let (n, k) = (instance.n, instance.k);
+    let mut at = 0;
+    for row in 0..instance.m * k {
+        let x = (1 + row * n) as i32;
+        let next = x + (k * n) as i32;
+        for v in 0..n {
+            part[at] = -(x + v as i32);
+            part[at + 1] = next + v as i32;
+            at += 2;
+            for w in instance.neighbours(v) {
+                part[at] = next + w as i32;
+                at += 1;
+            }
+            part[at] = 0;
+            at += 1;
+        }
+    }
+}
+
+fn write_g(instance: &Instance, mut part: &mut [i32]) {
+    let (n, k) = (instance.n, instance.k);
+    for t in 0..instance.m {
+        for a in 0..k {
+            for b in (0..k).filter(|&b| b != a) {
+                let (now, rest) = part.split_at_mut(3 * n);
+                let here = instance.x(t, b, 0);
+                let next = instance.x(t + 1, a, 0);
+                for (v, clause) in (0..).zip(now.chunks_exact_mut(3)) {
+                    clause[0] = -(here + v);
+                    clause[1] = -(next + v);
+                    clause[2] = 0;
+                }
+                part = rest;
+            }
+        }
+    }
+}
+
+/// Writes the clause of this number and its 0.
+pub fn clause(instance: &[u8], horizon: u64, number: u64, words: &mut [i32]) -> Answer {
+    answer(one_clause(instance, horizon, number, words))
+}
+
+fn one_clause(bytes: &[u8], horizon: u64, number: u64, words: &mut [i32]) -> Result<usize, Answer> {
+    let instance = Instance::read(bytes, horizon)?;
+    let counts = instance.clause_counts();
+    let count: usize = counts.iter().sum();
+    if number >= count as u64 {
+        return refuse(11, count);
+    }
+    let mut index = number as usize;
+    let mut family = 0;
+    while index >= counts[family] {
+        index -= counts[family];
+        family += 1;
+    }
+    let (clause, length) = build(&instance, family, index);
+    if words.len() < length {
+        return refuse(12, length);
+    }
+    words[..length].copy_from_slice(&clause[..length]);
+    Ok(length)
+}
+
+/// The clause at `index` in its family, and its length with the 0.
+fn build(instance: &Instance, family: usize, index: usize) -> ([i32; 66], usize) {
+    let (n, k) = (instance.n, instance.k);
+    let mut clause = [0; 66];
+    let mut length = 0;
+    let mut push = |literal| {
+        clause[length] = literal;
+        length += 1;
+    };
+    match family {
+        0 => push(instance.x(0, index, usize::from(instance.starts[index]))),
+        1 => push(instance.x(instance.m, index, usize::from(instance.goals[index]))),
+        2 => {
+            let (t, a) = (index / k, index % k);
+            (0..n).for_each(|v| push(instance.x(t, a, v)));
+        }
+        3 => {
+            let pairs = n * (n - 1) / 2;
+            let (row, (v, w)) = (index / pairs, pair(index % pairs, n));
+            let (t, a) = (row / k, row % k);
+            push(-instance.x(t, a, v));
+            push(-instance.x(t, a, w));
+        }
+        4 => {
+            let pairs = k * (k - 1) / 2;
+            let (rest, (a, b)) = (index / pairs, pair(index % pairs, k));
+            let (t, v) = (rest / n, rest % n);
+            push(-instance.x(t, a, v));
+            push(-instance.x(t, b, v));
+        }
+        5 => {
+            let (row, v) = (index / n, index % n);
+            let (t, a) = (row / k, row % k);
+            push(-instance.x(t, a, v));
+            push(instance.x(t + 1, a, v));
+            instance
+                .neighbours(v)
+                .for_each(|w| push(instance.x(t + 1, a, w)));
+        }
+        _ => {
+            let (rest, v) = (index / n, index % n);
+            let (row, other) = (rest / (k - 1), rest % (k - 1));
+            let (t, a) = (row / k, row % k);
+            let b = if other < a { other } else { other + 1 };
+            push(-instance.x(t, b, v));
+            push(-instance.x(t + 1, a, v));
+        }
+    }
+    push(0);
+    (clause, length)
+}
+
+/// The pair at `index` among the pairs v < w below `count`, v slowest.
+fn pair(mut index: usize, count: usize) -> (usize, usize) {
+    let mut v = 0;
+    while index >= count - 1 - v {
+        index -= count - 1 - v;
+        v += 1;
+    }
+    (v, v + 1 + index)
+}

@@ -1,0 +1,147 @@
+//! The instance bytes and questions 1 to 10.
+
+use crate::{answer, refuse, Answer};
+
+/// An accepted instance with its horizon m. The arrays are parts of the bytes.
+pub(crate) struct Instance<'a> {
+    pub n: usize,
+    pub k: usize,
+    pub m: usize,
+    low: &'a [u8],
+    high: &'a [u8],
+    pub starts: &'a [u8],
+    pub goals: &'a [u8],
+}
+
+/// Questions 1 to 10 alone; the count is 0.
+pub fn check_instance(instance: &[u8], horizon: u64) -> Answer {
+    answer(Instance::read(instance, horizon).map(|_| 0))
+}
+
+impl<'a> Instance<'a> {
+    pub fn read(bytes: &'a [u8], horizon: u64) -> Result<Instance<'a>, Answer> {
+        let &[n, k, e_low, e_high, ref arrays @ ..] = bytes else {
+            return refuse(1, bytes.len());
+        };
+        let (n, k) = (usize::from(n), usize::from(k));
+        let e = usize::from(u16::from_le_bytes([e_low, e_high]));
+        if !(1..=64).contains(&n) {
+            return refuse(2, 0);
+        }
+        if !(1..=16).contains(&k) || k > n {
+            return refuse(3, 1);
+        }
+        if e > n * (n - 1) / 2 {
+            return refuse(4, 2);
+        }
+        if bytes.len() != 4 + 2 * e + 2 * k {
+            return refuse(5, bytes.len());
+        }
+        let (low, arrays) = arrays.split_at(e);
+        let (high, arrays) = arrays.split_at(e);
+        let (starts, goals) = arrays.split_at(k);
+        let edge = |j: usize| (low[j], high[j]);
+        if let Some(j) = (0..e).find(|&j| low[j] >= high[j] || usize::from(high[j]) >= n) {
+            return refuse(6, 4 + j);
+        }
+        if let Some(j) = (1..e).find(|&j| edge(j - 1) >= edge(j)) {
+            return refuse(7, 4 + j);
+        }
+        if let Some(a) = first_bad_vertex(starts, n) {
+            return refuse(8, 4 + 2 * e + a);
+        }
+        if let Some(a) = first_bad_vertex(goals, n) {
+            return refuse(9, 4 + 2 * e + k + a);
+        }
+        if horizon > 32 {
+            return refuse(10, 0);
+        }
+        Ok(Instance {
+            n,
+            k,
+            m: horizon as usize,
+            low,
+            high,
+            starts,
+            goals,
+        })
+    }
+
+    pub fn edge_count(&self) -> usize {
+        self.low.len()
+    }
+
+    /// Bytes of a plan.
+    pub fn plan_length(&self) -> usize {
+        (self.m + 1) * self.k
+    }
+
+    /// N, the number of variables.
+    pub fn variable_count(&self) -> usize {
+        self.n * self.plan_length()
+    }
+
+    /// The variable number of X(t,a,v).
+    pub fn x(&self, t: usize, a: usize, v: usize) -> i32 {
+        (1 + (t * self.k + a) * self.n + v) as i32
+    }
+
+    /// Clause counts of the families A to G.
+    pub fn clause_counts(&self) -> [usize; 7] {
+        let (n, k, m) = (self.n, self.k, self.m);
+        [
+            k,
+            k,
+            (m + 1) * k,
+            (m + 1) * k * (n * (n - 1) / 2),
+            (m + 1) * n * (k * (k - 1) / 2),
+            m * k * n,
+            m * k * (k - 1) * n,
+        ]
+    }
+
+    /// Word counts of the families A to G, zeros included.
+    pub fn word_counts(&self) -> [usize; 7] {
+        let (n, k, m) = (self.n, self.k, self.m);
+        let [_, _, _, d, e, _, g] = self.clause_counts();
+        [
+            2 * k,
+            2 * k,
+            (m + 1) * k * (n + 1),
+            3 * d,
+            3 * e,
+            m * k * (3 * n + 2 * self.edge_count()),
+            3 * g,
+        ]
+    }
+
+    /// The edge indexes whose low end is v.
+    fn run(&self, v: usize) -> std::ops::Range<usize> {
+        let from = self.low.partition_point(|&low| usize::from(low) < v);
+        let length = self.low[from..].partition_point(|&low| usize::from(low) == v);
+        from..from + length
+    }
+
+    pub fn has_edge(&self, v: u8, w: u8) -> bool {
+        let run = self.run(usize::from(v.min(w)));
+        self.high[run].binary_search(&v.max(w)).is_ok()
+    }
+
+    /// The neighbours of v, rising. Edges come sorted by low end, then high
+    /// end, so those ending in v stand before those starting from it.
+    pub fn neighbours(&self, v: usize) -> impl Iterator<Item = usize> + '_ {
+        let run = self.run(v);
+        let below = self.low[..run.start]
+            .iter()
+            .zip(&self.high[..run.start])
+            .filter(move |&(_, &high)| usize::from(high) == v)
+            .map(|(&low, _)| usize::from(low));
+        below.chain(self.high[run].iter().map(|&high| usize::from(high)))
+    }
+}
+
+/// The first agent whose vertex is no vertex or that of a lower agent.
+fn first_bad_vertex(vertices: &[u8], n: usize) -> Option<usize> {
+    (0..vertices.len())
+        .find(|&a| usize::from(vertices[a]) >= n || vertices[..a].contains(&vertices[a]))
+}

@@ -1,0 +1,58 @@
+//! A second, independent program for shuttle formulas, valuations and plans.
+//!
+//! The five calls and `check_instance` work on raw bytes and never panic.
+//! `plain` generates the clauses slowly, `sample` makes test inputs and
+//! `text` prints a formula as DIMACS CNF.
+
+#![forbid(unsafe_code)]
+
+mod formula;
+mod instance;
+pub mod plain;
+mod plan;
+pub mod sample;
+pub mod text;
+mod valuation;
+
+#[cfg(test)]
+mod tests;
+
+pub use formula::{clause, write_formula, write_formula_searching};
+pub use instance::check_instance;
+pub use plan::check_plan;
+pub use valuation::{decode, encode};
+
+/// `number` 0: accepted, `second` is the count. Otherwise `number` is the
+/// question answered no and `second` its place.
+#[derive(Debug, Clone, Copy, PartialEq, Eq)]
+pub struct Answer {
+    pub number: u32,
+    pub second: u64,
+}
+
+/// The writer's answer; `clauses` is 0 at a refusal.
+#[derive(Debug, Clone, Copy, PartialEq, Eq)]
+pub struct Written {
+    pub number: u32,
+    pub second: u64,
+    pub clauses: u64,
+}
+
+/// A refusal, in the form the `?` operator hands upwards.
+fn refuse<T>(number: u32, place: usize) -> Result<T, Answer> {
+    Err(Answer {
+        number,
+        second: place as u64,
+    })
+}
+
+/// Turns a count or a refusal into the answer.
+fn answer(result: Result<usize, Answer>) -> Answer {
+    match result {
+        Ok(count) => Answer {
+            number: 0,
+            second: count as u64,
+        },
+        Err(refusal) => refusal,
+    }
+}

@@ -1,0 +1,163 @@
+//! The clause table as nested loops, slow on purpose, and the literal meaning
+//! of satisfaction and of passing. Shares no code with the five calls.
+//! Instances and plans given here must be of the right form.
+
+#![allow(clippy::needless_range_loop)]
+
+/// An instance taken apart without any check.
+struct Parts {
+    n: usize,
+    k: usize,
+    edges: Vec<(usize, usize)>,
+    starts: Vec<usize>,
+    goals: Vec<usize>,
+}
+
+fn parts(instance: &[u8]) -> Parts {
+    let number = |i: usize| instance[i] as usize;
+    let (n, k, e) = (number(0), number(1), number(2) + 256 * number(3));
+    Parts {
+        n,
+        k,
+        edges: (0..e).map(|j| (number(4 + j), number(4 + e + j))).collect(),
+        starts: (0..k).map(|a| number(4 + 2 * e + a)).collect(),
+        goals: (0..k).map(|a| number(4 + 2 * e + k + a)).collect(),
+    }
+}
+
+impl Parts {
+    fn adjacent(&self, v: usize, w: usize) -> bool {
+        self.edges.contains(&(v, w)) || self.edges.contains(&(w, v))
+    }
+}
+
+/// All clauses of an accepted instance, without the closing zeros.
+pub fn clauses(instance: &[u8], horizon: u64) -> Vec<Vec<i32>> {
+    let parts = parts(instance);
+    let (n, k, m) = (parts.n, parts.k, horizon as usize);
+    let x = |t: usize, a: usize, v: usize| (1 + (t * k + a) * n + v) as i32;
+    let adjacent: Vec<Vec<bool>> = (0..n)
+        .map(|v| (0..n).map(|w| parts.adjacent(v, w)).collect())
+        .collect();
+    let mut all = Vec::new();
+    // A
+    for a in 0..k {
+        all.push(vec![x(0, a, parts.starts[a])]);
+    }
+    // B
+    for a in 0..k {
+        all.push(vec![x(m, a, parts.goals[a])]);
+    }
+    // C
+    for t in 0..=m {
+        for a in 0..k {
+            all.push((0..n).map(|v| x(t, a, v)).collect());
+        }
+    }
+    // D
+    for t in 0..=m {
+        for a in 0..k {
+            for v in 0..n {
+                for w in 0..n {
+                    if v < w {
+                        all.push(vec![-x(t, a, v), -x(t, a, w)]);
+                    }
+                }
+            }
+        }
+    }
+    // E
+    for t in 0..=m {
+        for v in 0..n {
+            for a in 0..k {
+                for b in 0..k {
+                    if a < b {
+                        all.push(vec![-x(t, a, v), -x(t, b, v)]);
+                    }
+                }
+            }
+        }
+    }
+    // F
+    for t in 0..m {
+        for a in 0..k {
+            for v in 0..n {
+                let mut clause = vec![-x(t, a, v), x(t + 1, a, v)];
+                for w in 0..n {
+                    if adjacent[v][w] {
+                        clause.push(x(t + 1, a, w));
+                    }
+                }
+                all.push(clause);
+            }
+        }
+    }
+    // G
+    for t in 0..m {
+        for a in 0..k {
+            for b in 0..k {
+                if a != b {
+                    for v in 0..n {
+                        all.push(vec![-x(t, b, v), -x(t + 1, a, v)]);
+                    }
+                }
+            }
+        }
+    }
+    all
+}
+
+/// The formula's words: each clause and a 0.
+pub fn words(clauses: &[Vec<i32>]) -> Vec<i32> {
+    let mut words = Vec::new();
+    for clause in clauses {
+        words.extend(clause);
+        words.push(0);
+    }
+    words
+}
+
+/// The number of the first clause none of whose literals is an entry.
+pub fn first_unsatisfied(clauses: &[Vec<i32>], entries: &[i32]) -> Option<usize> {
+    let mut sorted = entries.to_vec();
+    sorted.sort_unstable();
+    let holds = |literal: &i32| sorted.binary_search(literal).is_ok();
+    clauses.iter().position(|clause| !clause.iter().any(holds))
+}
+
+/// Does the valuation satisfy every clause?
+pub fn satisfies(clauses: &[Vec<i32>], entries: &[i32]) -> bool {
+    first_unsatisfied(clauses, entries).is_none()
+}
+
+/// The valuation that puts agent a at time t on byte t·k + a and nowhere else.
+pub fn valuation(n: usize, plan: &[u8]) -> Vec<i32> {
+    let mut entries = Vec::new();
+    for &vertex in plan {
+        for v in 0..n {
+            let variable = entries.len() as i32 + 1;
+            entries.push(if v == vertex as usize {
+                variable
+            } else {
+                -variable
+            });
+        }
+    }
+    entries
+}
+
+/// Does this plan of (m+1)·k bytes pass, for an accepted instance?
+pub fn passes(instance: &[u8], horizon: u64, plan: &[u8]) -> bool {
+    let parts = parts(instance);
+    let (k, m) = (parts.k, horizon as usize);
+    let at = |t: usize, a: usize| plan[t * k + a] as usize;
+    let agents = || 0..k;
+    let ends = agents().all(|a| at(0, a) == parts.starts[a] && at(m, a) == parts.goals[a]);
+    let keeps_or_crosses =
+        |t: usize, a: usize| at(t, a) == at(t + 1, a) || parts.adjacent(at(t, a), at(t + 1, a));
+    let enters_vacant =
+        |t: usize, a: usize| at(t, a) == at(t + 1, a) || agents().all(|b| at(t, b) != at(t + 1, a));
+    let alone = |t: usize, a: usize| agents().all(|b| b == a || at(t + 1, b) != at(t + 1, a));
+    ends && (0..m)
+        .all(|t| agents().all(|a| keeps_or_crosses(t, a) && enters_vacant(t, a) && alone(t, a)))
+}

@@ -1,0 +1,151 @@
+//! Inputs for tests, the same for the same seed.
+
+/// The generator xorshift64*.
+pub struct Generator {
+    state: u64,
+}
+
+impl Generator {
+    pub fn new(seed: u64) -> Generator {
+        // The state must not be 0.
+        Generator {
+            state: if seed == 0 {
+                0x9E37_79B9_7F4A_7C15
+            } else {
+                seed
+            },
+        }
+    }
+
+    /// Any number.
+    pub fn draw(&mut self) -> u64 {
+        self.state ^= self.state >> 12;
+        self.state ^= self.state << 25;
+        self.state ^= self.state >> 27;
+        self.state.wrapping_mul(0x2545_F491_4F6C_DD1D)
+    }
+
+    /// A number below `bound`, which must not be 0.
+    pub fn below(&mut self, bound: usize) -> usize {
+        ((self.draw() >> 32) % bound as u64) as usize
+    }
+
+    /// True in `percent` of 100 cases.
+    pub fn chance(&mut self, percent: usize) -> bool {
+        self.below(100) < percent
+    }
+
+    pub fn shuffle<T>(&mut self, items: &mut [T]) {
+        for i in (1..items.len()).rev() {
+            items.swap(i, self.below(i + 1));
+        }
+    }
+
+    /// `k` different vertices below `n`.
+    pub fn vertices(&mut self, n: usize, k: usize) -> Vec<u8> {
+        let mut all: Vec<u8> = (0..n).map(|v| v as u8).collect();
+        self.shuffle(&mut all);
+        all.truncate(k);
+        all
+    }
+
+    /// Each possible edge with the chance `percent`, in stored order.
+    pub fn edges(&mut self, n: usize, percent: usize) -> Vec<(u8, u8)> {
+        let mut edges = all_edges(n);
+        edges.retain(|_| self.chance(percent));
+        edges
+    }
+
+    /// An accepted instance, for n 1 to 64 and k 1 to 16, at most n.
+    pub fn instance(&mut self, n: usize, k: usize, percent: usize) -> Vec<u8> {
+        let edges = self.edges(n, percent);
+        let starts = self.vertices(n, k);
+        let goals = self.vertices(n, k);
+        instance_bytes(n, &edges, &starts, &goals)
+    }
+
+    /// An accepted instance and a plan that passes for it: a random valid walk,
+    /// with the goals where it ends.
+    pub fn walk(&mut self, n: usize, k: usize, percent: usize, m: usize) -> (Vec<u8>, Vec<u8>) {
+        let edges = self.edges(n, percent);
+        let starts = self.vertices(n, k);
+        let mut row = starts.clone();
+        let mut plan = starts.clone();
+        for _ in 0..m {
+            row = self.step(&edges, &row);
+            plan.extend(&row);
+        }
+        (instance_bytes(n, &edges, &starts, &row), plan)
+    }
+
+    /// A valid step from this row; agents choose in random order.
+    fn step(&mut self, edges: &[(u8, u8)], row: &[u8]) -> Vec<u8> {
+        let mut next = row.to_vec();
+        let mut agents: Vec<usize> = (0..row.len()).collect();
+        self.shuffle(&mut agents);
+        for a in agents {
+            let mut choices = vec![row[a]];
+            for &(low, high) in edges {
+                let w = match row[a] {
+                    v if v == low => high,
+                    v if v == high => low,
+                    _ => continue,
+                };
+                if !row.contains(&w) && !next.contains(&w) {
+                    choices.push(w);
+                }
+            }
+            next[a] = choices[self.below(choices.len())];
+        }
+        next
+    }
+
+    /// Gives one byte another value and tells which; none in an empty slice.
+    pub fn damage(&mut self, bytes: &mut [u8]) -> Option<usize> {
+        if bytes.is_empty() {
+            return None;
+        }
+        let index = self.below(bytes.len());
+        // Near values and far ones alike.
+        let change = if self.chance(50) {
+            1 + self.below(3)
+        } else {
+            1 + self.below(255)
+        };
+        bytes[index] = if self.chance(50) {
+            bytes[index].wrapping_add(change as u8)
+        } else {
+            bytes[index].wrapping_sub(change as u8)
+        };
+        Some(index)
+    }
+
+    /// `length` bytes of any value.
+    pub fn bytes(&mut self, length: usize) -> Vec<u8> {
+        (0..length).map(|_| self.draw() as u8).collect()
+    }
+}
+
+/// All edges between vertices below `n`, in stored order.
+pub fn all_edges(n: usize) -> Vec<(u8, u8)> {
+    (0..n as u8)
+        .flat_map(|v| (v + 1..n as u8).map(move |w| (v, w)))
+        .collect()
+}
+
+/// The instance bytes; nothing is checked.
+pub fn instance_bytes(n: usize, edges: &[(u8, u8)], starts: &[u8], goals: &[u8]) -> Vec<u8> {
+    let mut bytes = vec![n as u8, starts.len() as u8];
+    bytes.extend((edges.len() as u16).to_le_bytes());
+    bytes.extend(edges.iter().map(|edge| edge.0));
+    bytes.extend(edges.iter().map(|edge| edge.1));
+    bytes.extend(starts);
+    bytes.extend(goals);
+    bytes
+}
+
+/// The largest instance: 64 vertices, 2016 edges and 16 agents that stay.
+pub fn largest_instance() -> Vec<u8> {
+    let agents: Vec<u8> = (0..16).collect();
+    instance_bytes(64, &all_edges(64), &agents, &agents)
+}

@@ -1,0 +1,327 @@
+//! The calls against the plain clause table.
+
+use super::{says, unwritten, wrote};
+use crate::sample::{all_edges, instance_bytes, largest_instance, Generator};
+use crate::*;
+
+/// Writer and clause by number against the table.
+fn compare_formula(instance: &[u8], m: u64, clauses: &[Vec<i32>]) {
+    let expected = plain::words(clauses);
+    let needed = expected.len();
+    let accepted = wrote(needed as u64, clauses.len() as u64);
+    for writer in [write_formula, write_formula_searching] {
+        let mut words = vec![7; needed + 3];
+        assert_eq!(writer(instance, m, &mut words), accepted);
+        assert_eq!(words[..needed], expected);
+        assert_eq!(words[needed..], [7; 3]);
+        let mut words = vec![7; needed - 1];
+        assert_eq!(
+            writer(instance, m, &mut words),
+            unwritten(12, needed as u64)
+        );
+        assert!(words.iter().all(|&word| word == 7));
+    }
+    for (number, literals) in clauses.iter().enumerate() {
+        let mut words = [7; 67];
+        let length = literals.len() + 1;
+        let answer = clause(instance, m, number as u64, &mut words);
+        assert_eq!(answer, says(0, length as u64));
+        assert_eq!(words[..length - 1], literals[..]);
+        assert_eq!(words[length - 1], 0);
+        assert!(words[length..].iter().all(|&word| word == 7));
+    }
+    let count = clauses.len() as u64;
+    assert_eq!(clause(instance, m, count, &mut [7; 66]), says(11, count));
+}
+
+/// The decoder on a valuation against the table; tells whether it accepted.
+fn compare_decoder(instance: &[u8], m: u64, clauses: &[Vec<i32>], entries: &[i32]) -> bool {
+    let n = usize::from(instance[0]);
+    let length = entries.len() / n;
+    let mut buffer = [7; 16 * 33 + 1];
+    let plan = &mut buffer[..length + 1];
+    let answer = decode(instance, m, entries, plan);
+    match plain::first_unsatisfied(clauses, entries) {
+        Some(number) => {
+            assert_eq!(answer, says(24, number as u64));
+            assert!(plan.iter().all(|&byte| byte == 7));
+            false
+        }
+        None => {
+            assert_eq!(answer, says(0, length as u64));
+            assert_eq!(plan[length], 7);
+            assert_eq!(plain::valuation(n, &plan[..length]), entries);
+            assert!(plain::passes(instance, m, &plan[..length]));
+            true
+        }
+    }
+}
+
+/// Plan check and encoder against the plain meaning; tells whether they accepted.
+fn compare_plan(instance: &[u8], m: u64, plan: &[u8]) -> bool {
+    let (n, k) = (usize::from(instance[0]), usize::from(instance[1]));
+    let count = n * plan.len();
+    let mut entries = vec![7; count + 1];
+    let answer = check_plan(instance, m, plan);
+    let encoded = encode(instance, m, plan, &mut entries);
+    let passes = plain::passes(instance, m, plan);
+    if passes {
+        let moves = (k..plan.len()).filter(|&i| plan[i] != plan[i - k]).count();
+        assert_eq!(answer, says(0, moves as u64));
+        assert_eq!(encoded, says(0, count as u64));
+        assert_eq!(entries[..count], plain::valuation(n, plan));
+        assert_eq!(entries[count], 7);
+    } else {
+        assert!((17..=22).contains(&answer.number));
+        assert_eq!(encoded, answer);
+        assert!(entries.iter().all(|&entry| entry == 7));
+    }
+    passes
+}
+
+/// All instances with n vertices and k agents.
+fn all_instances(n: usize, k: usize) -> Vec<Vec<u8>> {
+    let possible = all_edges(n);
+    let places = all_places(n, k);
+    let mut instances = Vec::new();
+    for graph in 0..1 << possible.len() {
+        let chosen = (0..possible.len()).filter(|j| graph >> j & 1 == 1);
+        let edges: Vec<(u8, u8)> = chosen.map(|j| possible[j]).collect();
+        for starts in &places {
+            for goals in &places {
+                instances.push(instance_bytes(n, &edges, starts, goals));
+            }
+        }
+    }
+    instances
+}
+
+/// All ways to place k agents, 1 or 2, on different vertices.
+fn all_places(n: usize, k: usize) -> Vec<Vec<u8>> {
+    let mut places = all_plans(n, k);
+    places.retain(|row| k == 1 || row[0] != row[1]);
+    places
+}
+
+/// All lists of `length` vertices.
+fn all_plans(n: usize, length: usize) -> Vec<Vec<u8>> {
+    let mut plans = vec![vec![]];
+    for _ in 0..length {
+        let longer = |plan: &Vec<u8>| {
+            let plan = plan.clone();
+            (0..n as u8).map(move |v| [&plan[..], &[v]].concat())
+        };
+        plans = plans.iter().flat_map(longer).collect();
+    }
+    plans
+}
+
+/// The sizes n, k up to 4 vertices and 2 agents.
+fn small_sizes() -> impl Iterator<Item = (usize, usize)> {
+    (1..=4).flat_map(|n| (1..=n.min(2)).map(move |k| (n, k)))
+}
+
+#[test]
+fn all_small_formulas() {
+    for (n, k) in small_sizes() {
+        for instance in all_instances(n, k) {
+            for m in 0..=2 {
+                compare_formula(&instance, m, &plain::clauses(&instance, m));
+            }
+        }
+    }
+}
+
+/// Every plan as a valuation, for every small instance. At m 2 row 0 is the starts.
+#[test]
+fn all_small_plans() {
+    let mut passing = 0;
+    for (n, k) in small_sizes() {
+        for m in 0..=2 {
+            let given = if m == 2 { k } else { 0 };
+            let ends = all_plans(n, (m + 1) * k - given);
+            for instance in all_instances(n, k) {
+                let starts = &instance[instance.len() - 2 * k..instance.len() - k];
+                let clauses = plain::clauses(&instance, m as u64);
+                for end in &ends {
+                    let plan = [&starts[..given], end].concat();
+                    let passes = compare_plan(&instance, m as u64, &plan);
+                    let entries = plain::valuation(n, &plan);
+                    let decoded = compare_decoder(&instance, m as u64, &clauses, &entries);
+                    assert_eq!(passes, decoded);
+                    passing += usize::from(passes);
+                }
+            }
+        }
+    }
+    assert!(passing > 0);
+}
+
+/// Every valuation of every small instance with at most 12 variables; with
+/// more, random valuations that make A and B true.
+#[test]
+fn all_small_valuations() {
+    let mut random = Generator::new(11);
+    let mut accepted = 0;
+    for (n, k) in small_sizes() {
+        for m in 0..=2 {
+            let count = n * k * (m + 1);
+            for instance in all_instances(n, k) {
+                let clauses = plain::clauses(&instance, m as u64);
+                let mut compare = |entries: &[i32]| {
+                    let decoded = compare_decoder(&instance, m as u64, &clauses, entries);
+                    accepted += usize::from(decoded);
+                };
+                if count <= 12 {
+                    for bits in 0..1 << count {
+                        compare(&signed(count, bits));
+                    }
+                } else {
+                    for _ in 0..40 {
+                        // A few true entries more than the ends.
+                        let bits = random.draw() & random.draw();
+                        let mut entries = signed(count, bits);
+                        for literals in &clauses[..2 * k] {
+                            entries[literals[0] as usize - 1] = literals[0];
+                        }
+                        compare(&entries);
+                    }
+                }
+            }
+        }
+    }
+    assert!(accepted > 0);
+}
+
+/// The valuation whose entry i is positive when bit i is 1.
+fn signed(count: usize, bits: u64) -> Vec<i32> {
+    (0..count)
+        .map(|i| {
+            if bits >> i & 1 == 1 {
+                i as i32 + 1
+            } else {
+                -(i as i32 + 1)
+            }
+        })
+        .collect()
+}
+
+#[test]
+fn random_instances() {
+    let mut random = Generator::new(3);
+    for _ in 0..200 {
+        let n = 1 + random.below(20);
+        let k = 1 + random.below(n.min(16));
+        let m = random.below(6);
+        let percent = random.below(101);
+        let instance = random.instance(n, k, percent);
+        compare_formula(&instance, m as u64, &plain::clauses(&instance, m as u64));
+    }
+}
+
+#[test]
+fn random_walks() {
+    let mut random = Generator::new(5);
+    for _ in 0..300 {
+        let n = 1 + random.below(24);
+        let k = 1 + random.below(n.min(16));
+        let m = random.below(9);
+        let percent = random.below(101);
+        let (instance, plan) = random.walk(n, k, percent, m);
+        let m = m as u64;
+        let clauses = plain::clauses(&instance, m);
+        assert!(compare_plan(&instance, m, &plan));
+        let entries = plain::valuation(n, &plan);
+        assert!(compare_decoder(&instance, m, &clauses, &entries));
+        for _ in 0..20 {
+            // A damaged plan, both as bytes and as a valuation.
+            let mut damaged = plan.clone();
+            let index = random.damage(&mut damaged).unwrap();
+            let passes = compare_plan(&instance, m, &damaged);
+            let decoded = compare_decoder(&instance, m, &clauses, &plain::valuation(n, &damaged));
+            // A byte that is no vertex becomes an agent nowhere.
+            assert_eq!(passes, decoded);
+            assert_ne!(damaged[index], plan[index]);
+            // Some flipped entries.
+            let mut flipped = entries.clone();
+            for _ in 0..1 + random.below(3) {
+                let i = random.below(flipped.len());
+                flipped[i] = -flipped[i];
+            }
+            compare_decoder(&instance, m, &clauses, &flipped);
+        }
+    }
+}
+
+#[test]
+fn damaged_instances() {
+    let mut random = Generator::new(9);
+    for _ in 0..20_000 {
+        let n = 1 + random.below(8);
+        let k = 1 + random.below(n.min(3));
+        let m = random.below(4) as u64;
+        let percent = random.below(101);
+        let mut instance = random.instance(n, k, percent);
+        assert_eq!(check_instance(&instance, m), says(0, 0));
+        let index = random.damage(&mut instance).unwrap();
+        let answer = check_instance(&instance, m);
+        match answer.number {
+            0 => assert!(index == 0 || index >= 4),
+            2..=4 => assert_eq!(answer.second, u64::from(answer.number) - 2),
+            5 => assert_eq!(answer.second, instance.len() as u64),
+            _ => assert!((6..=9).contains(&answer.number)),
+        }
+    }
+}
+
+#[test]
+fn largest_formula() {
+    let instance = largest_instance();
+    let clauses = plain::clauses(&instance, 32);
+    assert_eq!(plain::words(&clauses).len(), 7_625_296);
+    compare_formula(&instance, 32, &clauses);
+}
+
+#[test]
+fn largest_valuations() {
+    let mut random = Generator::new(13);
+    let (instance, plan) = random.walk(64, 16, 10, 32);
+    let clauses = plain::clauses(&instance, 32);
+    assert!(compare_plan(&instance, 32, &plan));
+    let entries = plain::valuation(64, &plan);
+    assert!(compare_decoder(&instance, 32, &clauses, &entries));
+    for _ in 0..10 {
+        let mut flipped = entries.clone();
+        let i = random.below(flipped.len());
+        flipped[i] = -flipped[i];
+        assert!(!compare_decoder(&instance, 32, &clauses, &flipped));
+        let mut damaged = plan.clone();
+        let byte = random.below(damaged.len());
+        damaged[byte] = (damaged[byte] + 1) % 64;
+        let passes = compare_plan(&instance, 32, &damaged);
+        let decoded = compare_decoder(&instance, 32, &clauses, &plain::valuation(64, &damaged));
+        assert_eq!(passes, decoded);
+    }
+}
+
+#[test]
+fn the_text_is_the_formula() {
+    let mut random = Generator::new(17);
+    for _ in 0..50 {
+        let n = 1 + random.below(12);
+        let k = 1 + random.below(n.min(5));
+        let m = random.below(5);
+        let instance = random.instance(n, k, 40);
+        let clauses = plain::clauses(&instance, m as u64);
+        let mut expected = format!("p cnf {} {}\n", n * k * (m + 1), clauses.len());
+        for clause in &clauses {
+            for literal in clause {
+                expected += &format!("{literal} ");
+            }
+            expected += "0\n";
+        }
+        let mut out = Vec::new();
+        text::print_formula(&[&[m as u8], &instance[..]].concat(), &mut out).unwrap();
+        assert_eq!(String::from_utf8(out).unwrap(), expected);
+    }
+}

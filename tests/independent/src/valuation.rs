@@ -1,0 +1,169 @@
+//! The decoder and the encoder.
+
+use crate::instance::Instance;
+use crate::plan::{check_length, check_rows};
+use crate::{answer, refuse, Answer};
+
+/// Writes the plan a satisfying valuation names; the count is its length.
+pub fn decode(instance: &[u8], horizon: u64, entries: &[i32], plan: &mut [u8]) -> Answer {
+    answer(decoded(instance, horizon, entries, plan))
+}
+
+/// Writes the valuation of a passing plan; the count is N.
+pub fn encode(instance: &[u8], horizon: u64, plan: &[u8], entries: &mut [i32]) -> Answer {
+    answer(encoded(instance, horizon, plan, entries))
+}
+
+fn decoded(bytes: &[u8], horizon: u64, entries: &[i32], plan: &mut [u8]) -> Result<usize, Answer> {
+    let instance = Instance::read(bytes, horizon)?;
+    let length = instance.plan_length();
+    if entries.len() != instance.variable_count() {
+        return refuse(14, entries.len());
+    }
+    if plan.len() < length {
+        return refuse(15, length);
+    }
+    // Only variable numbers are negated here, no entry.
+    let own = |(&entry, variable): (&i32, i32)| entry == variable || entry == -variable;
+    if let Some(i) = entries.iter().zip(1..).position(|pair| !own(pair)) {
+        return refuse(23, i);
+    }
+    if let Some(number) = first_false(&instance, entries) {
+        return refuse(24, number);
+    }
+    for (byte, row) in plan.iter_mut().zip(entries.chunks_exact(instance.n)) {
+        *byte = row.iter().position(|&entry| entry > 0).unwrap_or(0) as u8;
+    }
+    Ok(length)
+}
+
+/// The lowest number of a clause without a true literal. Entry i belongs to
+/// variable i + 1, so its sign tells which literal of that variable is true.
+fn first_false(instance: &Instance, entries: &[i32]) -> Option<usize> {
+    let families = [
+        false_in_a, false_in_b, false_in_c, false_in_d, false_in_e, false_in_f, false_in_g,
+    ];
+    let mut first = 0;
+    for (family, count) in families.into_iter().zip(instance.clause_counts()) {
+        if let Some(index) = family(instance, entries) {
+            return Some(first + index);
+        }
+        first += count;
+    }
+    None
+}
+
+// Each of these gives the index, inside its family, of the first false clause.
+
+fn false_in_a(instance: &Instance, entries: &[i32]) -> Option<usize> {
+    first_absent(instance, entries, 0, instance.starts)
+}
+
+fn false_in_b(instance: &Instance, entries: &[i32]) -> Option<usize> {
+    first_absent(instance, entries, instance.m, instance.goals)
+}
+
+/// The first agent not at its vertex at time t.
+fn first_absent(instance: &Instance, entries: &[i32], t: usize, vertices: &[u8]) -> Option<usize> {
+    let from = t * instance.k * instance.n;
+    let rows = entries[from..].chunks_exact(instance.n);
+    rows.zip(vertices)
+        .position(|(row, &v)| row[usize::from(v)] < 0)
+}
+
+fn false_in_c(instance: &Instance, entries: &[i32]) -> Option<usize> {
+    entries
+        .chunks_exact(instance.n)
+        .position(|row| row.iter().all(|&entry| entry < 0))
+}
+
+fn false_in_d(instance: &Instance, entries: &[i32]) -> Option<usize> {
+    let mut index = 0;
+    for row in entries.chunks_exact(instance.n) {
+        for (v, &entry) in row.iter().enumerate() {
+            let above = &row[v + 1..];
+            if entry > 0 {
+                if let Some(i) = above.iter().position(|&other| other > 0) {
+                    return Some(index + i);
+                }
+            }
+            index += above.len();
+        }
+    }
+    None
+}
+
+fn false_in_e(instance: &Instance, entries: &[i32]) -> Option<usize> {
+    let (n, k) = (instance.n, instance.k);
+    let mut index = 0;
+    for rows in entries.chunks_exact(k * n) {
+        for v in 0..n {
+            for a in 0..k {
+                if rows[a * n + v] > 0 {
+                    if let Some(b) = (a + 1..k).find(|&b| rows[b * n + v] > 0) {
+                        return Some(index + b - a - 1);
+                    }
+                }
+                index += k - 1 - a;
+            }
+        }
+    }
+    None
+}
+
+fn false_in_f(instance: &Instance, entries: &[i32]) -> Option<usize> {
+    let n = instance.n;
+    let rows = entries.chunks_exact(n);
+    let nexts = entries[instance.k * n..].chunks_exact(n);
+    for (index, (row, next)) in rows.zip(nexts).enumerate() {
+        let stuck =
+            |v: usize| row[v] > 0 && next[v] < 0 && instance.neighbours(v).all(|w| next[w] < 0);
+        if let Some(v) = (0..n).find(|&v| stuck(v)) {
+            return Some(index * n + v);
+        }
+    }
+    None
+}
+
+fn false_in_g(instance: &Instance, entries: &[i32]) -> Option<usize> {
+    let (n, k) = (instance.n, instance.k);
+    let row = |t: usize, a: usize| &entries[(t * k + a) * n..(t * k + a + 1) * n];
+    let mut index = 0;
+    for t in 0..instance.m {
+        for a in 0..k {
+            let next = row(t + 1, a);
+            for b in (0..k).filter(|&b| b != a) {
+                let both = |(&here, &there): (&i32, &i32)| here > 0 && there > 0;
+                let pairs = || row(t, b).iter().zip(next);
+                // Without an early exit this pass runs on several clauses at once.
+                if pairs().fold(false, |hit, pair| hit | both(pair)) {
+                    return pairs().position(both).map(|v| index + v);
+                }
+                index += n;
+            }
+        }
+    }
+    None
+}
+
+fn encoded(bytes: &[u8], horizon: u64, plan: &[u8], entries: &mut [i32]) -> Result<usize, Answer> {
+    let instance = Instance::read(bytes, horizon)?;
+    let count = instance.variable_count();
+    check_length(&instance, plan)?;
+    if entries.len() < count {
+        return refuse(16, count);
+    }
+    check_rows(&instance, plan)?;
+    let mut variable = 0;
+    for (row, &vertex) in entries.chunks_exact_mut(instance.n).zip(plan) {
+        for (v, entry) in row.iter_mut().enumerate() {
+            variable += 1;
+            *entry = if v == usize::from(vertex) {
+                variable
+            } else {
+                -variable
+            };
+        }
+    }
+    Ok(count)
+}
