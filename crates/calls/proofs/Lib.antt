@@ -1,3 +1,4 @@
 pub mod Instance
+pub mod Accepted
 pub mod Plan
 pub mod Valuation

@@ -1,0 +1,120 @@
+-- From the instance check's answer to what the inner functions require, and what they then know.
+use mathlib.Core.Path.{_≡_, refl, sym, _∙_, ap, subst}
+use mathlib.Core.List.{List, [], _∷_, _++_}
+use Prim.Native.Nat.{ℕ, suc, _+_, _-_, _*_, _≤_, _<_}
+use native.Mathlib.Omega.{arith}
+use lib.ListN.{length, getD, take, drop, replicate, length-drop, List·getD-append}
+use lib.Seq.{getD-drop, getD-take, length-take-le}
+use lib.Dec.{T}
+use Rattle.lists.specs.Loop.{all}
+use Rattle.lists.specs.Slice.{filled}
+use Rattle.lists.proofs.Slices.{filled-length}
+use Rattle.answers.specs.declared.Answer.{Answer}
+use Rattle.answers.proofs.Laws.{clear, byNumber-accepted}
+use Rattle.instance.specs.declared.Sizes.{Sizes}
+use Rattle.instance.specs.declared.Checked.{Checked}
+use Rattle.instance.specs.Instance.{Instance, instance, checked, unchecked, forAgents, vertices, agents, edges, starts, goals, startOf, goalOf}
+use Rattle.instance.proofs.Graph.{Edges}
+use Rattle.formula.proofs.Limits.{Limits}
+use Rattle.valuation.proofs.Families.{Sound}
+use Rattle.calls.specs.Calls.{instanceQuestions, instanceAnswer, instanceChecked}
+use Rattle.calls.specs.Accepted.{Accepted, instanceOf}
+use Rattle.calls.proofs.Instance.{instance-iff, sound, edges-known, length-known, limits, agents-below}
+
+-- the instance check's answer and checked instance, where the number is 0
+module _ (b : List ℕ) (m : ℕ) (c : Checked) (ec : c ≡ instanceChecked b m) (e : instanceAnswer b m .number ≡ 0) where
+  is-checked : c ≡ checked b m
+  unfolding instanceChecked
+  is-checked = ec ∙ byNumber-accepted (instanceAnswer b m .number) (checked b m) unchecked e
+
+  pub horizon-of : c .sizes .m ≡ m
+  unfolding checked instance
+  horizon-of = ap (λ (x : Checked). x .sizes .m) is-checked
+
+  pub accepted : Accepted b c
+  accepted =
+      record {
+        yes = rw horizon-of (instance-iff b m .0 e);
+        same = is-checked ∙ ap (checked b) (sym horizon-of);
+      }
+
+-- k bytes of b in an array for 16 agents
+module _ (b : List ℕ) (offset : ℕ) (h : agents b ≤ 16) (l : offset + agents b ≤ length b) where
+  taken : length (take (agents b) (drop offset b)) ≡ agents b
+  taken = length-take-le (agents b) (drop offset b) (simp length-drop (omega arith))
+
+  pub forAgents-length : length (forAgents b offset) ≡ 16
+  unfolding forAgents
+  forAgents-length =
+      filled-length (take (agents b) (drop offset b)) (replicate 16 0) (omega (arith, taken))
+
+  pub forAgents-at : (a : ℕ) → a < agents b → getD (forAgents b offset) a 0 ≡ getD b (offset + a) 0
+  unfolding forAgents filled
+  forAgents-at a q =
+      List·getD-append (take (agents b) (drop offset b)) _ 0 a (omega (arith, taken))
+      ∙ getD-take (agents b) (drop offset b) a 0 q
+      ∙ getD-drop offset b a 0
+
+module _ (b : List ℕ) (c : Checked) (w : Accepted b c) where
+  abbrev I : Instance
+  I = instanceOf b c
+
+  -- the sizes are those of the bytes
+  pub sizes-same : c .sizes ≡ I .sizes
+  unfolding checked
+  sizes-same = ap (λ (x : Checked). x .sizes) (w .same)
+
+  pub n-same : c .sizes .n ≡ vertices b
+  unfolding instance
+  n-same = ap (λ (x : Sizes). x .n) sizes-same
+
+  pub k-same : c .sizes .k ≡ agents b
+  unfolding instance
+  k-same = ap (λ (x : Sizes). x .k) sizes-same
+
+  pub e-same : c .sizes .e ≡ edges b
+  unfolding instance
+  e-same = ap (λ (x : Sizes). x .e) sizes-same
+
+  pub limits-known : Limits (c .sizes)
+  limits-known = subst Limits (sym sizes-same) (limits b (c .sizes .m) (w .yes))
+
+  pub agents-fit : c .sizes .k ≤ c .sizes .n
+  agents-fit = omega (arith, n-same, k-same, agents-below b (c .sizes .m) (w .yes))
+
+  pub long : length b ≡ 4 + 2 * c .sizes .e + 2 * c .sizes .k
+  long = omega (arith, length-known b (c .sizes .m) (w .yes), k-same, e-same)
+
+  pub graph : Edges I
+  graph = edges-known b (c .sizes .m) (w .yes)
+
+  pub sound-known : Sound I
+  sound-known = sound b (c .sizes .m) (w .yes)
+
+  few : agents b ≤ 16
+  few = omega (arith, k-same, limits-known .k-most)
+
+  -- the arrays hold the starts and the goals
+  pub starts-length : length (c .starts) ≡ 16
+  unfolding checked
+  starts-length =
+      ap (λ (x : Checked). length (x .starts)) (w .same)
+      ∙ forAgents-length b (starts b) few (omega (arith, length-known b (c .sizes .m) (w .yes)))
+
+  pub goals-length : length (c .goals) ≡ 16
+  unfolding checked
+  goals-length =
+      ap (λ (x : Checked). length (x .goals)) (w .same)
+      ∙ forAgents-length b (goals b) few (omega (arith, length-known b (c .sizes .m) (w .yes)))
+
+  pub start-at : (a : ℕ) → a < c .sizes .k → getD (c .starts) a 0 ≡ I .start a
+  unfolding checked instance
+  start-at a q =
+      ap (λ (x : Checked). getD (x .starts) a 0) (w .same)
+      ∙ forAgents-at b (starts b) few (omega (arith, length-known b (c .sizes .m) (w .yes))) a (omega (arith, k-same))
+
+  pub goal-at : (a : ℕ) → a < c .sizes .k → getD (c .goals) a 0 ≡ I .goal a
+  unfolding checked instance
+  goal-at a q =
+      ap (λ (x : Checked). getD (x .goals) a 0) (w .same)
+      ∙ forAgents-at b (goals b) few (omega (arith, length-known b (c .sizes .m) (w .yes))) a (omega (arith, k-same))
