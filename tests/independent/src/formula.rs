@@ -177,7 +177,7 @@ fn write_g(instance: &Instance, mut part: &mut [i32]) {
                 let (now, rest) = part.split_at_mut(3 * n);
                 let here = instance.x(t, b, 0);
                 let next = instance.x(t + 1, a, 0);
-                for (v, clause) in (0..).zip(now.chunks_exact_mut(3)) {
+                for (clause, v) in now.chunks_exact_mut(3).zip(0..n as i32) {
                     clause[0] = -(here + v);
                     clause[1] = -(next + v);
                     clause[2] = 0;

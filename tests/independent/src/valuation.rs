@@ -133,7 +133,7 @@ fn false_in_g(instance: &Instance, entries: &[i32]) -> Option<usize> {
         for a in 0..k {
             let next = row(t + 1, a);
             for b in (0..k).filter(|&b| b != a) {
-                let both = |(&here, &there): (&i32, &i32)| here > 0 && there > 0;
+                let both = |(&here, &there): (&i32, &i32)| (here > 0) & (there > 0);
                 let pairs = || row(t, b).iter().zip(next);
                 // Without an early exit this pass runs on several clauses at once.
                 if pairs().fold(false, |hit, pair| hit | both(pair)) {
