@@ -1,13 +1,16 @@
 -- A slice that is filled from its start.
 use mathlib.Core.Path.{_≡_, refl, sym, _∙_, ap, ap₂}
+use mathlib.Core.Logic.{⊎-elim}
 use mathlib.Core.List.{List, [], _∷_, _++_, append-nil, append-assoc}
-use Prim.Native.Nat.{ℕ, _+_, _-_, _≤_, _<_}
-use native.Mathlib.Nat.{zero-add}
+use Prim.Native.Nat.{ℕ, zero, suc, _+_, _-_, _≤_, _<_}
+use native.Mathlib.Nat.{zero-add, le-refl, eq-or-lt-of-le, le-of-suc-le-suc}
 use native.Mathlib.Numerals.{add-one}
 use native.Mathlib.Omega.{arith}
 use borrow.Rule.Slice.PartMut.{putMid}
 use lib.ListN.{length, take, drop, set, length-append, length-drop, drop-of-length-le}
 use lib.Seq.{drop-cons, set-at, take-at, drop-at, drop-drop, take-all, sets, sets-eq, take-append-seam}
+use lib.Arith.{le-zero}
+use Rattle.lists.specs.Loop.{for}
 use Rattle.lists.specs.Slice.{filled}
 
 module _ {A : Type 0} where
@@ -44,3 +47,23 @@ module _ {A : Type 0} where
       let el : length f ≡ length s = ap length ef ∙ filled-length out s (omega arith) in
       let h : length (drop n s) ≤ length f - n = simp length-drop (omega arith) in
       rw (ey, p, q, take-all _ _ h, drop-of-length-le _ h, append-nil, append-assoc, length-append, e, drop-drop)
+
+  -- ---- a loop whose turn i writes g i behind what the turns before it wrote, at an offset that it keeps
+  module _ (g : ℕ → List A) where
+    -- the slice after turn i, as it comes back from a call on `&mut f[at..]` that left ys there
+    pub for-turn : (f s ys : List A) (i at : ℕ) → f ≡ filled (for i g) s → at ≡ length (for i g) → at ≤ length s
+        → ys ≡ filled (g i) (take (length f - at) (drop at f)) → putMid at (length f - at) f ys ≡ filled (for (i + 1) g) s
+    for-turn f s ys i at ef e h ey = rw add-one (filled-part f s (for i g) (g i) ys at ef (sym e) h ey)
+
+    -- the offset after it
+    pub for-next : (i at r : ℕ) → at ≡ length (for i g) → r ≡ length (g i) → at + r ≡ length (for (i + 1) g)
+    for-next i at r e er = rw (add-one, length-append, e, er)
+
+    for-grows : (i n : ℕ) → i ≤ n → length (for i g) ≤ length (for n g)
+    for-grows i zero h = rw (le-zero h) (le-refl _)
+    for-grows i (suc n) h =
+        ⊎-elim (λ e. rw e (le-refl _)) (λ l. omega (arith, for-grows i n (le-of-suc-le-suc l), length-append (for n g) (g n))) (eq-or-lt-of-le h)
+
+    -- where there is room for all n turns, there is for turn i
+    pub for-room : {i n : ℕ} → i < n → length (for i g) + length (g i) ≤ length (for n g)
+    for-room {i} {n} h = omega (arith, for-grows (suc i) n h, length-append (for i g) (g i))

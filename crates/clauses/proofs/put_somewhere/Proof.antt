@@ -1,0 +1,115 @@
+use mathlib.Core.Path.{_≡_, refl, sym, _∙_, ap}
+use mathlib.Core.List.{[], _∷_, _++_}
+use Prim.Native.Nat.{ℕ, suc, _+_, _-_, _*_, _≤_, _<_}
+use native.Mathlib.Omega.{arith}
+use lib.ListN.{length, take, drop, length-set, length-take, length-drop, length-append}
+use lib.IntN.{ℤ, pos, negℤ}
+use mir.Facts.{toZ-ofZ}
+use borrow.Author.Needs.{needs, sfits-of}
+use Rattle.lists.specs.Loop.{for, when}
+use Rattle.lists.specs.Slice.{filled}
+use Rattle.lists.proofs.Slices.{sets-filled, filled-nil, filled-length, filled-set, filled-part, for-turn, for-next, for-room}
+use Rattle.formula.specs.Variables.{X, ¬X, index}
+use Rattle.formula.specs.Formula.{line}
+use native.Mathlib.Numerals.{add-one}
+use mathlib.Core.List.{List}
+use Rattle.lists.proofs.Blocks.{for1-length}
+use Rattle.clauses.specs.Lines.{somewhere}
+use borrow.Author.Needs.{needs}
+use Rattle.clauses.proofs.put_somewhere.Statement.{statement}
+use Rattle.clauses.proofs.put_somewhere.Tie as tie
+use Rattle.clauses.proofs.put_somewhere.Reads as reads
+use Rattle.clauses.proofs.put_somewhere.Lts as lts
+use Rattle.clauses.proofs.positive.Reads as positive-reads
+
+abbrev Inv-loop : tie.InvT-loop
+Inv-loop f₀ s t a n v₀ f v = (v ≤ n) × ((length f ≡ length f₀) × (f ≡ filled (for v λ u. X s (t .0) (a .0) u ∷ []) f₀))
+
+abbrev μ-loop : tie.MeasureT-loop
+μ-loop f₀ s t a n v₀ f v = n - v
+
+-- src/lib.rt:63:5
+loop-holds : tie.Need-loop-holds Inv-loop μ-loop
+loop-holds c = (omega arith, (refl, sym (filled-nil _)))
+
+-- src/lib.rt:64:16
+positive-requires : tie.Need-positive-requires Inv-loop μ-loop
+positive-requires c κs = search needs
+
+-- src/lib.rt:64:9
+mul-t10 : tie.Need-mul-t10 Inv-loop μ-loop
+mul-t10 c = search needs
+
+-- src/lib.rt:64:9
+slice-set-from-f : tie.Need-slice-set-from-f Inv-loop μ-loop
+slice-set-from-f c = search needs
+
+-- src/lib.rt:63:9
+add-v : tie.Need-add-v Inv-loop μ-loop
+add-v c = search needs
+
+-- src/lib.rt:63:5
+loop-less : tie.Need-loop-less Inv-loop μ-loop
+loop-less c = search needs
+
+-- src/lib.rt:63:5
+loop-again : tie.Need-loop-again Inv-loop μ-loop
+loop-again c =
+    let l = c .before .before .loop in
+    let g : ℕ → List ℤ = λ v. X (c .before .before .before .args .s) (c .before .before .before .args .t .0) (c .before .before .before .args .a .0) v ∷ [] in
+    (
+      omega arith,
+      (
+        simp length-set (l .inv .1 .0),
+        rw (toZ-ofZ (sfits-of (c .positive .ok)), c .positive .ensures, l .inv .1 .1, add-one)
+        (filled-set (for (l .v) g) (c .before .before .before .args .f .now) (l .v) _ (pos 0) (for1-length (l .v) (X (c .before .before .before .args .s) (c .before .before .before .args .t .0) (c .before .before .before .args .a .0))) (omega arith)),
+      ),
+    )
+
+-- src/lib.rt:66:5
+mul-f : tie.Need-mul-f Inv-loop μ-loop
+mul-f c = search needs
+
+-- src/lib.rt:66:5
+slice-set-of-f : tie.Need-slice-set-of-f Inv-loop μ-loop
+slice-set-of-f c = search needs
+
+-- src/lib.rt:67:5
+add-result : tie.Need-add-result Inv-loop μ-loop
+add-result c = search needs
+
+-- src/lib.rt:57:1
+same-length : tie.Need-same-length Inv-loop μ-loop
+same-length c = simp length-set (c .before .loop .inv .1 .0)
+
+-- src/lib.rt:57:1
+returns : tie.Need-returns Inv-loop μ-loop
+unfolding somewhere
+returns c =
+    let s = c .before .before .args in
+    let g : ℕ → List ℤ = λ v. X (s .s) (s .t .0) (s .a .0) v ∷ [] in
+    let e : c .before .loop .v ≡ s .s .n = omega arith in
+    (
+      refl,
+      rw (c .before .loop .inv .1 .1, e)
+      (filled-set (for (s .s .n) g) (s .f .now) (s .s .n) (pos 0) (pos 0) (for1-length (s .s .n) (X (s .s) (s .t .0) (s .a .0))) (omega arith)),
+    )
+
+pub put-somewhere-spec : {M : Type 1} → statement M
+put-somewhere-spec =
+    tie.close
+    (tie.spec
+    Inv-loop
+    μ-loop
+    loop-holds
+    positive-requires
+    mul-t10
+    slice-set-from-f
+    add-v
+    loop-less
+    loop-again
+    mul-f
+    slice-set-of-f
+    add-result
+    same-length
+    returns)

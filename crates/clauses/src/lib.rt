@@ -1,0 +1,128 @@
+// The words of single clauses, each written to the start of the slice that is lent. The answer is the number of words.
+use entries::Agent;
+use entries::Step;
+use entries::Vertex;
+use instance::Sizes;
+ghost use mathlib.Core.Path.{_≡_};
+ghost use mathlib.Core.List.{[], _∷_};
+ghost use Prim.Native.Nat.{_+_, _≤_, _<_};
+ghost use lib.IntN.{pos};
+ghost use lib.ListN.{length};
+ghost use Rattle.lists.specs.Loop.{when};
+ghost use Rattle.lists.specs.Slice.{filled};
+ghost use Rattle.formula.specs.Variables.{X, ¬X};
+ghost use Rattle.formula.specs.Formula.{line};
+ghost use Rattle.formula.proofs.Limits.{Limits};
+ghost use Rattle.clauses.specs.Lines.{somewhere, nearby, onward, marked};
+
+// The literal X(t,a,v).
+pub fn positive(s: Sizes, t: Step, a: Agent, v: Vertex) -> i32
+    requires { ⌜ Limits s ⌝ }
+    requires { ⌜ (t .0 ≤ s .m) × (a .0 < s .k) × (v .0 < s .n) ⌝ }
+    ensures { λ r. ⌜ r ≡ X s (t .0) (a .0) (v .0) ⌝ }
+{
+    entries::literal_of(entries::variable_of(s, t, a, v))
+}
+
+// The literal not X(t,a,v).
+pub fn negative(s: Sizes, t: Step, a: Agent, v: Vertex) -> i32
+    requires { ⌜ Limits s ⌝ }
+    requires { ⌜ (t .0 ≤ s .m) × (a .0 < s .k) × (v .0 < s .n) ⌝ }
+    ensures { λ r. ⌜ r ≡ ¬X s (t .0) (a .0) (v .0) ⌝ }
+{
+    entries::negation_of(entries::variable_of(s, t, a, v))
+}
+
+// A clause of one literal: families A and B.
+pub fn put_unit(f: &mut [i32], x: i32) -> usize
+    requires { ⌜ 2 ≤ length (now f) ⌝ }
+    ensures { λ r. ⌜ (r ≡ 2) × (now (f .exit) ≡ filled (line (x ∷ [])) (now (f .entry))) ⌝ }
+{
+    f[0] = x;
+    f[1] = 0;
+    2
+}
+
+// A clause of two literals: families D, E and G.
+pub fn put_pair(f: &mut [i32], x: i32, y: i32) -> usize
+    requires { ⌜ 3 ≤ length (now f) ⌝ }
+    ensures { λ r. ⌜ (r ≡ 3) × (now (f .exit) ≡ filled (line (x ∷ y ∷ [])) (now (f .entry))) ⌝ }
+{
+    f[0] = x;
+    f[1] = y;
+    f[2] = 0;
+    3
+}
+
+// A clause of family C: agent a is at some vertex at time t.
+pub fn put_somewhere(f: &mut [i32], s: Sizes, t: Step, a: Agent) -> usize
+    requires { ⌜ Limits s ⌝ }
+    requires { ⌜ (t .0 ≤ s .m) × (a .0 < s .k) × (s .n + 1 ≤ length (now f)) ⌝ }
+    ensures { λ r. ⌜ (r ≡ s .n + 1) × (now (f .exit) ≡ filled (line (somewhere s (t .0) (a .0))) (now (f .entry))) ⌝ }
+{
+    let n = s.n;
+    for v in 0..n {
+        f[v] = positive(s, t, a, Vertex(v));
+    }
+    f[n] = 0;
+    n + 1
+}
+
+// Two literals.
+fn put_two(f: &mut [i32], x: i32, y: i32)
+    requires { ⌜ 2 ≤ length (now f) ⌝ }
+    ensures { λ _. ⌜ now (f .exit) ≡ filled (x ∷ y ∷ []) (now (f .entry)) ⌝ }
+{
+    f[0] = x;
+    f[1] = y;
+}
+
+// The closing 0.
+fn put_end(f: &mut [i32])
+    requires { ⌜ 1 ≤ length (now f) ⌝ }
+    ensures { λ _. ⌜ now (f .exit) ≡ filled (pos 0 ∷ []) (now (f .entry)) ⌝ }
+{
+    f[0] = 0;
+}
+
+// A literal where a test holds, nothing where it fails.
+fn put_when(f: &mut [i32], test: bool, x: i32) -> usize
+    requires { ⌜ 1 ≤ length (now f) ⌝ }
+    ensures { λ r. ⌜ (r ≡ length (when test (x ∷ []))) × (now (f .exit) ≡ filled (when test (x ∷ [])) (now (f .entry))) ⌝ }
+{
+    if test {
+        f[0] = x;
+        return 1;
+    }
+    0
+}
+
+// X(t,a,w) for each w whose byte of near is 1, rising. There is a word more than they can take.
+fn put_near(f: &mut [i32], s: Sizes, near: &[u8], t: Step, a: Agent) -> usize
+    requires { ⌜ Limits s ⌝ }
+    requires { ⌜ (t .0 ≤ s .m) × (a .0 < s .k) × (s .n ≤ length (now near)) ⌝ }
+    requires { ⌜ length (nearby s (marked (now near)) (t .0) (a .0)) < length (now f) ⌝ }
+    ensures { λ r. ⌜ (r ≡ length (nearby s (marked (now (near .entry))) (t .0) (a .0))) × (now (f .exit) ≡ filled (nearby s (marked (now (near .entry))) (t .0) (a .0)) (now (f .entry))) ⌝ }
+{
+    let n = s.n;
+    let mut at: usize = 0;
+    for w in 0..n {
+        let test = near[w] == 1;
+        at += put_when(&mut f[at..], test, positive(s, t, a, Vertex(w)));
+    }
+    at
+}
+
+// A clause of family F: agent a at v at time t keeps v or goes to a neighbour. Byte w of near is 1 where w is one.
+pub fn put_onward(f: &mut [i32], s: Sizes, near: &[u8], t: Step, a: Agent, v: Vertex) -> usize
+    requires { ⌜ Limits s ⌝ }
+    requires { ⌜ (t .0 < s .m) × (a .0 < s .k) × (v .0 < s .n) × (s .n ≤ length (now near)) ⌝ }
+    requires { ⌜ length (line (onward s (marked (now near)) (t .0) (a .0) (v .0))) ≤ length (now f) ⌝ }
+    ensures { λ r. ⌜ (r ≡ length (line (onward s (marked (now (near .entry))) (t .0) (a .0) (v .0)))) × (now (f .exit) ≡ filled (line (onward s (marked (now (near .entry))) (t .0) (a .0) (v .0))) (now (f .entry))) ⌝ }
+{
+    let next = Step(t.0 + 1);
+    put_two(&mut f[0..], negative(s, t, a, v), positive(s, next, a, v));
+    let at = 2 + put_near(&mut f[2..], s, near, next, a);
+    put_end(&mut f[at..]);
+    at + 1
+}

@@ -1,0 +1,59 @@
+-- Bounds of X's number; signed numbers as they are stored; a comparison of two of them.
+use mathlib.Core.Path.{_≡_, refl, sym, _∙_, ap}
+use Prim.Native.Nat.{ℕ, zero, suc, _+_, _*_, _≤_, _<_, _^_}
+use mathlib.Core.Logic.{by-cases}
+use native.Mathlib.Nat.{mul-le-mul}
+use native.Mathlib.Decide.{ℕ-discrete}
+use native.Mathlib.Omega.{arith}
+use mathlib.Core.Bool.{Bool, true, false, _||_}
+use borrow.Author.Tests.{eq-eqb, ne-eqb}
+use lib.Dec.{T, lit<, eqb}
+use lib.IntN.{ℤ, pos, negsuc, negℤ, _-ℤ_, +ℤ-idl}
+use mir.Syntax.{w32}
+use mir.Val.{SFits, toZ, ofZ}
+use mir.Facts.{toZ-pos, toZ-ofZ}
+use Rattle.instance.specs.declared.Sizes.{Sizes}
+use Rattle.formula.proofs.Limits.{Limits}
+use Rattle.valuation.specs.Valuation.{sameNumber}
+
+-- the products in X's number
+pub record Bounds (s : Sizes) (t a : ℕ) : Type 0 where
+  pub rows : t * s .k ≤ 512
+  pub cells : (t * s .k + a) * s .n ≤ 33728
+
+pub bounds : (s : Sizes) (t a : ℕ) → Limits s → t ≤ s .m → a < s .k → Bounds s t a
+bounds s t a w ht ha =
+    let r : t * s .k ≤ 512 = mul-le-mul {n₂ = 32} {m₂ = 16} (omega (arith, w .m-most)) (w .k-most) in
+    record { rows = r; cells = mul-le-mul {n₂ = 527} {m₂ = 64} (omega (arith, w .k-most)) (w .n-most) }
+
+-- numbers that fit 32 bits with a sign
+pub pos-fits : {x : ℕ} → x ≤ 33792 → SFits w32 (pos x)
+pos-fits h = record { sfits = omega arith }
+
+pub neg-fits : (x : ℕ) → x ≤ 33792 → SFits w32 (negℤ (pos x))
+neg-fits zero h = record { sfits = lit< tt }
+neg-fits (suc n) h = record { sfits = omega arith }
+
+pub neg-is : (x : ℕ) → x ≤ 33792 → pos 0 -ℤ toZ w32 x ≡ negℤ (pos x)
+neg-is x h = ap (λ (z : ℤ). pos 0 -ℤ z) (toZ-pos w32 {n = x} (omega arith)) ∙ +ℤ-idl (negℤ (pos x))
+
+-- what a test of two stored numbers says of the numbers
+pub same : {a b : ℤ} → SFits w32 a → SFits w32 b → ofZ w32 a ≡ ofZ w32 b → a ≡ b
+same fa fb e = sym (toZ-ofZ fa) ∙ ap (toZ w32) e ∙ toZ-ofZ fb
+
+pub same-true : (a b : ℤ) → a ≡ b → sameNumber a b ≡ true
+same-true (pos a) b e = rw (← e) (eq-eqb a a refl)
+same-true (negsuc a) b e = rw (← e) (eq-eqb a a refl)
+
+pub same-false : (a b : ℤ) → (a ≡ b → ⊥) → sameNumber a b ≡ false
+same-false (pos a) (pos b) d = ne-eqb a b (λ e. d (ap pos e))
+same-false (pos a) (negsuc b) d = refl
+same-false (negsuc a) (pos b) d = refl
+same-false (negsuc a) (negsuc b) d = ne-eqb a b (λ e. d (ap negsuc e))
+
+-- the test that is made of the stored numbers is that of the numbers
+pub bits-same : (a b : ℤ) → SFits w32 a → SFits w32 b → eqb (ofZ w32 a) (ofZ w32 b) ≡ sameNumber a b
+bits-same a b fa fb =
+    by-cases (ℕ-discrete (ofZ w32 a) (ofZ w32 b))
+    (λ e. eq-eqb _ _ e ∙ sym (same-true a b (same fa fb e)))
+    (λ d. ne-eqb _ _ d ∙ sym (same-false a b (λ e. d (ap (ofZ w32) e))))

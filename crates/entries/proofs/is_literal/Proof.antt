@@ -1,0 +1,15 @@
+-- `entries::is_literal` meets its contract: stored numbers are equal exactly where the signed numbers are. Assumes nothing.
+use lib.IntN.{pos}
+use Rattle.entries.proofs.Laws.{pos-fits, bits-same}
+use borrow.Author.Needs.{needs}
+use Rattle.entries.proofs.is_literal.Statement.{statement}
+use Rattle.entries.proofs.is_literal.Tie as tie
+
+literal-of-requires : tie.Need-literal-of-requires
+literal-of-requires c κs = search needs
+
+returns : tie.Need-returns
+returns c = rw (c .literal-of .ensures) (bits-same (c .before .args .entry) (pos (c .before .args .x .0)) (c .before .fits .entry) (pos-fits (c .before .pre)))
+
+pub is-literal-spec : {M : Type 1} → statement M
+is-literal-spec = tie.close (tie.spec literal-of-requires returns)

@@ -1,0 +1,19 @@
+-- `entries::negation_of` meets its contract: a variable number is small, so its negative fits. Assumes nothing.
+
+use mir.Facts.{toZ-ofZ}
+use Rattle.entries.proofs.Laws.{neg-is, neg-fits}
+use borrow.Author.Needs.{needs}
+use Rattle.entries.proofs.negation_of.Statement.{statement}
+use Rattle.entries.proofs.negation_of.Tie as tie
+
+cast-result : tie.Need-cast-result
+cast-result c = search needs
+
+sub-result : tie.Need-sub-result
+sub-result c = rw (neg-is _ (c .before .pre)) (neg-fits _ (c .before .pre))
+
+returns : tie.Need-returns
+returns c = rw (neg-is _ (c .before .pre)) (toZ-ofZ (neg-fits _ (c .before .pre)))
+
+pub negation-of-spec : {M : Type 1} → statement M
+negation-of-spec = tie.close (tie.spec cast-result sub-result returns)
