@@ -57,8 +57,9 @@ pub fn put_pair(f: &mut [i32], x: i32, y: i32) -> usize
 // A clause of family C: agent a is at some vertex at time t.
 pub fn put_somewhere(f: &mut [i32], s: Sizes, t: Step, a: Agent) -> usize
     requires { ⌜ Limits s ⌝ }
-    requires { ⌜ (t .0 ≤ s .m) × (a .0 < s .k) × (s .n + 1 ≤ length (now f)) ⌝ }
-    ensures { λ r. ⌜ (r ≡ s .n + 1) × (now (f .exit) ≡ filled (line (somewhere s (t .0) (a .0))) (now (f .entry))) ⌝ }
+    requires { ⌜ (t .0 ≤ s .m) × (a .0 < s .k) ⌝ }
+    requires { ⌜ length (line (somewhere s (t .0) (a .0))) ≤ length (now f) ⌝ }
+    ensures { λ r. ⌜ (r ≡ length (line (somewhere s (t .0) (a .0)))) × (now (f .exit) ≡ filled (line (somewhere s (t .0) (a .0))) (now (f .entry))) ⌝ }
 {
     let n = s.n;
     for v in 0..n {

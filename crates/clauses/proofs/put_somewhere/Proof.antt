@@ -15,6 +15,7 @@ use native.Mathlib.Numerals.{add-one}
 use mathlib.Core.List.{List}
 use Rattle.lists.proofs.Blocks.{for1-length}
 use Rattle.clauses.specs.Lines.{somewhere}
+use Rattle.clauses.proofs.Laws.{somewhere-length}
 use borrow.Author.Needs.{needs}
 use Rattle.clauses.proofs.put_somewhere.Statement.{statement}
 use Rattle.clauses.proofs.put_somewhere.Tie as tie
@@ -28,33 +29,38 @@ Inv-loop f₀ s t a n v₀ f v = (v ≤ n) × ((length f ≡ length f₀) × (f 
 abbrev μ-loop : tie.MeasureT-loop
 μ-loop f₀ s t a n v₀ f v = n - v
 
--- src/lib.rt:63:5
+-- src/lib.rt:65:5
 loop-holds : tie.Need-loop-holds Inv-loop μ-loop
 loop-holds c = (omega arith, (refl, sym (filled-nil _)))
 
--- src/lib.rt:64:16
+-- src/lib.rt:66:16
 positive-requires : tie.Need-positive-requires Inv-loop μ-loop
 positive-requires c κs = search needs
 
--- src/lib.rt:64:9
+-- src/lib.rt:66:9
 mul-t10 : tie.Need-mul-t10 Inv-loop μ-loop
-mul-t10 c = search needs
+mul-t10 c =
+    let n : length (line (somewhere (c .before .before .before .args .s) (c .before .before .before .args .t .0) (c .before .before .before .args .a .0))) ≡ c .before .before .before .args .s .n + 1 = somewhere-length (c .before .before .before .args .s) (c .before .before .before .args .t .0) (c .before .before .before .args .a .0) in
+    omega arith
 
--- src/lib.rt:64:9
+-- src/lib.rt:66:9
 slice-set-from-f : tie.Need-slice-set-from-f Inv-loop μ-loop
-slice-set-from-f c = search needs
+slice-set-from-f c =
+    let n : length (line (somewhere (c .before .before .before .args .s) (c .before .before .before .args .t .0) (c .before .before .before .args .a .0))) ≡ c .before .before .before .args .s .n + 1 = somewhere-length (c .before .before .before .args .s) (c .before .before .before .args .t .0) (c .before .before .before .args .a .0) in
+    omega arith
 
--- src/lib.rt:63:9
+-- src/lib.rt:65:9
 add-v : tie.Need-add-v Inv-loop μ-loop
 add-v c = search needs
 
--- src/lib.rt:63:5
+-- src/lib.rt:65:5
 loop-less : tie.Need-loop-less Inv-loop μ-loop
 loop-less c = search needs
 
--- src/lib.rt:63:5
+-- src/lib.rt:65:5
 loop-again : tie.Need-loop-again Inv-loop μ-loop
 loop-again c =
+    let n : length (line (somewhere (c .before .before .before .args .s) (c .before .before .before .args .t .0) (c .before .before .before .args .a .0))) ≡ c .before .before .before .args .s .n + 1 = somewhere-length (c .before .before .before .args .s) (c .before .before .before .args .t .0) (c .before .before .before .args .a .0) in
     let l = c .before .before .loop in
     let g : ℕ → List ℤ = λ v. X (c .before .before .before .args .s) (c .before .before .before .args .t .0) (c .before .before .before .args .a .0) v ∷ [] in
     (
@@ -66,31 +72,38 @@ loop-again c =
       ),
     )
 
--- src/lib.rt:66:5
+-- src/lib.rt:68:5
 mul-f : tie.Need-mul-f Inv-loop μ-loop
-mul-f c = search needs
+mul-f c =
+    let n : length (line (somewhere (c .before .before .args .s) (c .before .before .args .t .0) (c .before .before .args .a .0))) ≡ c .before .before .args .s .n + 1 = somewhere-length (c .before .before .args .s) (c .before .before .args .t .0) (c .before .before .args .a .0) in
+    omega arith
 
--- src/lib.rt:66:5
+-- src/lib.rt:68:5
 slice-set-of-f : tie.Need-slice-set-of-f Inv-loop μ-loop
-slice-set-of-f c = search needs
+slice-set-of-f c =
+    let n : length (line (somewhere (c .before .before .args .s) (c .before .before .args .t .0) (c .before .before .args .a .0))) ≡ c .before .before .args .s .n + 1 = somewhere-length (c .before .before .args .s) (c .before .before .args .t .0) (c .before .before .args .a .0) in
+    omega arith
 
--- src/lib.rt:67:5
+-- src/lib.rt:69:5
 add-result : tie.Need-add-result Inv-loop μ-loop
-add-result c = search needs
+add-result c =
+    let n : length (line (somewhere (c .before .before .args .s) (c .before .before .args .t .0) (c .before .before .args .a .0))) ≡ c .before .before .args .s .n + 1 = somewhere-length (c .before .before .args .s) (c .before .before .args .t .0) (c .before .before .args .a .0) in
+    omega arith
 
--- src/lib.rt:57:1
+-- src/lib.rt:58:1
 same-length : tie.Need-same-length Inv-loop μ-loop
 same-length c = simp length-set (c .before .loop .inv .1 .0)
 
--- src/lib.rt:57:1
+-- src/lib.rt:58:1
 returns : tie.Need-returns Inv-loop μ-loop
 unfolding somewhere
 returns c =
+    let n : length (line (somewhere (c .before .before .args .s) (c .before .before .args .t .0) (c .before .before .args .a .0))) ≡ c .before .before .args .s .n + 1 = somewhere-length (c .before .before .args .s) (c .before .before .args .t .0) (c .before .before .args .a .0) in
     let s = c .before .before .args in
     let g : ℕ → List ℤ = λ v. X (s .s) (s .t .0) (s .a .0) v ∷ [] in
     let e : c .before .loop .v ≡ s .s .n = omega arith in
     (
-      refl,
+      sym n,
       rw (c .before .loop .inv .1 .1, e)
       (filled-set (for (s .s .n) g) (s .f .now) (s .s .n) (pos 0) (pos 0) (for1-length (s .s .n) (X (s .s) (s .t .0) (s .a .0))) (omega arith)),
     )

@@ -1,0 +1,143 @@
+
+
+
+use mathlib.Core.Path.{_≡_, refl, sym, _∙_, ap}
+use mathlib.Core.List.{List, [], _∷_, _++_}
+use Prim.Native.Nat.{ℕ, suc, _+_, _-_, _*_, _≤_, _<_}
+use native.Mathlib.Omega.{arith}
+use lib.ListN.{length, take, drop, length-take, length-drop}
+use lib.IntN.{ℤ}
+use Rattle.lists.specs.Loop.{for}
+use Rattle.lists.specs.Slice.{filled}
+use Rattle.lists.proofs.Slices.{filled-nil, for-turn, for-next, for-room}
+use Rattle.formula.specs.Variables.{X, ¬X}
+use Rattle.formula.specs.Formula.{line}
+use mir.Facts.{toZ-ofZ}
+use borrow.Author.Needs.{sfits-of}
+use Rattle.families.specs.Rows.{stepC}
+use Rattle.families.specs.Rows.{wordsC}
+use borrow.Author.Needs.{needs}
+use Rattle.families.proofs.write_c.Statement.{statement}
+use Rattle.families.proofs.write_c.Tie as tie
+use Rattle.families.proofs.write_c.Reads as reads
+use Rattle.families.proofs.write_c.Lts as lts
+use Rattle.families.proofs.write_c_step.Reads as write-c-step-reads
+
+abbrev Inv-loop : tie.InvT-loop
+Inv-loop f₀ s end at₀ t₀ f at t = (t ≤ end) × ((at ≤ length f₀) × ((length f ≡ length f₀) × ((at ≡ length (for t (stepC s))) × (f ≡ filled (for t (stepC s)) f₀))))
+
+abbrev μ-loop : tie.MeasureT-loop
+μ-loop f₀ s end at₀ t₀ f at t = end - t
+
+-- src/lib.rt:58:15
+add-end : tie.Need-add-end Inv-loop μ-loop
+add-end c = search needs
+
+-- src/lib.rt:60:5
+loop-holds : tie.Need-loop-holds Inv-loop μ-loop
+loop-holds c = (omega arith, (omega arith, (refl, (refl, sym (filled-nil _)))))
+
+-- src/lib.rt:61:28
+mul-write-c-step : tie.Need-mul-write-c-step Inv-loop μ-loop
+mul-write-c-step c = search needs
+
+-- src/lib.rt:61:28
+sub-write-c-step : tie.Need-sub-write-c-step Inv-loop μ-loop
+sub-write-c-step c = search needs
+
+-- src/lib.rt:61:28
+part-write-c-step-start : tie.Need-part-write-c-step-start Inv-loop μ-loop
+part-write-c-step-start c = search needs
+
+-- src/lib.rt:61:28
+part-write-c-step-end : tie.Need-part-write-c-step-end Inv-loop μ-loop
+part-write-c-step-end c = search needs
+
+-- src/lib.rt:61:15
+write-c-step-requires : tie.Need-write-c-step-requires Inv-loop μ-loop
+unfolding wordsC
+write-c-step-requires c κs =
+    simp (length-take, length-drop) (
+    let g : ℕ → List ℤ = stepC (c .before .before .before .before .args .s) in
+    let lt : c .before .before .loop .t < suc (c .before .before .before .before .args .s .m) = omega arith in
+    let r = for-room g lt in
+    let h = c .before .before .before .before .pre .1 in
+    search needs)
+
+-- src/lib.rt:61:9
+add-at : tie.Need-add-at Inv-loop μ-loop
+unfolding wordsC
+add-at c =
+    let g : ℕ → List ℤ = stepC (c .before .before .before .before .before .before .args .s) in
+    let lt : c .before .before .before .before .loop .t < suc (c .before .before .before .before .before .before .args .s .m) = omega arith in
+    let r = for-room g lt in
+    let h = c .before .before .before .before .before .before .pre .1 in
+    let q : c .before .write-c-step .result ≡ length (g (c .before .before .before .before .loop .t)) = c .before .write-c-step .ensures .0 in omega arith
+
+-- src/lib.rt:60:9
+add-t : tie.Need-add-t Inv-loop μ-loop
+add-t c = search needs
+
+-- src/lib.rt:60:5
+loop-less : tie.Need-loop-less Inv-loop μ-loop
+loop-less c = search needs
+
+-- src/lib.rt:60:5
+loop-again : tie.Need-loop-again Inv-loop μ-loop
+unfolding wordsC
+loop-again c =
+    let g : ℕ → List ℤ = stepC (c .before .before .before .before .before .before .args .s) in
+    let lt : c .before .before .before .before .loop .t < suc (c .before .before .before .before .before .before .args .s .m) = omega arith in
+    let r = for-room g lt in
+    let h = c .before .before .before .before .before .before .pre .1 in
+    let l = c .before .before .before .before .loop in
+    let q : c .before .write-c-step .result ≡ length (g (l .t)) = c .before .write-c-step .ensures .0 in
+    (
+      omega arith,
+      (
+        omega arith,
+        (
+          c .f .given .1 ∙ l .inv .1 .1 .0,
+          (
+            for-next g (l .t) (l .at) (c .before .write-c-step .result) (l .inv .1 .1 .1 .0) q,
+            for-turn g (l .f) (c .before .before .before .before .before .before .args .f .now) (c .before .write-c-step .last .0) (l .t) (l .at) (l .inv .1 .1 .1 .1) (l .inv .1 .1 .1 .0) (omega arith) (c .before .write-c-step .ensures .1),
+          ),
+        ),
+      ),
+    )
+
+-- src/lib.rt:53:1
+same-length : tie.Need-same-length Inv-loop μ-loop
+same-length c = c .before .loop .inv .1 .1 .0
+
+-- src/lib.rt:53:1
+returns : tie.Need-returns Inv-loop μ-loop
+unfolding wordsC
+returns c =
+    let g : ℕ → List ℤ = stepC (c .before .before .before .args .s) in
+    let l = c .before .loop in
+    let e : l .t ≡ suc (c .before .before .before .args .s .m) = omega arith in
+    (
+      l .inv .1 .1 .1 .0 ∙ ap (λ (j : ℕ). length (for j g)) e,
+      l .inv .1 .1 .1 .1 ∙ ap (λ (j : ℕ). filled (for j g) (c .before .before .before .args .f .now)) e,
+    )
+
+pub write-c-spec : {M : Type 1} → statement M
+write-c-spec =
+    tie.close
+    (tie.spec
+    Inv-loop
+    μ-loop
+    add-end
+    loop-holds
+    mul-write-c-step
+    sub-write-c-step
+    part-write-c-step-start
+    part-write-c-step-end
+    write-c-step-requires
+    add-at
+    add-t
+    loop-less
+    loop-again
+    same-length
+    returns)

@@ -1,0 +1,136 @@
+
+use mathlib.Core.Path.{_≡_, refl, sym, _∙_, ap}
+use mathlib.Core.List.{List, [], _∷_, _++_}
+use Prim.Native.Nat.{ℕ, suc, _+_, _-_, _*_, _≤_, _<_}
+use native.Mathlib.Omega.{arith}
+use lib.ListN.{length, take, drop, length-take, length-drop}
+use lib.IntN.{ℤ}
+use Rattle.lists.specs.Loop.{for}
+use Rattle.lists.specs.Slice.{filled}
+use Rattle.lists.proofs.Slices.{filled-nil, for-turn, for-next, for-room}
+use Rattle.formula.specs.Variables.{X, ¬X}
+use Rattle.formula.specs.Formula.{line}
+use mir.Facts.{toZ-ofZ}
+use borrow.Author.Needs.{sfits-of}
+use Rattle.clauses.specs.Lines.{somewhere}
+use Rattle.families.specs.Rows.{stepC}
+use borrow.Author.Needs.{needs}
+use Rattle.families.proofs.write_c_step.Statement.{statement}
+use Rattle.families.proofs.write_c_step.Tie as tie
+use Rattle.families.proofs.write_c_step.Reads as reads
+use Rattle.families.proofs.write_c_step.Lts as lts
+use Rattle.clauses.proofs.put_somewhere.Reads as put-somewhere-reads
+
+abbrev Inv-loop : tie.InvT-loop
+Inv-loop f₀ s t end at₀ a₀ f at a = (a ≤ end) × ((at ≤ length f₀) × ((length f ≡ length f₀) × ((at ≡ length (for a (λ a. line (somewhere s (t .0) a)))) × (f ≡ filled (for a (λ a. line (somewhere s (t .0) a))) f₀))))
+
+abbrev μ-loop : tie.MeasureT-loop
+μ-loop f₀ s t end at₀ a₀ f at a = end - a
+
+-- src/lib.rt:46:5
+loop-holds : tie.Need-loop-holds Inv-loop μ-loop
+loop-holds c = (omega arith, (omega arith, (refl, (refl, sym (filled-nil _)))))
+
+-- src/lib.rt:47:38
+mul-put-somewhere : tie.Need-mul-put-somewhere Inv-loop μ-loop
+mul-put-somewhere c = search needs
+
+-- src/lib.rt:47:38
+sub-put-somewhere : tie.Need-sub-put-somewhere Inv-loop μ-loop
+sub-put-somewhere c = search needs
+
+-- src/lib.rt:47:38
+part-put-somewhere-start : tie.Need-part-put-somewhere-start Inv-loop μ-loop
+part-put-somewhere-start c = search needs
+
+-- src/lib.rt:47:38
+part-put-somewhere-end : tie.Need-part-put-somewhere-end Inv-loop μ-loop
+part-put-somewhere-end c = search needs
+
+-- src/lib.rt:47:15
+put-somewhere-requires : tie.Need-put-somewhere-requires Inv-loop μ-loop
+unfolding stepC
+put-somewhere-requires c κs =
+    simp (length-take, length-drop) (
+    let g : ℕ → List ℤ = λ a. line (somewhere (c .before .before .before .args .s) (c .before .before .before .args .t .0) a) in
+    let lt : c .before .before .loop .a < c .before .before .before .args .s .k = omega arith in
+    let r = for-room g lt in
+    let h = c .before .before .before .pre .1 .1 in
+    search needs)
+
+-- src/lib.rt:47:9
+add-at : tie.Need-add-at Inv-loop μ-loop
+unfolding stepC
+add-at c =
+    let g : ℕ → List ℤ = λ a. line (somewhere (c .before .before .before .before .before .args .s) (c .before .before .before .before .before .args .t .0) a) in
+    let lt : c .before .before .before .before .loop .a < c .before .before .before .before .before .args .s .k = omega arith in
+    let r = for-room g lt in
+    let h = c .before .before .before .before .before .pre .1 .1 in
+    let q : c .before .put-somewhere .result ≡ length (g (c .before .before .before .before .loop .a)) = c .before .put-somewhere .ensures .0 in omega arith
+
+-- src/lib.rt:46:9
+add-a : tie.Need-add-a Inv-loop μ-loop
+add-a c = search needs
+
+-- src/lib.rt:46:5
+loop-less : tie.Need-loop-less Inv-loop μ-loop
+loop-less c = search needs
+
+-- src/lib.rt:46:5
+loop-again : tie.Need-loop-again Inv-loop μ-loop
+unfolding stepC
+loop-again c =
+    let g : ℕ → List ℤ = λ a. line (somewhere (c .before .before .before .before .before .args .s) (c .before .before .before .before .before .args .t .0) a) in
+    let lt : c .before .before .before .before .loop .a < c .before .before .before .before .before .args .s .k = omega arith in
+    let r = for-room g lt in
+    let h = c .before .before .before .before .before .pre .1 .1 in
+    let l = c .before .before .before .before .loop in
+    let q : c .before .put-somewhere .result ≡ length (g (l .a)) = c .before .put-somewhere .ensures .0 in
+    (
+      omega arith,
+      (
+        omega arith,
+        (
+          c .f .given .1 ∙ l .inv .1 .1 .0,
+          (
+            for-next g (l .a) (l .at) (c .before .put-somewhere .result) (l .inv .1 .1 .1 .0) q,
+            for-turn g (l .f) (c .before .before .before .before .before .args .f .now) (c .before .put-somewhere .last .0) (l .a) (l .at) (l .inv .1 .1 .1 .1) (l .inv .1 .1 .1 .0) (omega arith) (c .before .put-somewhere .ensures .1),
+          ),
+        ),
+      ),
+    )
+
+-- src/lib.rt:38:1
+same-length : tie.Need-same-length Inv-loop μ-loop
+same-length c = c .before .loop .inv .1 .1 .0
+
+-- src/lib.rt:38:1
+returns : tie.Need-returns Inv-loop μ-loop
+unfolding stepC
+returns c =
+    let g : ℕ → List ℤ = λ a. line (somewhere (c .before .before .args .s) (c .before .before .args .t .0) a) in
+    let l = c .before .loop in
+    let e : l .a ≡ c .before .before .args .s .k = omega arith in
+    (
+      l .inv .1 .1 .1 .0 ∙ ap (λ (j : ℕ). length (for j g)) e,
+      l .inv .1 .1 .1 .1 ∙ ap (λ (j : ℕ). filled (for j g) (c .before .before .args .f .now)) e,
+    )
+
+pub write-c-step-spec : {M : Type 1} → statement M
+write-c-step-spec =
+    tie.close
+    (tie.spec
+    Inv-loop
+    μ-loop
+    loop-holds
+    mul-put-somewhere
+    sub-put-somewhere
+    part-put-somewhere-start
+    part-put-somewhere-end
+    put-somewhere-requires
+    add-at
+    add-a
+    loop-less
+    loop-again
+    same-length
+    returns)

@@ -1,0 +1,138 @@
+
+
+
+use mathlib.Core.Path.{_≡_, refl, sym, _∙_, ap}
+use mathlib.Core.List.{List, [], _∷_, _++_}
+use Prim.Native.Nat.{ℕ, suc, _+_, _-_, _*_, _≤_, _<_}
+use native.Mathlib.Omega.{arith}
+use lib.ListN.{length, take, drop, length-take, length-drop}
+use lib.IntN.{ℤ}
+use Rattle.lists.specs.Loop.{for}
+use Rattle.lists.specs.Slice.{filled}
+use Rattle.lists.proofs.Slices.{filled-nil, for-turn, for-next, for-room}
+use Rattle.formula.specs.Variables.{X, ¬X}
+use Rattle.formula.specs.Formula.{line}
+use mir.Facts.{toZ-ofZ}
+use borrow.Author.Needs.{sfits-of}
+use Rattle.families.specs.Rows.{vertexD}
+use Rattle.families.specs.Rows.{agentD}
+use borrow.Author.Needs.{needs}
+use Rattle.families.proofs.write_d_agent.Statement.{statement}
+use Rattle.families.proofs.write_d_agent.Tie as tie
+use Rattle.families.proofs.write_d_agent.Reads as reads
+use Rattle.families.proofs.write_d_agent.Lts as lts
+use Rattle.families.proofs.write_d_vertex.Reads as write-d-vertex-reads
+
+abbrev Inv-loop : tie.InvT-loop
+Inv-loop f₀ s t a end at₀ v₀ f at v = (v ≤ end) × ((at ≤ length f₀) × ((length f ≡ length f₀) × ((at ≡ length (for v (vertexD s (t .0) (a .0)))) × (f ≡ filled (for v (vertexD s (t .0) (a .0))) f₀))))
+
+abbrev μ-loop : tie.MeasureT-loop
+μ-loop f₀ s t a end at₀ v₀ f at v = end - v
+
+-- src/lib.rt:92:5
+loop-holds : tie.Need-loop-holds Inv-loop μ-loop
+loop-holds c = (omega arith, (omega arith, (refl, (refl, sym (filled-nil _)))))
+
+-- src/lib.rt:93:30
+mul-write-d-vertex : tie.Need-mul-write-d-vertex Inv-loop μ-loop
+mul-write-d-vertex c = search needs
+
+-- src/lib.rt:93:30
+sub-write-d-vertex : tie.Need-sub-write-d-vertex Inv-loop μ-loop
+sub-write-d-vertex c = search needs
+
+-- src/lib.rt:93:30
+part-write-d-vertex-start : tie.Need-part-write-d-vertex-start Inv-loop μ-loop
+part-write-d-vertex-start c = search needs
+
+-- src/lib.rt:93:30
+part-write-d-vertex-end : tie.Need-part-write-d-vertex-end Inv-loop μ-loop
+part-write-d-vertex-end c = search needs
+
+-- src/lib.rt:93:15
+write-d-vertex-requires : tie.Need-write-d-vertex-requires Inv-loop μ-loop
+unfolding agentD
+write-d-vertex-requires c κs =
+    simp (length-take, length-drop) (
+    let g : ℕ → List ℤ = vertexD (c .before .before .before .args .s) (c .before .before .before .args .t .0) (c .before .before .before .args .a .0) in
+    let lt : c .before .before .loop .v < c .before .before .before .args .s .n = omega arith in
+    let r = for-room g lt in
+    let h = c .before .before .before .pre .1 .1 in
+    search needs)
+
+-- src/lib.rt:93:9
+add-at : tie.Need-add-at Inv-loop μ-loop
+unfolding agentD
+add-at c =
+    let g : ℕ → List ℤ = vertexD (c .before .before .before .before .before .args .s) (c .before .before .before .before .before .args .t .0) (c .before .before .before .before .before .args .a .0) in
+    let lt : c .before .before .before .before .loop .v < c .before .before .before .before .before .args .s .n = omega arith in
+    let r = for-room g lt in
+    let h = c .before .before .before .before .before .pre .1 .1 in
+    let q : c .before .write-d-vertex .result ≡ length (g (c .before .before .before .before .loop .v)) = c .before .write-d-vertex .ensures .0 in omega arith
+
+-- src/lib.rt:92:9
+add-v : tie.Need-add-v Inv-loop μ-loop
+add-v c = search needs
+
+-- src/lib.rt:92:5
+loop-less : tie.Need-loop-less Inv-loop μ-loop
+loop-less c = search needs
+
+-- src/lib.rt:92:5
+loop-again : tie.Need-loop-again Inv-loop μ-loop
+unfolding agentD
+loop-again c =
+    let g : ℕ → List ℤ = vertexD (c .before .before .before .before .before .args .s) (c .before .before .before .before .before .args .t .0) (c .before .before .before .before .before .args .a .0) in
+    let lt : c .before .before .before .before .loop .v < c .before .before .before .before .before .args .s .n = omega arith in
+    let r = for-room g lt in
+    let h = c .before .before .before .before .before .pre .1 .1 in
+    let l = c .before .before .before .before .loop in
+    let q : c .before .write-d-vertex .result ≡ length (g (l .v)) = c .before .write-d-vertex .ensures .0 in
+    (
+      omega arith,
+      (
+        omega arith,
+        (
+          c .f .given .1 ∙ l .inv .1 .1 .0,
+          (
+            for-next g (l .v) (l .at) (c .before .write-d-vertex .result) (l .inv .1 .1 .1 .0) q,
+            for-turn g (l .f) (c .before .before .before .before .before .args .f .now) (c .before .write-d-vertex .last .0) (l .v) (l .at) (l .inv .1 .1 .1 .1) (l .inv .1 .1 .1 .0) (omega arith) (c .before .write-d-vertex .ensures .1),
+          ),
+        ),
+      ),
+    )
+
+-- src/lib.rt:84:1
+same-length : tie.Need-same-length Inv-loop μ-loop
+same-length c = c .before .loop .inv .1 .1 .0
+
+-- src/lib.rt:84:1
+returns : tie.Need-returns Inv-loop μ-loop
+unfolding agentD
+returns c =
+    let g : ℕ → List ℤ = vertexD (c .before .before .args .s) (c .before .before .args .t .0) (c .before .before .args .a .0) in
+    let l = c .before .loop in
+    let e : l .v ≡ c .before .before .args .s .n = omega arith in
+    (
+      l .inv .1 .1 .1 .0 ∙ ap (λ (j : ℕ). length (for j g)) e,
+      l .inv .1 .1 .1 .1 ∙ ap (λ (j : ℕ). filled (for j g) (c .before .before .args .f .now)) e,
+    )
+
+pub write-d-agent-spec : {M : Type 1} → statement M
+write-d-agent-spec =
+    tie.close
+    (tie.spec
+    Inv-loop
+    μ-loop
+    loop-holds
+    mul-write-d-vertex
+    sub-write-d-vertex
+    part-write-d-vertex-start
+    part-write-d-vertex-end
+    write-d-vertex-requires
+    add-at
+    add-v
+    loop-less
+    loop-again
+    same-length
+    returns)

@@ -1,0 +1,137 @@
+
+
+use mathlib.Core.Path.{_≡_, refl, sym, _∙_, ap}
+use mathlib.Core.List.{List, [], _∷_, _++_}
+use Prim.Native.Nat.{ℕ, suc, _+_, _-_, _*_, _≤_, _<_}
+use native.Mathlib.Omega.{arith}
+use lib.ListN.{length, take, drop, length-take, length-drop}
+use lib.IntN.{ℤ}
+use Rattle.lists.specs.Loop.{for}
+use Rattle.lists.specs.Slice.{filled}
+use Rattle.lists.proofs.Slices.{filled-nil, for-turn, for-next, for-room}
+use Rattle.formula.specs.Variables.{X, ¬X}
+use Rattle.formula.specs.Formula.{line}
+use mir.Facts.{toZ-ofZ}
+use borrow.Author.Needs.{sfits-of}
+use Rattle.families.specs.Rows.{agentD}
+use Rattle.families.specs.Rows.{stepD}
+use borrow.Author.Needs.{needs}
+use Rattle.families.proofs.write_d_step.Statement.{statement}
+use Rattle.families.proofs.write_d_step.Tie as tie
+use Rattle.families.proofs.write_d_step.Reads as reads
+use Rattle.families.proofs.write_d_step.Lts as lts
+use Rattle.families.proofs.write_d_agent.Reads as write-d-agent-reads
+
+abbrev Inv-loop : tie.InvT-loop
+Inv-loop f₀ s t end at₀ a₀ f at a = (a ≤ end) × ((at ≤ length f₀) × ((length f ≡ length f₀) × ((at ≡ length (for a (agentD s (t .0)))) × (f ≡ filled (for a (agentD s (t .0))) f₀))))
+
+abbrev μ-loop : tie.MeasureT-loop
+μ-loop f₀ s t end at₀ a₀ f at a = end - a
+
+-- src/lib.rt:107:5
+loop-holds : tie.Need-loop-holds Inv-loop μ-loop
+loop-holds c = (omega arith, (omega arith, (refl, (refl, sym (filled-nil _)))))
+
+-- src/lib.rt:108:29
+mul-write-d-agent : tie.Need-mul-write-d-agent Inv-loop μ-loop
+mul-write-d-agent c = search needs
+
+-- src/lib.rt:108:29
+sub-write-d-agent : tie.Need-sub-write-d-agent Inv-loop μ-loop
+sub-write-d-agent c = search needs
+
+-- src/lib.rt:108:29
+part-write-d-agent-start : tie.Need-part-write-d-agent-start Inv-loop μ-loop
+part-write-d-agent-start c = search needs
+
+-- src/lib.rt:108:29
+part-write-d-agent-end : tie.Need-part-write-d-agent-end Inv-loop μ-loop
+part-write-d-agent-end c = search needs
+
+-- src/lib.rt:108:15
+write-d-agent-requires : tie.Need-write-d-agent-requires Inv-loop μ-loop
+unfolding stepD
+write-d-agent-requires c κs =
+    simp (length-take, length-drop) (
+    let g : ℕ → List ℤ = agentD (c .before .before .before .args .s) (c .before .before .before .args .t .0) in
+    let lt : c .before .before .loop .a < c .before .before .before .args .s .k = omega arith in
+    let r = for-room g lt in
+    let h = c .before .before .before .pre .1 .1 in
+    search needs)
+
+-- src/lib.rt:108:9
+add-at : tie.Need-add-at Inv-loop μ-loop
+unfolding stepD
+add-at c =
+    let g : ℕ → List ℤ = agentD (c .before .before .before .before .before .args .s) (c .before .before .before .before .before .args .t .0) in
+    let lt : c .before .before .before .before .loop .a < c .before .before .before .before .before .args .s .k = omega arith in
+    let r = for-room g lt in
+    let h = c .before .before .before .before .before .pre .1 .1 in
+    let q : c .before .write-d-agent .result ≡ length (g (c .before .before .before .before .loop .a)) = c .before .write-d-agent .ensures .0 in omega arith
+
+-- src/lib.rt:107:9
+add-a : tie.Need-add-a Inv-loop μ-loop
+add-a c = search needs
+
+-- src/lib.rt:107:5
+loop-less : tie.Need-loop-less Inv-loop μ-loop
+loop-less c = search needs
+
+-- src/lib.rt:107:5
+loop-again : tie.Need-loop-again Inv-loop μ-loop
+unfolding stepD
+loop-again c =
+    let g : ℕ → List ℤ = agentD (c .before .before .before .before .before .args .s) (c .before .before .before .before .before .args .t .0) in
+    let lt : c .before .before .before .before .loop .a < c .before .before .before .before .before .args .s .k = omega arith in
+    let r = for-room g lt in
+    let h = c .before .before .before .before .before .pre .1 .1 in
+    let l = c .before .before .before .before .loop in
+    let q : c .before .write-d-agent .result ≡ length (g (l .a)) = c .before .write-d-agent .ensures .0 in
+    (
+      omega arith,
+      (
+        omega arith,
+        (
+          c .f .given .1 ∙ l .inv .1 .1 .0,
+          (
+            for-next g (l .a) (l .at) (c .before .write-d-agent .result) (l .inv .1 .1 .1 .0) q,
+            for-turn g (l .f) (c .before .before .before .before .before .args .f .now) (c .before .write-d-agent .last .0) (l .a) (l .at) (l .inv .1 .1 .1 .1) (l .inv .1 .1 .1 .0) (omega arith) (c .before .write-d-agent .ensures .1),
+          ),
+        ),
+      ),
+    )
+
+-- src/lib.rt:99:1
+same-length : tie.Need-same-length Inv-loop μ-loop
+same-length c = c .before .loop .inv .1 .1 .0
+
+-- src/lib.rt:99:1
+returns : tie.Need-returns Inv-loop μ-loop
+unfolding stepD
+returns c =
+    let g : ℕ → List ℤ = agentD (c .before .before .args .s) (c .before .before .args .t .0) in
+    let l = c .before .loop in
+    let e : l .a ≡ c .before .before .args .s .k = omega arith in
+    (
+      l .inv .1 .1 .1 .0 ∙ ap (λ (j : ℕ). length (for j g)) e,
+      l .inv .1 .1 .1 .1 ∙ ap (λ (j : ℕ). filled (for j g) (c .before .before .args .f .now)) e,
+    )
+
+pub write-d-step-spec : {M : Type 1} → statement M
+write-d-step-spec =
+    tie.close
+    (tie.spec
+    Inv-loop
+    μ-loop
+    loop-holds
+    mul-write-d-agent
+    sub-write-d-agent
+    part-write-d-agent-start
+    part-write-d-agent-end
+    write-d-agent-requires
+    add-at
+    add-a
+    loop-less
+    loop-again
+    same-length
+    returns)

@@ -1,0 +1,137 @@
+
+
+use mathlib.Core.Path.{_≡_, refl, sym, _∙_, ap}
+use mathlib.Core.List.{List, [], _∷_, _++_}
+use Prim.Native.Nat.{ℕ, suc, _+_, _-_, _*_, _≤_, _<_}
+use native.Mathlib.Omega.{arith}
+use lib.ListN.{length, take, drop, length-take, length-drop}
+use lib.IntN.{ℤ}
+use Rattle.lists.specs.Loop.{for}
+use Rattle.lists.specs.Slice.{filled}
+use Rattle.lists.proofs.Slices.{filled-nil, for-turn, for-next, for-room}
+use Rattle.formula.specs.Variables.{X, ¬X}
+use Rattle.formula.specs.Formula.{line}
+use mir.Facts.{toZ-ofZ}
+use borrow.Author.Needs.{sfits-of}
+use Rattle.families.specs.Rows.{stepF}
+use Rattle.families.specs.Rows.{wordsF}
+use borrow.Author.Needs.{needs}
+use Rattle.families.proofs.write_f.Statement.{statement}
+use Rattle.families.proofs.write_f.Tie as tie
+use Rattle.families.proofs.write_f.Reads as reads
+use Rattle.families.proofs.write_f.Lts as lts
+use Rattle.families.proofs.write_f_step.Reads as write-f-step-reads
+
+abbrev Inv-loop : tie.InvT-loop
+Inv-loop f₀ s table end at₀ t₀ f at t = (t ≤ end) × ((at ≤ length f₀) × ((length f ≡ length f₀) × ((at ≡ length (for t (stepF s table))) × (f ≡ filled (for t (stepF s table)) f₀))))
+
+abbrev μ-loop : tie.MeasureT-loop
+μ-loop f₀ s table end at₀ t₀ f at t = end - t
+
+-- src/lib.rt:231:5
+loop-holds : tie.Need-loop-holds Inv-loop μ-loop
+loop-holds c = (omega arith, (omega arith, (refl, (refl, sym (filled-nil _)))))
+
+-- src/lib.rt:232:28
+mul-write-f-step : tie.Need-mul-write-f-step Inv-loop μ-loop
+mul-write-f-step c = search needs
+
+-- src/lib.rt:232:28
+sub-write-f-step : tie.Need-sub-write-f-step Inv-loop μ-loop
+sub-write-f-step c = search needs
+
+-- src/lib.rt:232:28
+part-write-f-step-start : tie.Need-part-write-f-step-start Inv-loop μ-loop
+part-write-f-step-start c = search needs
+
+-- src/lib.rt:232:28
+part-write-f-step-end : tie.Need-part-write-f-step-end Inv-loop μ-loop
+part-write-f-step-end c = search needs
+
+-- src/lib.rt:232:15
+write-f-step-requires : tie.Need-write-f-step-requires Inv-loop μ-loop
+unfolding wordsF
+write-f-step-requires c κs =
+    simp (length-take, length-drop) (
+    let g : ℕ → List ℤ = stepF (c .before .before .before .before .args .s) (c .before .before .before .before .args .table .now) in
+    let lt : c .before .before .loop .t < c .before .before .before .before .args .s .m = omega arith in
+    let r = for-room g lt in
+    let h = c .before .before .before .before .pre .1 .1 in
+    search needs)
+
+-- src/lib.rt:232:9
+add-at : tie.Need-add-at Inv-loop μ-loop
+unfolding wordsF
+add-at c =
+    let g : ℕ → List ℤ = stepF (c .before .before .before .before .before .before .args .s) (c .before .before .before .before .before .before .args .table .now) in
+    let lt : c .before .before .before .before .loop .t < c .before .before .before .before .before .before .args .s .m = omega arith in
+    let r = for-room g lt in
+    let h = c .before .before .before .before .before .before .pre .1 .1 in
+    let q : c .before .write-f-step .result ≡ length (g (c .before .before .before .before .loop .t)) = c .before .write-f-step .ensures .0 in omega arith
+
+-- src/lib.rt:231:9
+add-t : tie.Need-add-t Inv-loop μ-loop
+add-t c = search needs
+
+-- src/lib.rt:231:5
+loop-less : tie.Need-loop-less Inv-loop μ-loop
+loop-less c = search needs
+
+-- src/lib.rt:231:5
+loop-again : tie.Need-loop-again Inv-loop μ-loop
+unfolding wordsF
+loop-again c =
+    let g : ℕ → List ℤ = stepF (c .before .before .before .before .before .before .args .s) (c .before .before .before .before .before .before .args .table .now) in
+    let lt : c .before .before .before .before .loop .t < c .before .before .before .before .before .before .args .s .m = omega arith in
+    let r = for-room g lt in
+    let h = c .before .before .before .before .before .before .pre .1 .1 in
+    let l = c .before .before .before .before .loop in
+    let q : c .before .write-f-step .result ≡ length (g (l .t)) = c .before .write-f-step .ensures .0 in
+    (
+      omega arith,
+      (
+        omega arith,
+        (
+          c .f .given .1 ∙ l .inv .1 .1 .0,
+          (
+            for-next g (l .t) (l .at) (c .before .write-f-step .result) (l .inv .1 .1 .1 .0) q,
+            for-turn g (l .f) (c .before .before .before .before .before .before .args .f .now) (c .before .write-f-step .last .0) (l .t) (l .at) (l .inv .1 .1 .1 .1) (l .inv .1 .1 .1 .0) (omega arith) (c .before .write-f-step .ensures .1),
+          ),
+        ),
+      ),
+    )
+
+-- src/lib.rt:223:1
+same-length : tie.Need-same-length Inv-loop μ-loop
+same-length c = c .before .loop .inv .1 .1 .0
+
+-- src/lib.rt:223:1
+returns : tie.Need-returns Inv-loop μ-loop
+unfolding wordsF
+returns c =
+    let g : ℕ → List ℤ = stepF (c .before .before .before .args .s) (c .before .before .before .args .table .now) in
+    let l = c .before .loop in
+    let e : l .t ≡ c .before .before .before .args .s .m = omega arith in
+    (
+      l .inv .1 .1 .1 .0 ∙ ap (λ (j : ℕ). length (for j g)) e,
+      l .inv .1 .1 .1 .1 ∙ ap (λ (j : ℕ). filled (for j g) (c .before .before .before .args .f .now)) e,
+    )
+
+pub write-f-spec : {M : Type 1} → statement M
+write-f-spec =
+    tie.close
+    (tie.spec
+    Inv-loop
+    μ-loop
+    loop-holds
+    mul-write-f-step
+    sub-write-f-step
+    part-write-f-step-start
+    part-write-f-step-end
+    write-f-step-requires
+    add-at
+    add-t
+    loop-less
+    loop-again
+    same-length
+    returns)

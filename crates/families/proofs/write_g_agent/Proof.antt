@@ -1,0 +1,137 @@
+
+
+use mathlib.Core.Path.{_≡_, refl, sym, _∙_, ap}
+use mathlib.Core.List.{List, [], _∷_, _++_}
+use Prim.Native.Nat.{ℕ, suc, _+_, _-_, _*_, _≤_, _<_}
+use native.Mathlib.Omega.{arith}
+use lib.ListN.{length, take, drop, length-take, length-drop}
+use lib.IntN.{ℤ}
+use Rattle.lists.specs.Loop.{for}
+use Rattle.lists.specs.Slice.{filled}
+use Rattle.lists.proofs.Slices.{filled-nil, for-turn, for-next, for-room}
+use Rattle.formula.specs.Variables.{X, ¬X}
+use Rattle.formula.specs.Formula.{line}
+use mir.Facts.{toZ-ofZ}
+use borrow.Author.Needs.{sfits-of}
+use Rattle.families.specs.Rows.{otherG}
+use Rattle.families.specs.Rows.{agentG}
+use borrow.Author.Needs.{needs}
+use Rattle.families.proofs.write_g_agent.Statement.{statement}
+use Rattle.families.proofs.write_g_agent.Tie as tie
+use Rattle.families.proofs.write_g_agent.Reads as reads
+use Rattle.families.proofs.write_g_agent.Lts as lts
+use Rattle.families.proofs.write_g_other.Reads as write-g-other-reads
+
+abbrev Inv-loop : tie.InvT-loop
+Inv-loop f₀ s t a end at₀ b₀ f at b = (b ≤ end) × ((at ≤ length f₀) × ((length f ≡ length f₀) × ((at ≡ length (for b (otherG s (t .0) (a .0)))) × (f ≡ filled (for b (otherG s (t .0) (a .0))) f₀))))
+
+abbrev μ-loop : tie.MeasureT-loop
+μ-loop f₀ s t a end at₀ b₀ f at b = end - b
+
+-- src/lib.rt:277:5
+loop-holds : tie.Need-loop-holds Inv-loop μ-loop
+loop-holds c = (omega arith, (omega arith, (refl, (refl, sym (filled-nil _)))))
+
+-- src/lib.rt:278:29
+mul-write-g-other : tie.Need-mul-write-g-other Inv-loop μ-loop
+mul-write-g-other c = search needs
+
+-- src/lib.rt:278:29
+sub-write-g-other : tie.Need-sub-write-g-other Inv-loop μ-loop
+sub-write-g-other c = search needs
+
+-- src/lib.rt:278:29
+part-write-g-other-start : tie.Need-part-write-g-other-start Inv-loop μ-loop
+part-write-g-other-start c = search needs
+
+-- src/lib.rt:278:29
+part-write-g-other-end : tie.Need-part-write-g-other-end Inv-loop μ-loop
+part-write-g-other-end c = search needs
+
+-- src/lib.rt:278:15
+write-g-other-requires : tie.Need-write-g-other-requires Inv-loop μ-loop
+unfolding agentG
+write-g-other-requires c κs =
+    simp (length-take, length-drop) (
+    let g : ℕ → List ℤ = otherG (c .before .before .before .args .s) (c .before .before .before .args .t .0) (c .before .before .before .args .a .0) in
+    let lt : c .before .before .loop .b < c .before .before .before .args .s .k = omega arith in
+    let r = for-room g lt in
+    let h = c .before .before .before .pre .1 .1 in
+    search needs)
+
+-- src/lib.rt:278:9
+add-at : tie.Need-add-at Inv-loop μ-loop
+unfolding agentG
+add-at c =
+    let g : ℕ → List ℤ = otherG (c .before .before .before .before .before .args .s) (c .before .before .before .before .before .args .t .0) (c .before .before .before .before .before .args .a .0) in
+    let lt : c .before .before .before .before .loop .b < c .before .before .before .before .before .args .s .k = omega arith in
+    let r = for-room g lt in
+    let h = c .before .before .before .before .before .pre .1 .1 in
+    let q : c .before .write-g-other .result ≡ length (g (c .before .before .before .before .loop .b)) = c .before .write-g-other .ensures .0 in omega arith
+
+-- src/lib.rt:277:9
+add-b : tie.Need-add-b Inv-loop μ-loop
+add-b c = search needs
+
+-- src/lib.rt:277:5
+loop-less : tie.Need-loop-less Inv-loop μ-loop
+loop-less c = search needs
+
+-- src/lib.rt:277:5
+loop-again : tie.Need-loop-again Inv-loop μ-loop
+unfolding agentG
+loop-again c =
+    let g : ℕ → List ℤ = otherG (c .before .before .before .before .before .args .s) (c .before .before .before .before .before .args .t .0) (c .before .before .before .before .before .args .a .0) in
+    let lt : c .before .before .before .before .loop .b < c .before .before .before .before .before .args .s .k = omega arith in
+    let r = for-room g lt in
+    let h = c .before .before .before .before .before .pre .1 .1 in
+    let l = c .before .before .before .before .loop in
+    let q : c .before .write-g-other .result ≡ length (g (l .b)) = c .before .write-g-other .ensures .0 in
+    (
+      omega arith,
+      (
+        omega arith,
+        (
+          c .f .given .1 ∙ l .inv .1 .1 .0,
+          (
+            for-next g (l .b) (l .at) (c .before .write-g-other .result) (l .inv .1 .1 .1 .0) q,
+            for-turn g (l .f) (c .before .before .before .before .before .args .f .now) (c .before .write-g-other .last .0) (l .b) (l .at) (l .inv .1 .1 .1 .1) (l .inv .1 .1 .1 .0) (omega arith) (c .before .write-g-other .ensures .1),
+          ),
+        ),
+      ),
+    )
+
+-- src/lib.rt:269:1
+same-length : tie.Need-same-length Inv-loop μ-loop
+same-length c = c .before .loop .inv .1 .1 .0
+
+-- src/lib.rt:269:1
+returns : tie.Need-returns Inv-loop μ-loop
+unfolding agentG
+returns c =
+    let g : ℕ → List ℤ = otherG (c .before .before .args .s) (c .before .before .args .t .0) (c .before .before .args .a .0) in
+    let l = c .before .loop in
+    let e : l .b ≡ c .before .before .args .s .k = omega arith in
+    (
+      l .inv .1 .1 .1 .0 ∙ ap (λ (j : ℕ). length (for j g)) e,
+      l .inv .1 .1 .1 .1 ∙ ap (λ (j : ℕ). filled (for j g) (c .before .before .args .f .now)) e,
+    )
+
+pub write-g-agent-spec : {M : Type 1} → statement M
+write-g-agent-spec =
+    tie.close
+    (tie.spec
+    Inv-loop
+    μ-loop
+    loop-holds
+    mul-write-g-other
+    sub-write-g-other
+    part-write-g-other-start
+    part-write-g-other-end
+    write-g-other-requires
+    add-at
+    add-b
+    loop-less
+    loop-again
+    same-length
+    returns)

@@ -1,0 +1,153 @@
+
+
+
+use mathlib.Core.Path.{_≡_, refl, sym, _∙_, ap}
+use mathlib.Core.List.{List, [], _∷_, _++_}
+use Prim.Native.Nat.{ℕ, suc, _+_, _-_, _*_, _≤_, _<_}
+use native.Mathlib.Omega.{arith}
+use lib.ListN.{length, take, drop, length-take, length-drop}
+use lib.IntN.{ℤ}
+use Rattle.lists.specs.Loop.{for}
+use Rattle.lists.specs.Slice.{filled}
+use Rattle.lists.proofs.Slices.{filled-nil, for-turn, for-next, for-room}
+use Rattle.formula.specs.Variables.{X, ¬X}
+use Rattle.formula.specs.Formula.{line}
+use mir.Facts.{toZ-ofZ}
+use borrow.Author.Needs.{sfits-of}
+use Rattle.families.specs.Rows.{pairG}
+use borrow.Author.Needs.{needs}
+use Rattle.families.proofs.write_g_pair.Statement.{statement}
+use Rattle.families.proofs.write_g_pair.Tie as tie
+use Rattle.families.proofs.write_g_pair.Reads as reads
+use Rattle.families.proofs.write_g_pair.Lts as lts
+use Rattle.clauses.proofs.negative.Reads as negative-reads
+use Rattle.clauses.proofs.put_pair.Reads as put-pair-reads
+
+abbrev Inv-loop : tie.InvT-loop
+Inv-loop f₀ s t a b end next at₀ v₀ f at v = (v ≤ end) × ((at ≤ length f₀) × ((length f ≡ length f₀) × ((at ≡ length (for v (λ v. line (¬X s (t .0) (b .0) v ∷ ¬X s (t .0 + 1) (a .0) v ∷ [])))) × (f ≡ filled (for v (λ v. line (¬X s (t .0) (b .0) v ∷ ¬X s (t .0 + 1) (a .0) v ∷ []))) f₀))))
+
+abbrev μ-loop : tie.MeasureT-loop
+μ-loop f₀ s t a b end next at₀ v₀ f at v = end - v
+
+-- src/lib.rt:245:21
+add-t10 : tie.Need-add-t10 Inv-loop μ-loop
+add-t10 c = search needs
+
+-- src/lib.rt:247:5
+loop-holds : tie.Need-loop-holds Inv-loop μ-loop
+loop-holds c = (omega arith, (omega arith, (refl, (refl, sym (filled-nil _)))))
+
+-- src/lib.rt:248:33
+mul-put-pair : tie.Need-mul-put-pair Inv-loop μ-loop
+mul-put-pair c = search needs
+
+-- src/lib.rt:248:33
+sub-put-pair : tie.Need-sub-put-pair Inv-loop μ-loop
+sub-put-pair c = search needs
+
+-- src/lib.rt:248:33
+part-put-pair-start : tie.Need-part-put-pair-start Inv-loop μ-loop
+part-put-pair-start c = search needs
+
+-- src/lib.rt:248:33
+part-put-pair-end : tie.Need-part-put-pair-end Inv-loop μ-loop
+part-put-pair-end c = search needs
+
+-- src/lib.rt:248:47
+negative-requires : tie.Need-negative-requires Inv-loop μ-loop
+negative-requires c κs = search needs
+
+-- src/lib.rt:248:86
+negative-requires-2 : tie.Need-negative-requires-2 Inv-loop μ-loop
+negative-requires-2 c κs = search needs
+
+-- src/lib.rt:248:15
+put-pair-requires : tie.Need-put-pair-requires Inv-loop μ-loop
+unfolding pairG
+put-pair-requires c κs =
+    simp (length-take, length-drop) (
+    let g : ℕ → List ℤ = λ v. line (¬X (c .before .before .before .before .before .before .args .s) (c .before .before .before .before .before .before .args .t .0) (c .before .before .before .before .before .before .args .b .0) v ∷ ¬X (c .before .before .before .before .before .before .args .s) (c .before .before .before .before .before .before .args .t .0 + 1) (c .before .before .before .before .before .before .args .a .0) v ∷ []) in
+    let lt : c .before .before .before .before .loop .v < c .before .before .before .before .before .before .args .s .n = omega arith in
+    let r = for-room g lt in
+    let h = c .before .before .before .before .before .before .pre .1 .1 in
+    search needs)
+
+-- src/lib.rt:248:9
+add-at : tie.Need-add-at Inv-loop μ-loop
+unfolding pairG
+add-at c =
+    let g : ℕ → List ℤ = λ v. line (¬X (c .before .before .before .before .before .before .before .before .args .s) (c .before .before .before .before .before .before .before .before .args .t .0) (c .before .before .before .before .before .before .before .before .args .b .0) v ∷ ¬X (c .before .before .before .before .before .before .before .before .args .s) (c .before .before .before .before .before .before .before .before .args .t .0 + 1) (c .before .before .before .before .before .before .before .before .args .a .0) v ∷ []) in
+    let lt : c .before .before .before .before .before .before .loop .v < c .before .before .before .before .before .before .before .before .args .s .n = omega arith in
+    let r = for-room g lt in
+    let h = c .before .before .before .before .before .before .before .before .pre .1 .1 in
+    let q : c .before .put-pair .result ≡ length (g (c .before .before .before .before .before .before .loop .v)) = c .before .put-pair .ensures .0 in omega arith
+
+-- src/lib.rt:247:9
+add-v : tie.Need-add-v Inv-loop μ-loop
+add-v c = search needs
+
+-- src/lib.rt:247:5
+loop-less : tie.Need-loop-less Inv-loop μ-loop
+loop-less c = search needs
+
+-- src/lib.rt:247:5
+loop-again : tie.Need-loop-again Inv-loop μ-loop
+unfolding pairG
+loop-again c =
+    let g : ℕ → List ℤ = λ v. line (¬X (c .before .before .before .before .before .before .before .before .args .s) (c .before .before .before .before .before .before .before .before .args .t .0) (c .before .before .before .before .before .before .before .before .args .b .0) v ∷ ¬X (c .before .before .before .before .before .before .before .before .args .s) (c .before .before .before .before .before .before .before .before .args .t .0 + 1) (c .before .before .before .before .before .before .before .before .args .a .0) v ∷ []) in
+    let lt : c .before .before .before .before .before .before .loop .v < c .before .before .before .before .before .before .before .before .args .s .n = omega arith in
+    let r = for-room g lt in
+    let h = c .before .before .before .before .before .before .before .before .pre .1 .1 in
+    let l = c .before .before .before .before .before .before .loop in
+    let q : c .before .put-pair .result ≡ length (g (l .v)) = c .before .put-pair .ensures .0 in
+    (
+      omega arith,
+      (
+        omega arith,
+        (
+          c .f .given .1 ∙ l .inv .1 .1 .0,
+          (
+            for-next g (l .v) (l .at) (c .before .put-pair .result) (l .inv .1 .1 .1 .0) q,
+            for-turn g (l .f) (c .before .before .before .before .before .before .before .before .args .f .now) (c .before .put-pair .last .0) (l .v) (l .at) (l .inv .1 .1 .1 .1) (l .inv .1 .1 .1 .0) (omega arith) (rw (toZ-ofZ (sfits-of (c .before .before .before .negative .ok)), c .before .before .before .negative .ensures, toZ-ofZ (sfits-of (c .before .before .negative2 .ok)), c .before .before .negative2 .ensures) at (c .before .put-pair .ensures .1)),
+          ),
+        ),
+      ),
+    )
+
+-- src/lib.rt:238:1
+same-length : tie.Need-same-length Inv-loop μ-loop
+same-length c = c .before .loop .inv .1 .1 .0
+
+-- src/lib.rt:238:1
+returns : tie.Need-returns Inv-loop μ-loop
+unfolding pairG
+returns c =
+    let g : ℕ → List ℤ = λ v. line (¬X (c .before .before .before .args .s) (c .before .before .before .args .t .0) (c .before .before .before .args .b .0) v ∷ ¬X (c .before .before .before .args .s) (c .before .before .before .args .t .0 + 1) (c .before .before .before .args .a .0) v ∷ []) in
+    let l = c .before .loop in
+    let e : l .v ≡ c .before .before .before .args .s .n = omega arith in
+    (
+      l .inv .1 .1 .1 .0 ∙ ap (λ (j : ℕ). length (for j g)) e,
+      l .inv .1 .1 .1 .1 ∙ ap (λ (j : ℕ). filled (for j g) (c .before .before .before .args .f .now)) e,
+    )
+
+pub write-g-pair-spec : {M : Type 1} → statement M
+write-g-pair-spec =
+    tie.close
+    (tie.spec
+    Inv-loop
+    μ-loop
+    add-t10
+    loop-holds
+    mul-put-pair
+    sub-put-pair
+    part-put-pair-start
+    part-put-pair-end
+    negative-requires
+    negative-requires-2
+    put-pair-requires
+    add-at
+    add-v
+    loop-less
+    loop-again
+    same-length
+    returns)
