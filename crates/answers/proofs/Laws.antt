@@ -79,6 +79,13 @@ decide-front [] rs c d = absurd (d refl)
 decide-front ([] ∷ qs) rs c d = decide-front qs rs c d
 decide-front ((r ∷ rs′) ∷ qs) rs c d = refl
 
+-- the same, where the count would have been another
+pub decide-refused : (qs rs : List Question) (c d : ℕ) → (decide qs c) .number ≢ 0 → decide (qs ++ rs) d ≡ decide qs c
+unfolding decide
+decide-refused [] rs c d f = absurd (f refl)
+decide-refused ([] ∷ qs) rs c d f = decide-refused qs rs c d f
+decide-refused ((r ∷ rs′) ∷ qs) rs c d f = refl
+
 -- a loop over the items of a question, from item 0 on: each item passes, or item a is the first to fail
 module _ (n : ℕ) (test : ℕ → Bool) (refusal : ℕ → Answer) (qs : List Question) (c : ℕ) where
   pub decide-pass : ((i : ℕ) → i < n → T (test i)) → decide ((for n λ i. unless (test i) (refusal i)) ∷ qs) c ≡ decide qs c

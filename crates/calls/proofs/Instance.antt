@@ -1,7 +1,7 @@
 -- What an accepted instance and horizon are known to have.
-use mathlib.Core.Path.{_≡_, refl}
-use mathlib.Core.Logic.{_↔_, _⊎_, inl, inr, ⊎-elim}
-use mathlib.Core.List.{List}
+use mathlib.Core.Path.{_≡_, refl, sym, _∙_, ap}
+use mathlib.Core.Logic.{_↔_, _≢_, _⊎_, inl, inr, ⊎-elim}
+use mathlib.Core.List.{List, _++_}
 use Prim.Native.Nat.{ℕ, suc, _+_, _*_, _-_, _/_, _≤_, _<_}
 use native.Mathlib.Nat.{mul-le-mul}
 use native.Mathlib.Omega.{arith}
@@ -10,7 +10,9 @@ use lib.Dec.{T, ltb}
 use Rattle.lists.specs.Loop.{all}
 use Rattle.lists.proofs.Tests.{and-iff, or-iff, not-iff, eqb-iff, ltb-iff, leb-iff, every-iff}
 use Rattle.lists.proofs.Loops.{for-all, for-nil, unless-nil, unless-all}
-use Rattle.answers.proofs.Laws.{clear, numbered, clear-iff, decide-iff}
+use Rattle.answers.specs.declared.Answer.{Answer}
+use Rattle.answers.specs.Answers.{Question, decide}
+use Rattle.answers.proofs.Laws.{clear, numbered, clear-iff, decide-iff, decide-after, decide-refused}
 use Rattle.instance.specs.Instance.{Instance, instance, vertices, agents, edges, lowEnd, highEnd}
 use Rattle.instance.proofs.Graph.{Edges}
 use Rattle.formula.proofs.Limits.{Limits}
@@ -28,6 +30,17 @@ module _ (b : List ℕ) (m : ℕ) where
   pub instance-iff : (instanceAnswer b m .number ≡ 0) ↔ T (all clear (instanceQuestions b m))
   unfolding instanceAnswer
   instance-iff = decide-iff (instanceQuestions b m) 0 numbered-instance
+
+  -- every call asks these first: what they refuse, it refuses, and what they pass goes on to its other questions
+  module _ (a : Answer) (ea : a ≡ instanceAnswer b m) (qs : List Question) (count : ℕ) where
+    pub first-refused : a .number ≢ 0 → a ≡ decide (instanceQuestions b m ++ qs) count
+    unfolding instanceAnswer
+    first-refused d =
+        ea ∙ sym (decide-refused (instanceQuestions b m) qs 0 count (λ e. d (ap (λ (x : Answer). x .number) ea ∙ e)))
+
+    pub first-passed : a .number ≡ 0 → decide qs count ≡ decide (instanceQuestions b m ++ qs) count
+    first-passed e =
+        sym (decide-after (instanceQuestions b m) qs count (instance-iff .0 (sym (ap (λ (x : Answer). x .number) ea) ∙ e)))
 
   module _ (ok : T (all clear (instanceQuestions b m))) where
     pub sound : Sound (instance b m)

@@ -36,7 +36,7 @@ module _ (s : Sizes) (w : Limits s) where
   pub pairs-most : (x y : ℕ) → x ≤ y → pairs x ≤ pairs y
   pairs-most x y h = let q : x * (x - 1) ≤ y * (y - 1) = mul-le-mul h (omega arith) in omega arith
 
-  rows : suc m * k ≤ 528
+  pub rows : suc m * k ≤ 528
   rows = mul-le-mul {n₂ = 33} {m₂ = 16} (omega arith) (w .k-most)
 
   pub variables-most : variableCount s ≤ 33792
@@ -45,21 +45,21 @@ module _ (s : Sizes) (w : Limits s) where
       mul-le-mul {n₂ = 1024} {m₂ = 33} q (omega arith)
 
   -- the counts of the five longer families
-  moves : m * k ≤ 512
+  pub moves : m * k ≤ 512
   moves = mul-le-mul {n₂ = 32} {m₂ = 16} (w .m-most) (w .k-most)
 
-  count-D-most : clausesBy s .D ≤ 1064448
+  pub count-D-most : clausesBy s .D ≤ 1064448
   count-D-most = mul-le-mul {n₂ = 528} {m₂ = 2016} rows (pairs-most n 64 (w .n-most))
 
-  count-E-most : clausesBy s .E ≤ 253440
+  pub count-E-most : clausesBy s .E ≤ 253440
   count-E-most =
       let q : suc m * n ≤ 2112 = mul-le-mul {n₂ = 33} {m₂ = 64} (omega arith) (w .n-most) in
       mul-le-mul {n₂ = 2112} {m₂ = 120} q (pairs-most k 16 (w .k-most))
 
-  count-F-most : clausesBy s .F ≤ 32768
+  pub count-F-most : clausesBy s .F ≤ 32768
   count-F-most = mul-le-mul {n₂ = 512} {m₂ = 64} moves (w .n-most)
 
-  count-G-most : clausesBy s .G ≤ 491520
+  pub count-G-most : clausesBy s .G ≤ 491520
   count-G-most =
       let q : m * k * (k - 1) ≤ 7680 = mul-le-mul {n₂ = 512} {m₂ = 15} moves (omega arith) in
       mul-le-mul {n₂ = 7680} {m₂ = 64} q (w .n-most)

@@ -1,0 +1,37 @@
+-- The products that the counts are made of, as the code forms them, and their bounds.
+use mathlib.Core.Path.{_≡_, refl}
+use Prim.Native.Nat.{ℕ, suc, _+_, _*_, _-_, _≤_}
+use native.Mathlib.Nat.{mul-le-mul}
+use native.Mathlib.Numerals.{add-one}
+use native.Mathlib.Omega.{arith}
+use Rattle.instance.specs.declared.Sizes.{Sizes}
+use Rattle.formula.specs.Counts.{pairs}
+use Rattle.formula.proofs.Limits.{Limits, rows, moves, count-D-most, count-E-most, count-F-most, count-G-most}
+
+pub record Products (s : Sizes) : Type 0 where
+  pub rows′ : (s .m + 1) * s .k ≤ 528
+  pub c : (s .m + 1) * s .k * (s .n + 1) ≤ 34320
+  pub d : (s .m + 1) * s .k * pairs (s .n) ≤ 1064448
+  pub columns : (s .m + 1) * s .n ≤ 2112
+  pub e : (s .m + 1) * s .n * pairs (s .k) ≤ 253440
+  pub moves′ : s .m * s .k ≤ 512
+  pub f : s .m * s .k * s .n ≤ 32768
+  pub words : s .m * s .k * (3 * s .n + 2 * s .e) ≤ 2162688
+  pub others : s .m * s .k * (s .k - 1) ≤ 7680
+  pub g : s .m * s .k * (s .k - 1) * s .n ≤ 491520
+
+pub products : (s : Sizes) → Limits s → Products s
+products s w =
+    let r : (s .m + 1) * s .k ≤ 528 = rw add-one (rows s w) in
+    record {
+      rows′ = r;
+      c = mul-le-mul {n₂ = 528} {m₂ = 65} r (omega (arith, w .n-most));
+      d = rw add-one (count-D-most s w);
+      columns = mul-le-mul {n₂ = 33} {m₂ = 64} (omega (arith, w .m-most)) (w .n-most);
+      e = rw add-one (count-E-most s w);
+      moves′ = moves s w;
+      f = count-F-most s w;
+      words = mul-le-mul {n₂ = 512} {m₂ = 4224} (moves s w) (omega (arith, w .n-most, w .e-most));
+      others = mul-le-mul {n₂ = 512} {m₂ = 15} (moves s w) (omega (arith, w .k-most));
+      g = count-G-most s w;
+    }

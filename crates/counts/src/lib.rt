@@ -1,0 +1,69 @@
+// How many clauses and words a formula has, worked out from the sizes.
+use instance::Sizes;
+ghost use mathlib.Core.Path.{_≡_};
+ghost use Prim.Native.Nat.{_*_, _-_, _/_, _≤_};
+ghost use Rattle.formula.specs.Counts.{pairs, clausesBy, clauseCount, wordCount};
+ghost use Rattle.formula.proofs.Limits.{Limits};
+
+// A number for each family.
+pub struct Families {
+    pub a: usize,
+    pub b: usize,
+    pub c: usize,
+    pub d: usize,
+    pub e: usize,
+    pub f: usize,
+    pub g: usize,
+}
+
+// Pairs of two different numbers below n.
+pub fn pair_count(n: usize) -> usize
+    requires { ⌜ n ≤ 64 ⌝ }
+    ensures { λ r. ⌜ (r ≡ pairs n) × (r ≤ 2016) ⌝ }
+{
+    if n == 0 {
+        return 0;
+    }
+    n * (n - 1) / 2
+}
+
+// Clauses by family.
+pub fn clauses_by(s: Sizes) -> Families
+    requires { ⌜ Limits s ⌝ }
+    ensures { λ r. ⌜ (r .a ≡ clausesBy s .A) × (r .b ≡ clausesBy s .B) × (r .c ≡ clausesBy s .C) × (r .d ≡ clausesBy s .D) × (r .e ≡ clausesBy s .E) × (r .f ≡ clausesBy s .F) × (r .g ≡ clausesBy s .G) ⌝ }
+    ensures { λ r. ⌜ (r .a ≤ 16) × (r .b ≤ 16) × (r .c ≤ 528) × (r .d ≤ 1064448) × (r .e ≤ 253440) × (r .f ≤ 32768) × (r .g ≤ 491520) ⌝ }
+{
+    let n = s.n;
+    let k = s.k;
+    let m = s.m;
+    let vertex_pairs = pair_count(n);
+    let agent_pairs = pair_count(k);
+    Families {
+        a: k,
+        b: k,
+        c: (m + 1) * k,
+        d: (m + 1) * k * vertex_pairs,
+        e: (m + 1) * n * agent_pairs,
+        f: m * k * n,
+        g: m * k * (k - 1) * n,
+    }
+}
+
+// Clauses in all.
+pub fn clause_count(s: Sizes) -> usize
+    requires { ⌜ Limits s ⌝ }
+    ensures { λ r. ⌜ r ≡ clauseCount s ⌝ }
+{
+    let c = clauses_by(s);
+    c.a + c.b + c.c + c.d + c.e + c.f + c.g
+}
+
+// Words in all, zeros included.
+pub fn word_count(s: Sizes) -> usize
+    requires { ⌜ Limits s ⌝ }
+    ensures { λ r. ⌜ r ≡ wordCount s ⌝ }
+{
+    let c = clauses_by(s);
+    let units = 2 * s.k;
+    units + units + (s.m + 1) * s.k * (s.n + 1) + 3 * c.d + 3 * c.e + s.m * s.k * (3 * s.n + 2 * s.e) + 3 * c.g
+}
