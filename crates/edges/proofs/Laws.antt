@@ -2,21 +2,19 @@
 use mathlib.Core.Path.{_≡_, refl, sym, _∙_, ap}
 use mathlib.Core.Logic.{_↔_, _⊎_, inl, inr, ⊎-elim, Iff·rfl, by-cases}
 use mathlib.Core.List.{List}
-use mathlib.Core.Bool.{Bool, true, false, _||_, _&&_}
-use Prim.Native.Nat.{ℕ, zero, suc, _+_, _*_, _≤_, _<_}
-use native.Mathlib.Nat.{not-suc-le-zero, eq-or-lt-of-le, le-of-suc-le-suc, le-refl}
+use mathlib.Core.Bool.{Bool, true, false, _||_}
+use Prim.Native.Nat.{ℕ, zero, suc, _≤_, _<_}
+use native.Mathlib.Nat.{not-suc-le-zero, eq-or-lt-of-le, le-of-suc-le-suc}
 use native.Mathlib.Decide.{decLt}
 use native.Mathlib.Omega.{arith}
-use lib.ListN.{length}
 use lib.Dec.{T, eqb, ltb}
 use Rattle.lists.specs.Loop.{some}
 use Rattle.lists.proofs.Tests.{and-iff, or-iff, eqb-iff, ltb-iff, some-iff}
 use Rattle.answers.specs.Fault.{FirstFault}
-use Rattle.answers.proofs.Faults.{T-true, T-false}
+use Rattle.answers.proofs.Faults.{T-false}
 use Rattle.instance.specs.declared.Checked.{Checked}
-use Rattle.instance.specs.Instance.{instance, edges, lowEnd, highEnd, joins, adjacent}
-use Rattle.instance.proofs.Graph.{Edges}
-use Rattle.calls.specs.Accepted.{Accepted, instanceOf}
+use Rattle.instance.specs.Instance.{instance, edges, lowEnd, highEnd, adjacent}
+use Rattle.calls.specs.Accepted.{Accepted}
 use Rattle.calls.proofs.Accepted.{graph, e-same, long}
 use Rattle.edges.specs.Search.{Searchable, earlier, between}
 
@@ -99,14 +97,30 @@ module _ (b : List ℕ) (e : ℕ) (s : Searchable b e) where
         absurd (f .here (omega arith) (earlier-iff b low high r .1 d)))
         (λ o. omega arith))
 
-    pub found : (r : ℕ) → FirstFault e (earlier b low high) r → T (some e (between b low high)) ↔ ((r < e) × T (between b low high r))
-    found r f = (
-      (λ t.
-          let (j, l, x) = some-iff e (between b low high) .0 t in
-          let q : j ≡ r = found-at r f j l x in
-          (rw (← q) l, rw (← q) x)),
-      (λ x. some-iff e (between b low high) .1 (r, x .0, x .1)),
-    )
+    module _ (r : ℕ) (f : FirstFault e (earlier b low high) r) where
+      found : T (some e (between b low high)) ↔ ((r < e) × T (between b low high r))
+      found = (
+        (λ t.
+            let (j, l, x) = some-iff e (between b low high) .0 t in
+            let q : j ≡ r = found-at r f j l x in
+            (rw (← q) l, rw (← q) x)),
+        (λ x. some-iff e (between b low high) .1 (r, x .0, x .1)),
+      )
+
+      -- the three ways out of the search
+      pub past-all : r ≡ e → false ≡ some e (between b low high)
+      past-all q = sym (T-false _ (λ t. let l = found .0 t .0 in omega arith))
+
+      pub other-low : (lowEnd b r ≡ low → ⊥) → false ≡ some e (between b low high)
+      other-low d = sym (T-false _ (λ t. d (between-iff b low high r .0 (found .0 t .1) .0)))
+
+      pub same-low : (r ≡ e → ⊥) → lowEnd b r ≡ low → eqb (highEnd b r) high ≡ some e (between b low high)
+      same-low d q =
+          let o = f .within in
+          same-test (eqb (highEnd b r) high) _ (
+            (λ t. found .1 (omega arith, between-iff b low high r .1 (q, eqb-iff (highEnd b r) high .0 t))),
+            (λ t. eqb-iff (highEnd b r) high .1 (between-iff b low high r .0 (found .0 t .1) .1)),
+          )
 
 -- ---- both orders of the ends
 some-or : (n : ℕ) (p q : ℕ → Bool) → ((i : ℕ) → i < n → T (q i) → ⊥) → some n p ≡ some n (λ i. p i || q i)
@@ -125,25 +139,24 @@ some-or-swap n p q =
       (λ t. let (i, l, x) = some-iff n (λ i. q i || p i) .0 t in some-iff n (λ i. p i || q i) .1 (i, l, or-iff (p i) (q i) .1 (⊎-elim inr inl (or-iff (q i) (p i) .0 x)))),
     )
 
-module _ (b : List ℕ) (e : ℕ) (s : Searchable b e) (v w m : ℕ) where
-  -- no edge goes from the higher end to the lower, nor from a vertex to itself
-  downhill : w ≤ v → (j : ℕ) → j < e → T (between b v w j) → ⊥
-  unfolding instance
-  downhill h j l t =
-      let (p, q) = between-iff b v w j .0 t in
-      let o = s .graph .ends j (omega (arith, s .count)) .0 in
-      omega arith
+-- no edge goes from the higher end to the lower, nor from a vertex to itself
+downhill : (b : List ℕ) (e : ℕ) → Searchable b e → (v w : ℕ) → w ≤ v → (j : ℕ) → j < e → T (between b v w j) → ⊥
+unfolding instance
+downhill b e s v w h j l t =
+    let (p, q) = between-iff b v w j .0 t in
+    let o = s .graph .ends j (omega (arith, s .count)) .0 in
+    omega arith
 
 module _ (b : List ℕ) (e : ℕ) (s : Searchable b e) (v w m : ℕ) where
   pub upward : v < w → some e (between b v w) ≡ adjacent (instance b m) v w
   unfolding instance adjacent
   upward h =
-      some-or e (between b v w) (between b w v) (downhill b e s w v m (omega arith))
+      some-or e (between b v w) (between b w v) (downhill b e s w v (omega arith))
       ∙ ap (λ (x : ℕ). some x (λ j. between b v w j || between b w v j)) (s .count)
 
   pub downward : w ≤ v → some e (between b w v) ≡ adjacent (instance b m) v w
   unfolding instance adjacent
   downward h =
-      some-or e (between b w v) (between b v w) (downhill b e s v w m h)
+      some-or e (between b w v) (between b v w) (downhill b e s v w h)
       ∙ some-or-swap e (between b w v) (between b v w)
       ∙ ap (λ (x : ℕ). some x (λ j. between b v w j || between b w v j)) (s .count)

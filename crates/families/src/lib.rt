@@ -35,7 +35,7 @@ pub fn write_units(f: &mut [i32], s: Sizes, t: Step, row: [u8; 16]) -> usize
 }
 
 // Family C, step t.
-fn write_c_step(f: &mut [i32], s: Sizes, t: Step) -> usize
+pub fn write_c_step(f: &mut [i32], s: Sizes, t: Step) -> usize
     requires { ⌜ Limits s ⌝ }
     requires { ⌜ t .0 ≤ s .m ⌝ }
     requires { ⌜ length (stepC s (t .0)) ≤ length (now f) ⌝ }
@@ -81,7 +81,7 @@ fn write_d_vertex(f: &mut [i32], s: Sizes, t: Step, a: Agent, v: Vertex) -> usiz
 }
 
 // Family D, step t, agent a.
-fn write_d_agent(f: &mut [i32], s: Sizes, t: Step, a: Agent) -> usize
+pub fn write_d_agent(f: &mut [i32], s: Sizes, t: Step, a: Agent) -> usize
     requires { ⌜ Limits s ⌝ }
     requires { ⌜ (t .0 ≤ s .m) × (a .0 < s .k) ⌝ }
     requires { ⌜ length (agentD s (t .0) (a .0)) ≤ length (now f) ⌝ }
@@ -142,7 +142,7 @@ fn write_e_agent(f: &mut [i32], s: Sizes, t: Step, v: Vertex, a: Agent) -> usize
 }
 
 // Family E, step t, vertex v.
-fn write_e_vertex(f: &mut [i32], s: Sizes, t: Step, v: Vertex) -> usize
+pub fn write_e_vertex(f: &mut [i32], s: Sizes, t: Step, v: Vertex) -> usize
     requires { ⌜ Limits s ⌝ }
     requires { ⌜ (t .0 ≤ s .m) × (v .0 < s .n) ⌝ }
     requires { ⌜ length (vertexE s (t .0) (v .0)) ≤ length (now f) ⌝ }
@@ -186,7 +186,7 @@ pub fn write_e(f: &mut [i32], s: Sizes) -> usize
 }
 
 // Family F, step t, agent a. The table has 64 bytes for each vertex, 1 for a neighbour.
-fn write_f_agent(f: &mut [i32], s: Sizes, table: &[u8], t: Step, a: Agent) -> usize
+pub fn write_f_agent(f: &mut [i32], s: Sizes, table: &[u8], t: Step, a: Agent) -> usize
     requires { ⌜ Limits s ⌝ }
     requires { ⌜ (t .0 < s .m) × (a .0 < s .k) ⌝ }
     requires { ⌜ 4096 ≤ length (now table) ⌝ }
@@ -266,7 +266,7 @@ fn write_g_other(f: &mut [i32], s: Sizes, t: Step, a: Agent, b: Agent) -> usize
 }
 
 // Family G, step t, agent a, every other agent.
-fn write_g_agent(f: &mut [i32], s: Sizes, t: Step, a: Agent) -> usize
+pub fn write_g_agent(f: &mut [i32], s: Sizes, t: Step, a: Agent) -> usize
     requires { ⌜ Limits s ⌝ }
     requires { ⌜ (t .0 < s .m) × (a .0 < s .k) ⌝ }
     requires { ⌜ length (agentG s (t .0) (a .0)) ≤ length (now f) ⌝ }

@@ -1,2 +1,3 @@
 pub mod Counts
 pub mod Limits
+pub mod Places

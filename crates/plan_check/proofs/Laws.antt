@@ -1,0 +1,282 @@
+-- What the answers of this crate share.
+use mathlib.Core.Path.{_≡_, refl, sym, _∙_, ap, ap₂, subst}
+use mathlib.Core.Logic.{_≢_}
+use mathlib.Core.List.{List, [], _∷_, _++_}
+use mathlib.Core.Bool.{Bool, true, false}
+use Prim.Native.Nat.{ℕ, suc, _+_, _-_, _*_, _≤_, _<_}
+use native.Mathlib.Nat.{suc-mul, mul-le-mul, add-zero, zero-add, zero-mul}
+use native.Mathlib.Numerals.{add-one}
+use native.Mathlib.Omega.{arith}
+use lib.ListN.{length, getD, length-append}
+use lib.Dec.{T, eqb, ltb}
+use Rattle.lists.specs.Loop.{for, unless, all}
+use Rattle.lists.proofs.Tests.{and-iff, eqb-iff}
+use Rattle.lists.proofs.Loops.{for-all, for-split, all-append, unless-all}
+use Rattle.answers.specs.declared.Answer.{Answer}
+use Rattle.answers.specs.Answers.{Question, refuse, accept, decide}
+use Rattle.answers.specs.Fault.{FirstFault}
+use Rattle.answers.proofs.Laws.{clear, numbered, decide-iff, decide-count, decide-after, decide-front, fault-pass, fault-stop, ask-yes, ask-no}
+use Rattle.instance.specs.declared.Sizes.{Sizes}
+use Rattle.instance.specs.declared.Checked.{Checked}
+use Rattle.instance.specs.Instance.{Instance, instance}
+use Rattle.plan.specs.Plan.{planBytes, cell, place, condition1, condition2, condition3, cost}
+use Rattle.calls.specs.Questions.{question13, question18, question20, question21, question22}
+use Rattle.calls.specs.Calls.{planQuestions, instanceQuestions, instanceAnswer, instanceChecked, checkAnswer}
+use Rattle.calls.specs.Accepted.{Accepted, instanceOf}
+use Rattle.calls.proofs.Accepted.{accepted, horizon-of, sizes-same, limits-known, start-at, goal-at}
+use Rattle.calls.proofs.Plan.{numbered-plan}
+use Rattle.plan_check.specs.Steps.{stepQuestions}
+
+-- ---- counting the moves of a step, agent by agent
+module _ (test : ℕ → Bool) (a moves : ℕ) (e : moves ≡ length (for a λ i. unless (test i) i)) where
+  pub count-move : test a ≡ false → moves + 1 ≡ length (for (a + 1) λ i. unless (test i) i)
+  count-move h = rw (add-one a, length-append, h, e)
+
+  pub count-wait : test a ≡ true → moves ≡ length (for (a + 1) λ i. unless (test i) i)
+  count-wait h = rw (add-one a, length-append, h, add-zero) e
+
+pub count-step : (p : List ℕ) (t k a moves : ℕ) → a ≡ k
+    → moves ≡ length (for a λ i. unless (eqb (getD p (t * k + i) 0) (getD p (t * k + k + i) 0)) i)
+    → moves ≡ length (for k λ i. unless (eqb (getD p (t * k + i) 0) (getD p (suc t * k + i) 0)) i)
+count-step p t k a moves ea e =
+    rw suc-mul (e ∙ ap (λ (j : ℕ). length (for j λ i. unless (eqb (getD p (t * k + i) 0) (getD p (t * k + k + i) 0)) i)) ea)
+
+-- one more step
+pub count-more : (f : ℕ → List ℕ) (t moves more : ℕ) → moves ≡ length (for t f) → more ≡ length (f t) → moves + more ≡ length (for (t + 1) f)
+count-more f t moves more e h = rw (add-one t, length-append, e, h)
+
+-- ---- a question of all agents, for an instance of the sizes s; `at` is where the row begins in which the place is named
+module _ (I : Instance) (s : Sizes) (es : I .sizes ≡ s) (test : ℕ → Bool) (r : ℕ) (f : FirstFault (s .k) test r) (number row : ℕ) (qs : List Question) where
+  agents-fault : FirstFault (I .sizes .k) test r
+  agents-fault = subst (λ (z : Sizes). FirstFault (z .k) test r) (sym es) f
+
+  pub stop-agents : (at : ℕ) → at ≡ row * s .k → r < s .k
+      → refuse number (at + r) ≡ decide ((for (I .sizes .k) λ a. unless (test a) (refuse number (cell (I .sizes) row a))) ∷ qs) 0
+  stop-agents at ea l =
+      let ek : s .k ≡ I .sizes .k = ap (λ (z : Sizes). z .k) (sym es) in
+      ap (λ (x : ℕ). refuse number (x + r)) (ea ∙ ap (λ (x : ℕ). row * x) ek)
+      ∙ sym (fault-stop agents-fault (λ a. refuse number (cell (I .sizes) row a)) qs 0 (rw (← ek) l))
+
+  pub pass-agents : s .k ≤ r → decide qs 0 ≡ decide ((for (I .sizes .k) λ a. unless (test a) (refuse number (cell (I .sizes) row a))) ∷ qs) 0
+  pass-agents l =
+      let ek : s .k ≡ I .sizes .k = ap (λ (z : Sizes). z .k) (sym es) in
+      sym (fault-pass agents-fault (λ a. refuse number (cell (I .sizes) row a)) qs 0 (rw (← ek) l))
+
+-- nothing is left to ask
+pub asked-all : accept 0 ≡ decide [] 0
+unfolding decide
+asked-all = refl
+
+-- ---- question lists f 0, f 1, .. asked one after another
+module _ (f : ℕ → List Question) (t : ℕ) (r : Answer) (er : r ≡ decide (f t) 0) (yes : T (all clear (for t f))) where
+  pub step-stop : (n : ℕ) → t < n → r .number ≢ 0 → r ≡ decide (for n f) 0
+  step-stop n l d =
+      let rest : ℕ = n - suc t in
+      let e : n ≡ suc t + rest = omega arith in
+      let later : List Question = for rest (λ i. f (suc t + i)) in
+      let before : decide (for t f ++ f t) 0 ≡ decide (f t) 0 = decide-after (for t f) (f t) 0 yes in
+      let refused : decide (for t f ++ f t) 0 .number ≢ 0 = λ z. d (ap (λ (a : Answer). a .number) (er ∙ sym before) ∙ z) in
+      er
+      ∙ sym before
+      ∙ sym (decide-front (for t f ++ f t) later 0 refused)
+      ∙ sym (ap (λ (x : ℕ). decide (for x f) 0) e ∙ ap (λ (qs : List Question). decide qs 0) (for-split (suc t) rest f))
+
+  pub step-more : T (all numbered (f t)) → r .number ≡ 0 → T (all clear (for (t + 1) f))
+  step-more h e =
+      rw (add-one t) (all-append clear (for t f) (f t) .1 (yes, decide-iff (f t) 0 h .0 (sym (ap (λ (a : Answer). a .number) er) ∙ e)))
+
+-- ---- 19 to 21 of step t: x, y and z are the first agents that fail the three conditions
+pub numbered-step : (I : Instance) (p : List ℕ) (t : ℕ) → T (all numbered (stepQuestions I p t))
+numbered-step I p t = simp (and-iff, for-all, unless-all) ((λ a l f. tt), ((λ a l f. tt), ((λ a l f. tt), tt)))
+
+module _ (I : Instance) (s : Sizes) (es : I .sizes ≡ s) (p : List ℕ) (t x y z : ℕ)
+    (f : FirstFault (s .k) (condition1 I p t) x) (g : FirstFault (s .k) (condition2 I p t) y) (h : FirstFault (s .k) (condition3 I p t) z) where
+  row-begins : (t + 1) * s .k ≡ suc t * s .k
+  row-begins = ap (λ (u : ℕ). u * s .k) (add-one t)
+
+  pub stop-19 : x < s .k → refuse 19 ((t + 1) * s .k + x) ≡ decide (stepQuestions I p t) 0
+  stop-19 = stop-agents I s es (condition1 I p t) x f 19 (suc t) (question20 I p t ∷ question21 I p t ∷ []) _ row-begins
+
+  pass-19 : s .k ≤ x → decide (question20 I p t ∷ question21 I p t ∷ []) 0 ≡ decide (stepQuestions I p t) 0
+  pass-19 = pass-agents I s es (condition1 I p t) x f 19 (suc t) (question20 I p t ∷ question21 I p t ∷ [])
+
+  pub stop-20 : s .k ≤ x → y < s .k → refuse 20 ((t + 1) * s .k + y) ≡ decide (stepQuestions I p t) 0
+  stop-20 l m = stop-agents I s es (condition2 I p t) y g 20 (suc t) (question21 I p t ∷ []) _ row-begins m ∙ pass-19 l
+
+  pass-20 : s .k ≤ x → s .k ≤ y → decide (question21 I p t ∷ []) 0 ≡ decide (stepQuestions I p t) 0
+  pass-20 l m = pass-agents I s es (condition2 I p t) y g 20 (suc t) (question21 I p t ∷ []) m ∙ pass-19 l
+
+  pub stop-21 : s .k ≤ x → s .k ≤ y → z < s .k → refuse 21 ((t + 1) * s .k + z) ≡ decide (stepQuestions I p t) 0
+  stop-21 l m n = stop-agents I s es (condition3 I p t) z h 21 (suc t) [] _ row-begins n ∙ pass-20 l m
+
+  pub pass-21 : s .k ≤ x → s .k ≤ y → s .k ≤ z → accept 0 ≡ decide (stepQuestions I p t) 0
+  pass-21 l m n = asked-all ∙ pass-agents I s es (condition3 I p t) z h 21 (suc t) [] n ∙ pass-20 l m
+
+-- what the plan's length and the instance's limits say of the row offsets
+pub record Room (s : Sizes) (p : List ℕ) : Type 0 where
+  pub last : s .m * s .k + s .k ≡ length p
+  pub k-most : s .k ≤ 16
+  pub m-most : s .m ≤ 32
+
+pub room : (b : List ℕ) (c : Checked) → Accepted b c → (p : List ℕ) → length p ≡ planBytes (c .sizes) → Room (c .sizes) p
+room b c w p e =
+    record {
+      last = sym (e ∙ suc-mul (c .sizes .m) (c .sizes .k));
+      k-most = limits-known b c w .k-most;
+      m-most = limits-known b c w .m-most;
+    }
+
+-- ---- 17 to 22, of a plan of the right length
+module _ (b : List ℕ) (c : Checked) (w : Accepted b c) (p : List ℕ) (ep : length p ≡ planBytes (c .sizes)) where
+  abbrev pub stepsQuestions : List Question
+  stepsQuestions = for (instanceOf b c .sizes .m) (stepQuestions (instanceOf b c) p)
+
+  abbrev pub goalQuestions : List Question
+  goalQuestions = question22 (instanceOf b c) p ∷ []
+
+  same-sizes : instanceOf b c .sizes ≡ c .sizes
+  same-sizes = sym (sizes-same b c w)
+
+  module _ (r : ℕ) (f : FirstFault (length p) (λ i. ltb (getD p i 0) (c .sizes .n)) r) where
+    bytes-fault : FirstFault (planBytes (instanceOf b c .sizes)) (λ i. ltb (getD p i 0) (instanceOf b c .sizes .n)) r
+    bytes-fault = subst (λ (z : Sizes). FirstFault (planBytes z) (λ i. ltb (getD p i 0) (z .n)) r) (sym same-sizes) (rw ep at f)
+
+    size-same : length p ≡ planBytes (instanceOf b c .sizes)
+    size-same = ep ∙ ap planBytes (sym same-sizes)
+
+    pub stop-17 : r < length p → refuse 17 r ≡ decide (planQuestions (instanceOf b c) p) 0
+    unfolding planQuestions
+    stop-17 l = sym (fault-stop bytes-fault (refuse 17) _ 0 (rw (← size-same) l))
+
+    pub pass-17 : length p ≤ r → decide (question18 (instanceOf b c) p ∷ stepsQuestions ++ goalQuestions) 0 ≡ decide (planQuestions (instanceOf b c) p) 0
+    unfolding planQuestions
+    pass-17 l = sym (fault-pass bytes-fault (refuse 17) _ 0 (rw (← size-same) l))
+
+  -- a row compared with an array
+  row-is : (row at : ℕ) → at ≡ row * c .sizes .k → (wanted : List ℕ) (vertex : ℕ → ℕ)
+      → ((a : ℕ) → a < c .sizes .k → getD wanted a 0 ≡ vertex a) → (r : ℕ)
+      → FirstFault (c .sizes .k) (λ a. eqb (getD p (at + a) 0) (getD wanted a 0)) r
+      → FirstFault (c .sizes .k) (λ a. eqb (place (instanceOf b c .sizes) p row a) (vertex a)) r
+  row-is row at ea wanted vertex h r f =
+      let same : (a : ℕ) → a < c .sizes .k → eqb (getD p (at + a) 0) (getD wanted a 0) ≡ eqb (place (instanceOf b c .sizes) p row a) (vertex a) =
+      λ a l. ap₂ eqb (ap (λ (x : ℕ). getD p (x + a) 0) (ea ∙ ap (λ (z : Sizes). row * z .k) (sym same-sizes))) (h a l) in
+      let o = f .within in
+      record {
+        within = f .within;
+        before = λ i l. subst T (same i (omega arith)) (f .before i l);
+        here = λ l t. f .here l (subst T (sym (same r l)) t);
+      }
+
+  module _ (r : ℕ) (f : FirstFault (c .sizes .k) (λ a. eqb (getD p (0 + a) 0) (getD (c .starts) a 0)) r) (qs : List Question) where
+    start-fault : FirstFault (c .sizes .k) (λ a. eqb (place (instanceOf b c .sizes) p 0 a) (instanceOf b c .start a)) r
+    start-fault = row-is 0 0 (sym (zero-mul (c .sizes .k))) (c .starts) (instanceOf b c .start) (start-at b c w) r f
+
+    pub stop-18 : r < c .sizes .k → refuse 18 r ≡ decide (question18 (instanceOf b c) p ∷ qs) 0
+    stop-18 l =
+        ap (refuse 18) (sym (zero-add r))
+        ∙ stop-agents (instanceOf b c) (c .sizes) same-sizes _ r start-fault 18 0 qs 0 (sym (zero-mul (c .sizes .k))) l
+
+    pub pass-18 : c .sizes .k ≤ r → decide qs 0 ≡ decide (question18 (instanceOf b c) p ∷ qs) 0
+    pass-18 l = pass-agents (instanceOf b c) (c .sizes) same-sizes _ r start-fault 18 0 qs l
+
+  module _ (r : Answer) (er : r ≡ decide (for (c .sizes .m + 1 - 1) (stepQuestions (instanceOf b c) p)) 0) where
+    steps-same : r ≡ decide stepsQuestions 0
+    steps-same =
+        let e : c .sizes .m + 1 - 1 ≡ c .sizes .m = omega arith in
+        er ∙ ap (λ (x : ℕ). decide (for x (stepQuestions (instanceOf b c) p)) 0) (e ∙ ap (λ (z : Sizes). z .m) (sym same-sizes))
+
+    pub stop-steps : r .number ≢ 0 → r ≡ decide (stepsQuestions ++ goalQuestions) 0
+    stop-steps d = steps-same ∙ sym (decide-front stepsQuestions goalQuestions 0 (λ z. d (ap (λ (a : Answer). a .number) steps-same ∙ z)))
+
+    pub pass-steps : r .number ≡ 0 → decide goalQuestions 0 ≡ decide (stepsQuestions ++ goalQuestions) 0
+    pass-steps e =
+        let known : T (all numbered stepsQuestions) =
+        for-all numbered (instanceOf b c .sizes .m) (stepQuestions (instanceOf b c) p) .1 (λ t l. numbered-step (instanceOf b c) p t) in
+        sym (decide-after stepsQuestions goalQuestions 0 (decide-iff stepsQuestions 0 known .0 (sym (ap (λ (a : Answer). a .number) steps-same) ∙ e)))
+
+  module _ (r : ℕ) (f : FirstFault (c .sizes .k) (λ a. eqb (getD p (c .sizes .m * c .sizes .k + a) 0) (getD (c .goals) a 0)) r) where
+    horizon : c .sizes .m * c .sizes .k ≡ instanceOf b c .sizes .m * c .sizes .k
+    horizon = ap (λ (z : Sizes). z .m * c .sizes .k) (sym same-sizes)
+
+    goal-fault : FirstFault (c .sizes .k) (λ a. eqb (place (instanceOf b c .sizes) p (instanceOf b c .sizes .m) a) (instanceOf b c .goal a)) r
+    goal-fault = row-is (instanceOf b c .sizes .m) (c .sizes .m * c .sizes .k) horizon (c .goals) (instanceOf b c .goal) (goal-at b c w) r f
+
+    pub stop-22 : r < c .sizes .k → refuse 22 (c .sizes .m * c .sizes .k + r) ≡ decide goalQuestions 0
+    stop-22 l = stop-agents (instanceOf b c) (c .sizes) same-sizes _ r goal-fault 22 (instanceOf b c .sizes .m) [] _ horizon l
+
+    pub pass-22 : c .sizes .k ≤ r → accept 0 ≡ decide goalQuestions 0
+    pass-22 l = asked-all ∙ pass-agents (instanceOf b c) (c .sizes) same-sizes _ r goal-fault 22 (instanceOf b c .sizes .m) [] l
+
+-- ---- the whole check
+-- a refusal does not depend on the count
+pub count-free : (qs : List Question) (c d : ℕ) → decide qs c .number ≢ 0 → decide qs c ≡ decide qs d
+unfolding decide
+count-free [] c d h = absurd (h refl)
+count-free ([] ∷ qs) c d h = count-free qs c d h
+count-free ((r ∷ rs) ∷ qs) c d h = refl
+
+module _ (b : List ℕ) (m : ℕ) (p : List ℕ) where
+  pub stop-instance : (r : Answer) → r ≡ instanceAnswer b m → r .number ≢ 0 → r ≡ checkAnswer b m p
+  unfolding instanceAnswer checkAnswer
+  stop-instance r er d =
+      let e : r ≡ decide (instanceQuestions b m) (cost (instance b m) p) =
+      er ∙ count-free (instanceQuestions b m) 0 _ (λ z. d (ap (λ (a : Answer). a .number) er ∙ z)) in
+      e ∙ sym (decide-front (instanceQuestions b m) _ _ (λ z. d (ap (λ (a : Answer). a .number) e ∙ z)))
+
+  module _ (yes : T (all clear (instanceQuestions b m))) where
+    pub stop-13 : length p ≢ planBytes (instance b m .sizes) → refuse 13 (length p) ≡ checkAnswer b m p
+    unfolding checkAnswer
+    stop-13 d =
+        sym (decide-after (instanceQuestions b m) _ _ yes ∙ ask-no (eqb (length p) (planBytes (instance b m .sizes))) _ _ _ (λ t. d (eqb-iff _ _ .0 t)))
+
+    module _ (e : length p ≡ planBytes (instance b m .sizes)) (r : Answer) (er : r ≡ decide (planQuestions (instance b m) p) 0) where
+      asked-13 : decide (planQuestions (instance b m) p) (cost (instance b m) p) ≡ checkAnswer b m p
+      unfolding checkAnswer
+      asked-13 =
+          sym (decide-after (instanceQuestions b m) _ _ yes ∙ ask-yes (eqb (length p) (planBytes (instance b m .sizes))) _ _ _ (eqb-iff _ _ .1 e))
+
+      pub stop-plan : r .number ≢ 0 → r ≡ checkAnswer b m p
+      stop-plan d = er ∙ count-free (planQuestions (instance b m) p) 0 _ (λ z. d (ap (λ (a : Answer). a .number) er ∙ z)) ∙ asked-13
+
+      pub pass-plan : (moves : ℕ) → moves ≡ cost (instance b m) p → r .number ≡ 0 → accept moves ≡ checkAnswer b m p
+      pass-plan moves em z =
+          let known = and-iff (numbered (question13 (instance b m) p)) _ .0 (numbered-plan (instance b m) p) .1 in
+          ap accept em
+          ∙ sym (decide-count (planQuestions (instance b m) p) _ (decide-iff (planQuestions (instance b m) p) 0 known .0 (sym (ap (λ (a : Answer). a .number) er) ∙ z)))
+          ∙ asked-13
+
+-- the same from what the instance check returned, where its number is 0: c has the horizon m
+module _ (b : List ℕ) (m : ℕ) (p : List ℕ) (a : Answer) (c : Checked) (ea : a ≡ instanceAnswer b m) (ec : c ≡ instanceChecked b m) (z : a .number ≡ 0) where
+  zero-number : instanceAnswer b m .number ≡ 0
+  zero-number = sym (ap (λ (x : Answer). x .number) ea) ∙ z
+
+  pub passed : Accepted b c
+  passed = accepted b m c ec zero-number
+
+  horizon-same : c .sizes .m ≡ m
+  horizon-same = horizon-of b m c ec zero-number
+
+  pub bytes-same : (m + 1) * c .sizes .k ≡ planBytes (c .sizes)
+  bytes-same = ap (λ (x : ℕ). x * c .sizes .k) (add-one m ∙ ap suc (sym horizon-same))
+
+  pub bytes-most : (m + 1 ≤ 33) × ((m + 1) * c .sizes .k ≤ 528)
+  bytes-most =
+      let l = limits-known b c passed in
+      let o : m + 1 ≤ 33 = omega (arith, l .m-most, horizon-same) in
+      (o, mul-le-mul {n₂ = 33} {m₂ = 16} o (l .k-most))
+
+  bytes-asked : (m + 1) * c .sizes .k ≡ planBytes (instanceOf b c .sizes)
+  bytes-asked = bytes-same ∙ ap planBytes (sizes-same b c passed)
+
+  asked-same : checkAnswer b (c .sizes .m) p ≡ checkAnswer b m p
+  asked-same = ap (λ (x : ℕ). checkAnswer b x p) horizon-same
+
+  pub refused-length : (length p ≡ (m + 1) * c .sizes .k → ⊥) → refuse 13 (length p) ≡ checkAnswer b m p
+  refused-length d = stop-13 b (c .sizes .m) p (passed .yes) (λ e. d (e ∙ sym bytes-asked)) ∙ asked-same
+
+  module _ (e : length p ≡ (m + 1) * c .sizes .k) (r : Answer) (er : r ≡ decide (planQuestions (instanceOf b c) p) 0) where
+    pub refused-plan : r .number ≢ 0 → r ≡ checkAnswer b m p
+    refused-plan d = stop-plan b (c .sizes .m) p (passed .yes) (e ∙ bytes-asked) r er d ∙ asked-same
+
+    pub accepted-plan : (moves : ℕ) → moves ≡ cost (instanceOf b c) p → r .number ≡ 0 → accept moves ≡ checkAnswer b m p
+    accepted-plan moves em n = pass-plan b (c .sizes .m) p (passed .yes) (e ∙ bytes-asked) r er moves em n ∙ asked-same

@@ -1,0 +1,89 @@
+-- `plan_check::ask_plan` meets its contract. Each return adds what was passed before it, question by question, to the one that decides. Assumes nothing.
+use mathlib.Core.List.{List, _++_}
+use mathlib.Core.Path.{_∙_}
+use native.Mathlib.Omega.{arith}
+use borrow.Author.Needs.{needs}
+use Rattle.answers.specs.Answers.{Question}
+use Rattle.plan_check.proofs.Laws.{Room, room, stepsQuestions, goalQuestions, stop-17, pass-17, stop-18, pass-18, stop-steps, pass-steps, stop-22, pass-22}
+use Rattle.plan_check.proofs.ask_plan.Statement.{statement}
+use Rattle.plan_check.proofs.ask_plan.Tie as tie
+
+-- the rows' offsets are within the plan
+known : (s : tie.Start) → Room (s .args .c .sizes) (s .args .p .now)
+known s = room _ _ (s .pre .0) _ (s .pre .1)
+
+byte-fault-requires : tie.Need-byte-fault-requires
+byte-fault-requires c κs = search needs
+
+returns : tie.Need-returns
+returns c =
+    let s = c .before .before .before .before .before in
+    stop-17 (s .args .b .now) (s .args .c) (s .pre .0) (s .args .p .now) (s .pre .1) (c .before .byte-fault .result) (c .before .byte-fault .ensures) (c .if1 .taken)
+
+row-fault-requires : tie.Need-row-fault-requires
+row-fault-requires c κs = omega (arith, known (c .before .before .before .before .before .before))
+
+returns-2 : tie.Need-returns-2
+returns-2 c =
+    let s = c .before .before .before .before .before .before .before .before in
+    let later : List Question = (stepsQuestions (s .args .b .now) (s .args .c) (s .pre .0) (s .args .p .now) (s .pre .1) ++ goalQuestions (s .args .b .now) (s .args .c) (s .pre .0) (s .args .p .now) (s .pre .1)) in
+    stop-18 (s .args .b .now) (s .args .c) (s .pre .0) (s .args .p .now) (s .pre .1) (c .before .row-fault .result) (c .before .row-fault .ensures) later (c .if2 .taken)
+    ∙ pass-17 (s .args .b .now) (s .args .c) (s .pre .0) (s .args .p .now) (s .pre .1) (c .before .before .before .before .byte-fault .result) (c .before .before .before .before .byte-fault .ensures) (c .before .before .before .if1 .left)
+
+add-rows : tie.Need-add-rows
+add-rows c = omega (arith, known (c .before .before .before .before .before .before .before .before))
+
+ask-steps-requires : tie.Need-ask-steps-requires
+ask-steps-requires c κs = search needs
+
+returns-3 : tie.Need-returns-3
+returns-3 c =
+    let s = c .before .before .before .before .before .before .before .before .before .before .before in
+    let later : List Question = (stepsQuestions (s .args .b .now) (s .args .c) (s .pre .0) (s .args .p .now) (s .pre .1) ++ goalQuestions (s .args .b .now) (s .args .c) (s .pre .0) (s .args .p .now) (s .pre .1)) in
+    stop-steps (s .args .b .now) (s .args .c) (s .pre .0) (s .args .p .now) (s .pre .1) (c .before .before .ask-steps .result) (c .before .before .ask-steps .ensures) (c .if3 .taken)
+    ∙ pass-18 (s .args .b .now) (s .args .c) (s .pre .0) (s .args .p .now) (s .pre .1) (c .before .before .before .before .row-fault .result) (c .before .before .before .before .row-fault .ensures) later (c .before .before .before .if2 .left)
+    ∙ pass-17 (s .args .b .now) (s .args .c) (s .pre .0) (s .args .p .now) (s .pre .1) (c .before .before .before .before .before .before .before .byte-fault .result) (c .before .before .before .before .before .before .before .byte-fault .ensures) (c .before .before .before .before .before .before .if1 .left)
+
+mul-last : tie.Need-mul-last
+mul-last c = omega (arith, known (c .before .before .before .before .before .before .before .before .before .before .before .before))
+
+row-fault-requires-2 : tie.Need-row-fault-requires-2
+row-fault-requires-2 c κs = omega (arith, known (c .before .before .before .before .before .before .before .before .before .before .before .before))
+
+add-t18 : tie.Need-add-t18
+add-t18 c = omega (arith, known (c .before .before .before .before .before .before .before .before .before .before .before .before .before .before))
+
+returns-4 : tie.Need-returns-4
+returns-4 c =
+    let s = c .before .before .before .before .before .before .before .before .before .before .before .before .before .before in
+    let later : List Question = (stepsQuestions (s .args .b .now) (s .args .c) (s .pre .0) (s .args .p .now) (s .pre .1) ++ goalQuestions (s .args .b .now) (s .args .c) (s .pre .0) (s .args .p .now) (s .pre .1)) in
+    stop-22 (s .args .b .now) (s .args .c) (s .pre .0) (s .args .p .now) (s .pre .1) (c .before .row-fault2 .result) (c .before .row-fault2 .ensures) (c .if4 .taken)
+    ∙ pass-steps (s .args .b .now) (s .args .c) (s .pre .0) (s .args .p .now) (s .pre .1) (c .before .before .before .before .before .ask-steps .result) (c .before .before .before .before .before .ask-steps .ensures) (c .before .before .before .if3 .left)
+    ∙ pass-18 (s .args .b .now) (s .args .c) (s .pre .0) (s .args .p .now) (s .pre .1) (c .before .before .before .before .before .before .before .row-fault .result) (c .before .before .before .before .before .before .before .row-fault .ensures) later (c .before .before .before .before .before .before .if2 .left)
+    ∙ pass-17 (s .args .b .now) (s .args .c) (s .pre .0) (s .args .p .now) (s .pre .1) (c .before .before .before .before .before .before .before .before .before .before .byte-fault .result) (c .before .before .before .before .before .before .before .before .before .before .byte-fault .ensures) (c .before .before .before .before .before .before .before .before .before .if1 .left)
+
+returns-5 : tie.Need-returns-5
+returns-5 c =
+    let s = c .before .before .before .before .before .before .before .before .before .before .before .before .before .before in
+    let later : List Question = (stepsQuestions (s .args .b .now) (s .args .c) (s .pre .0) (s .args .p .now) (s .pre .1) ++ goalQuestions (s .args .b .now) (s .args .c) (s .pre .0) (s .args .p .now) (s .pre .1)) in
+    pass-22 (s .args .b .now) (s .args .c) (s .pre .0) (s .args .p .now) (s .pre .1) (c .before .row-fault2 .result) (c .before .row-fault2 .ensures) (c .if4 .left)
+    ∙ pass-steps (s .args .b .now) (s .args .c) (s .pre .0) (s .args .p .now) (s .pre .1) (c .before .before .before .before .before .ask-steps .result) (c .before .before .before .before .before .ask-steps .ensures) (c .before .before .before .if3 .left)
+    ∙ pass-18 (s .args .b .now) (s .args .c) (s .pre .0) (s .args .p .now) (s .pre .1) (c .before .before .before .before .before .before .before .row-fault .result) (c .before .before .before .before .before .before .before .row-fault .ensures) later (c .before .before .before .before .before .before .if2 .left)
+    ∙ pass-17 (s .args .b .now) (s .args .c) (s .pre .0) (s .args .p .now) (s .pre .1) (c .before .before .before .before .before .before .before .before .before .before .byte-fault .result) (c .before .before .before .before .before .before .before .before .before .before .byte-fault .ensures) (c .before .before .before .before .before .before .before .before .before .if1 .left)
+
+pub ask-plan-spec : {M : Type 1} → statement M
+ask-plan-spec =
+    tie.close
+    (tie.spec
+    byte-fault-requires
+    returns
+    row-fault-requires
+    returns-2
+    add-rows
+    ask-steps-requires
+    returns-3
+    mul-last
+    row-fault-requires-2
+    add-t18
+    returns-4
+    returns-5)

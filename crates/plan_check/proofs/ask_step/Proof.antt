@@ -1,0 +1,96 @@
+-- `plan_check::ask_step` meets its contract. The first agents that fail decide in the order of the questions. Assumes nothing.
+use mathlib.Core.Path.{sym}
+use Prim.Native.Nat.{_+_}
+use native.Mathlib.Omega.{arith}
+use borrow.Author.Needs.{needs}
+use Rattle.calls.specs.Accepted.{instanceOf}
+use Rattle.calls.proofs.Accepted.{sizes-same}
+use Rattle.conditions.proofs.Laws.{Rows, rows}
+use Rattle.plan_check.proofs.Laws.{stop-19, stop-20, stop-21, pass-21}
+use Rattle.plan_check.proofs.ask_step.Statement.{statement}
+use Rattle.plan_check.proofs.ask_step.Tie as tie
+
+-- rows t and t + 1 are within the plan
+known : (s : tie.Start) → Rows (s .args .c .sizes) (s .args .p .now) (s .args .t)
+known s = rows _ _ _ (s .pre .1 .0) (s .pre .1 .1)
+
+add-next : tie.Need-add-next
+add-next c = search needs
+
+mul-next : tie.Need-mul-next
+mul-next c = omega (arith, known (c .before .before .before))
+
+fault-1-requires : tie.Need-fault-1-requires
+fault-1-requires c κs = search needs
+
+fault-2-requires : tie.Need-fault-2-requires
+fault-2-requires c κs = search needs
+
+fault-3-requires : tie.Need-fault-3-requires
+fault-3-requires c κs = search needs
+
+add-t13 : tie.Need-add-t13
+add-t13 c = omega (arith, known (c .before .before .before .before .before .before .before))
+
+returns : tie.Need-returns
+returns c =
+    let s = c .before .before .before .before .before .before .before in
+    let I = instanceOf (s .args .b .now) (s .args .c) in
+    let es = sym (sizes-same _ _ (s .pre .0)) in
+    let x = c .before .before .before .fault-1 in
+    let y = c .before .before .fault-2 in
+    let z = c .before .fault-3 in
+    stop-19 I (s .args .c .sizes) es (s .args .p .now) (s .args .t) (x .result) (y .result) (z .result) (x .ensures) (y .ensures I es) (z .ensures I es) (c .if1 .taken)
+
+add-t14 : tie.Need-add-t14
+add-t14 c = omega (arith, known (c .before .before .before .before .before .before .before .before))
+
+returns-2 : tie.Need-returns-2
+returns-2 c =
+    let s = c .before .before .before .before .before .before .before .before in
+    let I = instanceOf (s .args .b .now) (s .args .c) in
+    let es = sym (sizes-same _ _ (s .pre .0)) in
+    let x = c .before .before .before .before .fault-1 in
+    let y = c .before .before .before .fault-2 in
+    let z = c .before .before .fault-3 in
+    stop-20 I (s .args .c .sizes) es (s .args .p .now) (s .args .t) (x .result) (y .result) (z .result) (x .ensures) (y .ensures I es) (z .ensures I es) (c .before .if1 .left) (c .if2 .taken)
+
+add-t15 : tie.Need-add-t15
+add-t15 c = omega (arith, known (c .before .before .before .before .before .before .before .before .before))
+
+returns-3 : tie.Need-returns-3
+returns-3 c =
+    let s = c .before .before .before .before .before .before .before .before .before in
+    let I = instanceOf (s .args .b .now) (s .args .c) in
+    let es = sym (sizes-same _ _ (s .pre .0)) in
+    let x = c .before .before .before .before .before .fault-1 in
+    let y = c .before .before .before .before .fault-2 in
+    let z = c .before .before .before .fault-3 in
+    stop-21 I (s .args .c .sizes) es (s .args .p .now) (s .args .t) (x .result) (y .result) (z .result) (x .ensures) (y .ensures I es) (z .ensures I es) (c .before .before .if1 .left) (c .before .if2 .left) (c .if3 .taken)
+
+returns-4 : tie.Need-returns-4
+returns-4 c =
+    let s = c .before .before .before .before .before .before .before .before .before in
+    let I = instanceOf (s .args .b .now) (s .args .c) in
+    let es = sym (sizes-same _ _ (s .pre .0)) in
+    let x = c .before .before .before .before .before .fault-1 in
+    let y = c .before .before .before .before .fault-2 in
+    let z = c .before .before .before .fault-3 in
+    pass-21 I (s .args .c .sizes) es (s .args .p .now) (s .args .t) (x .result) (y .result) (z .result) (x .ensures) (y .ensures I es) (z .ensures I es) (c .before .before .if1 .left) (c .before .if2 .left) (c .if3 .left)
+
+pub ask-step-spec : {M : Type 1} → statement M
+ask-step-spec =
+    tie.close
+    (tie.spec
+    add-next
+    mul-next
+    fault-1-requires
+    fault-2-requires
+    fault-3-requires
+    add-t13
+    returns
+    add-t14
+    returns-2
+    add-t15
+    returns-3
+    returns-4)

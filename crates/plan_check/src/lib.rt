@@ -1,0 +1,174 @@
+// The plan check: questions 1 to 10, 13 and 17 to 22, of any bytes and any number given as horizon.
+use answers::Answer;
+use instance::Checked;
+use instance::Sizes;
+ghost use mathlib.Core.Path.{_≡_};
+ghost use Prim.Native.Nat.{_+_, _-_, _<_, _≤_};
+ghost use lib.ListN.{length, getD};
+ghost use lib.Dec.{ltb, eqb};
+ghost use Rattle.lists.specs.Loop.{for};
+ghost use Rattle.answers.specs.Answers.{decide};
+ghost use Rattle.answers.specs.Fault.{FirstFault};
+ghost use Rattle.instance.specs.Instance.{Instance};
+ghost use Rattle.plan.specs.Plan.{planBytes, cost};
+ghost use Rattle.calls.specs.Calls.{planQuestions, checkAnswer};
+ghost use Rattle.calls.specs.Accepted.{Accepted, instanceOf};
+ghost use Rattle.plan_check.specs.Steps.{stepQuestions, moversIn};
+
+// A byte as a number.
+fn wide(x: u8) -> usize
+    ensures { λ r. ⌜ (r ≡ x) × (r < 256) ⌝ }
+{
+    x as usize
+}
+
+// Questions 19 to 21 of step t.
+fn ask_step(b: &[u8], c: Checked, p: &[u8], t: usize) -> Answer
+    requires { ⌜ Accepted (now b) c ⌝ }
+    requires { ⌜ (length (now p) ≡ planBytes (c .sizes)) × (t < c .sizes .m) ⌝ }
+    ensures { λ r. ⌜ r ≡ decide (stepQuestions (instanceOf (now (b .entry)) c) (now (p .entry)) t) 0 ⌝ }
+{
+    let s = c.sizes;
+    let k = s.k;
+    let next = (t + 1) * k;
+    let crossing = conditions::fault_1(b, c, p, t);
+    let entering = conditions::fault_2(s, p, t);
+    let sharing = conditions::fault_3(s, p, t);
+    if crossing < k {
+        return Answer { number: 19, second: next + crossing };
+    }
+    if entering < k {
+        return Answer { number: 20, second: next + entering };
+    }
+    if sharing < k {
+        return Answer { number: 21, second: next + sharing };
+    }
+    Answer { number: 0, second: 0 }
+}
+
+// Questions 19 to 21 of each step between the first `rows` rows, step by step.
+fn ask_steps(b: &[u8], c: Checked, p: &[u8], rows: usize) -> Answer
+    requires { ⌜ Accepted (now b) c ⌝ }
+    requires { ⌜ (length (now p) ≡ planBytes (c .sizes)) × (rows ≤ c .sizes .m + 1) ⌝ }
+    ensures { λ r. ⌜ r ≡ decide (for (rows - 1) (stepQuestions (instanceOf (now (b .entry)) c) (now (p .entry)))) 0 ⌝ }
+{
+    let mut t: usize = 0;
+    while t + 1 < rows {
+        let answer = ask_step(b, c, p, t);
+        if answer.number != 0 {
+            return answer;
+        }
+        t += 1;
+    }
+    Answer { number: 0, second: 0 }
+}
+
+// The first byte of the plan that is no vertex, or its length.
+fn byte_fault(p: &[u8], n: usize) -> usize
+    ensures { λ r. ⌜ FirstFault (length (now (p .entry))) (λ i. ltb (getD (now (p .entry)) i 0) n) r ⌝ }
+{
+    for i in 0..p.len() {
+        if n <= wide(p[i]) {
+            return i;
+        }
+    }
+    p.len()
+}
+
+// The first agent whose byte of a row is not that of the array, or k.
+fn row_fault(p: &[u8], row: usize, k: usize, wanted: [u8; 16]) -> usize
+    requires { ⌜ (row + k ≤ length (now p)) × (k ≤ 16) ⌝ }
+    ensures { λ r. ⌜ FirstFault k (λ a. eqb (getD (now (p .entry)) (row + a) 0) (getD wanted a 0)) r ⌝ }
+{
+    for a in 0..k {
+        if p[row + a] != wanted[a] {
+            return a;
+        }
+    }
+    k
+}
+
+// Questions 17 to 22 of a plan of the right length; its count is 0.
+pub fn ask_plan(b: &[u8], c: Checked, p: &[u8]) -> Answer
+    requires { ⌜ Accepted (now b) c ⌝ }
+    requires { ⌜ length (now p) ≡ planBytes (c .sizes) ⌝ }
+    ensures { λ r. ⌜ r ≡ decide (planQuestions (instanceOf (now (b .entry)) c) (now (p .entry))) 0 ⌝ }
+{
+    let s = c.sizes;
+    let n = s.n;
+    let k = s.k;
+    let i = byte_fault(p, n);
+    if i < p.len() {
+        return Answer { number: 17, second: i };
+    }
+    let starts = c.starts;
+    let start = row_fault(p, 0, k, starts);
+    if start < k {
+        return Answer { number: 18, second: start };
+    }
+    let m = s.m;
+    let rows = m + 1;
+    let steps = ask_steps(b, c, p, rows);
+    if steps.number != 0 {
+        return steps;
+    }
+    let goals = c.goals;
+    let last = m * k;
+    let goal = row_fault(p, last, k, goals);
+    if goal < k {
+        return Answer { number: 22, second: last + goal };
+    }
+    Answer { number: 0, second: 0 }
+}
+
+// How many agents change vertex in step t.
+fn step_moves(s: Sizes, p: &[u8], t: usize) -> usize
+    requires { ⌜ (length (now p) ≡ planBytes s) × (t < s .m) ⌝ }
+    ensures { λ r. ⌜ (r ≡ length (moversIn s (now (p .entry)) t)) × (r ≤ s .k) ⌝ }
+{
+    let k = s.k;
+    let row = t * k;
+    let next = row + k;
+    let mut moves: usize = 0;
+    for a in 0..k {
+        if p[row + a] != p[next + a] {
+            moves += 1;
+        }
+    }
+    moves
+}
+
+// The plan's cost: its number of moves.
+fn plan_cost(s: Sizes, p: &[u8]) -> usize
+    requires { ⌜ length (now p) ≡ planBytes s ⌝ }
+    ensures { λ r. ⌜ ((I : Instance) → I .sizes ≡ s → r ≡ cost I (now (p .entry))) ⌝ }
+{
+    let m = s.m;
+    let mut moves: usize = 0;
+    for t in 0..m {
+        moves += step_moves(s, p, t);
+    }
+    moves
+}
+
+// The plan check, for every input: 0 and the plan's cost, or number and place of the first no.
+pub fn check_plan(b: &[u8], m: usize, p: &[u8]) -> Answer
+    ensures { λ r. ⌜ r ≡ checkAnswer (now (b .entry)) m (now (p .entry)) ⌝ }
+{
+    let inspection = instance_check::check_instance(b, m);
+    let refusal = inspection.answer;
+    if refusal.number != 0 {
+        return refusal;
+    }
+    let c = inspection.checked;
+    let s = c.sizes;
+    let len = p.len();
+    if len != (m + 1) * s.k {
+        return Answer { number: 13, second: len };
+    }
+    let answer = ask_plan(b, c, p);
+    if answer.number != 0 {
+        return answer;
+    }
+    Answer { number: 0, second: plan_cost(s, p) }
+}
