@@ -118,3 +118,13 @@ module _ (b : List ℕ) (c : Checked) (w : Accepted b c) where
   goal-at a q =
       ap (λ (x : Checked). getD (x .goals) a 0) (w .same)
       ∙ forAgents-at b (goals b) few (omega (arith, length-known b (c .sizes .m) (w .yes))) a (omega (arith, k-same))
+
+  pub starts-inside : (a : ℕ) → a < c .sizes .k → getD (c .starts) a 0 < c .sizes .n
+  unfolding instance
+  starts-inside a l =
+      rw (start-at a l, sizes-same) (sound-known .startsInside a (subst (λ (s : Sizes). a < s .k) sizes-same l))
+
+  pub goals-inside : (a : ℕ) → a < c .sizes .k → getD (c .goals) a 0 < c .sizes .n
+  unfolding instance
+  goals-inside a l =
+      rw (goal-at a l, sizes-same) (sound-known .goalsInside a (subst (λ (s : Sizes). a < s .k) sizes-same l))

@@ -27,21 +27,11 @@ use Rattle.calls.specs.Questions.{question12}
 use Rattle.calls.specs.Calls.{instanceQuestions, instanceAnswer, instanceChecked, writeAnswer, writeSlice}
 use Rattle.calls.specs.Accepted.{Accepted, instanceOf}
 use Rattle.calls.proofs.Instance.{first-refused, first-passed}
-use Rattle.calls.proofs.Accepted.{accepted, horizon-of, sizes-same, graph, sound-known, start-at, goal-at}
+use Rattle.calls.proofs.Accepted.{accepted, horizon-of, sizes-same, graph, start-at, goal-at}
 
 module _ (b : List ℕ) (c : Checked) (w : Accepted b c) where
   abbrev I : Instance
   I = instanceOf b c
-
-  pub starts-inside : (a : ℕ) → a < c .sizes .k → getD (c .starts) a 0 < c .sizes .n
-  unfolding instance
-  starts-inside a l =
-      rw (start-at b c w a l, sizes-same b c w) (sound-known b c w .startsInside a (subst (λ (s : Sizes). a < s .k) (sizes-same b c w) l))
-
-  pub goals-inside : (a : ℕ) → a < c .sizes .k → getD (c .goals) a 0 < c .sizes .n
-  unfolding instance
-  goals-inside a l =
-      rw (goal-at b c w a l, sizes-same b c w) (sound-known b c w .goalsInside a (subst (λ (s : Sizes). a < s .k) (sizes-same b c w) l))
 
   -- the two halves as the code writes them
   abbrev pub firstWords : List ℤ

@@ -131,6 +131,11 @@ module _ {A : Type 0} where
     (λ h. and-iff (p y) _ .1 (h y (List·Memᴰ·head refl), all-mem p l .1 (λ x i. h x (List·Memᴰ·tail i)))),
   )
 
+  pub getD-mem : (d : A) (l : List A) (i : ℕ) → i < length l → List·Memᴰ (getD l i d) l
+  getD-mem d [] i h = absurd (not-suc-le-zero h)
+  getD-mem d (x ∷ l) zero h = List·Memᴰ·head refl
+  getD-mem d (x ∷ l) (suc i) h = List·Memᴰ·tail (getD-mem d l i (le-of-suc-le-suc h))
+
   -- ---- questions
   pub unless-nil : (b : Bool) (x : A) → (unless b x ≡ []) ↔ T b
   unless-nil true x = ((λ e. tt), (λ t. refl))

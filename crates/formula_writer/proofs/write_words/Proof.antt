@@ -9,8 +9,8 @@ use Rattle.lists.proofs.Slices.{filled-nil, filled-part}
 use Rattle.families.specs.Rows.{units, wordsC, wordsD, wordsE, wordsF, wordsG}
 use Rattle.formula.specs.Formula.{words}
 use Rattle.calls.specs.Accepted.{instanceOf}
-use Rattle.calls.proofs.Accepted.{limits-known}
-use Rattle.formula_writer.proofs.Laws.{starts-inside, goals-inside, firstWords, restWords, words-split}
+use Rattle.calls.proofs.Accepted.{limits-known, starts-inside, goals-inside}
+use Rattle.formula_writer.proofs.Laws.{firstWords, restWords, words-split}
 use borrow.Author.Needs.{needs}
 use Rattle.formula_writer.proofs.write_words.Statement.{statement}
 use Rattle.formula_writer.proofs.write_words.Tie as tie
