@@ -1,8 +1,8 @@
 -- When questions are answered yes, and what the first no gives.
-use mathlib.Core.Path.{_≡_, refl, sym, _∙_, ap, ap₂}
+use mathlib.Core.Path.{_≡_, refl, _∙_, ap, ap₂}
 use mathlib.Core.Logic.{_↔_, _≢_}
 use mathlib.Core.List.{List, [], _∷_, _++_, cons≢nil}
-use mathlib.Core.Bool.{Bool, true, false, _&&_}
+use mathlib.Core.Bool.{Bool, true, false}
 use Prim.Native.Nat.{ℕ, zero, suc, _≤_, _<_, _-_, _+_}
 use native.Mathlib.Omega.{arith}
 use lib.ListN.{length, take}
@@ -13,7 +13,7 @@ use Rattle.lists.proofs.Tests.{and-iff}
 use Rattle.lists.proofs.Loops.{for-nil, for-split, unless-nil, unless-one}
 use Rattle.lists.proofs.Slices.{take-filled}
 use Rattle.answers.specs.declared.Answer.{Answer}
-use Rattle.answers.specs.Answers.{Question, refuse, accept, decide, byNumber, lent}
+use Rattle.answers.specs.Answers.{Question, accept, decide, byNumber, lent}
 use Rattle.answers.specs.Fault.{FirstFault}
 
 -- a question is answered yes

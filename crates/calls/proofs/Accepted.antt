@@ -1,23 +1,20 @@
 -- From the instance check's answer to what the inner functions require, and what they then know.
-use mathlib.Core.Path.{_≡_, refl, sym, _∙_, ap, subst}
-use mathlib.Core.List.{List, [], _∷_, _++_}
-use Prim.Native.Nat.{ℕ, suc, _+_, _-_, _*_, _≤_, _<_}
+use mathlib.Core.Path.{_≡_, sym, _∙_, ap, subst}
+use mathlib.Core.List.{List}
+use Prim.Native.Nat.{ℕ, _+_, _*_, _≤_, _<_}
 use native.Mathlib.Omega.{arith}
 use lib.ListN.{length, getD, take, drop, replicate, length-drop, List·getD-append}
 use lib.Seq.{getD-drop, getD-take, length-take-le}
-use lib.Dec.{T}
-use Rattle.lists.specs.Loop.{all}
 use Rattle.lists.specs.Slice.{filled}
 use Rattle.lists.proofs.Slices.{filled-length}
-use Rattle.answers.specs.declared.Answer.{Answer}
-use Rattle.answers.proofs.Laws.{clear, byNumber-accepted}
+use Rattle.answers.proofs.Laws.{byNumber-accepted}
 use Rattle.instance.specs.declared.Sizes.{Sizes}
 use Rattle.instance.specs.declared.Checked.{Checked}
-use Rattle.instance.specs.Instance.{Instance, instance, checked, unchecked, forAgents, vertices, agents, edges, starts, goals, startOf, goalOf}
+use Rattle.instance.specs.Instance.{Instance, instance, checked, unchecked, forAgents, vertices, agents, edges, starts, goals}
 use Rattle.instance.proofs.Graph.{Edges}
 use Rattle.formula.proofs.Limits.{Limits}
 use Rattle.valuation.proofs.Families.{Sound}
-use Rattle.calls.specs.Calls.{instanceQuestions, instanceAnswer, instanceChecked}
+use Rattle.calls.specs.Calls.{instanceAnswer, instanceChecked}
 use Rattle.calls.specs.Accepted.{Accepted, instanceOf}
 use Rattle.calls.proofs.Instance.{instance-iff, sound, edges-known, length-known, limits, agents-below}
 

@@ -1,8 +1,8 @@
 -- What an accepted instance and horizon are known to have.
-use mathlib.Core.Path.{_≡_, refl, sym, _∙_, ap}
-use mathlib.Core.Logic.{_↔_, _≢_, _⊎_, inl, inr, ⊎-elim}
+use mathlib.Core.Path.{_≡_, sym, _∙_, ap}
+use mathlib.Core.Logic.{_↔_, _≢_, inl, inr, ⊎-elim}
 use mathlib.Core.List.{List, _++_}
-use Prim.Native.Nat.{ℕ, suc, _+_, _*_, _-_, _/_, _≤_, _<_}
+use Prim.Native.Nat.{ℕ, suc, _+_, _*_, _-_, _≤_}
 use native.Mathlib.Nat.{mul-le-mul}
 use native.Mathlib.Omega.{arith}
 use lib.ListN.{length}
@@ -13,7 +13,7 @@ use Rattle.lists.proofs.Loops.{for-all, for-nil, unless-nil, unless-all}
 use Rattle.answers.specs.declared.Answer.{Answer}
 use Rattle.answers.specs.Answers.{Question, decide}
 use Rattle.answers.proofs.Laws.{clear, numbered, clear-iff, decide-iff, decide-after, decide-refused}
-use Rattle.instance.specs.Instance.{Instance, instance, vertices, agents, edges, lowEnd, highEnd}
+use Rattle.instance.specs.Instance.{instance, vertices, agents, edges, lowEnd}
 use Rattle.instance.proofs.Graph.{Edges}
 use Rattle.formula.proofs.Limits.{Limits}
 use Rattle.valuation.proofs.Families.{Sound}

@@ -1,7 +1,7 @@
 -- The plan check's questions are answered yes exactly for the plans that pass.
-use mathlib.Core.Path.{_≡_, refl, sym}
+use mathlib.Core.Path.{_≡_, sym}
 use mathlib.Core.Logic.{_↔_, _≢_, _⊎_, inl, inr, ⊎-elim, by-cases, Iff·trans}
-use mathlib.Core.List.{List, [], _∷_, _++_}
+use mathlib.Core.List.{List, [], _∷_}
 use Prim.Native.Nat.{ℕ, suc, _<_}
 use native.Mathlib.Decide.{ℕ-discrete, decLt}
 use native.Mathlib.Omega.{arith}
@@ -15,7 +15,7 @@ use Rattle.instance.specs.declared.Sizes.{Sizes}
 use Rattle.instance.specs.Instance.{Instance, instance, adjacent, Edge}
 use Rattle.instance.proofs.Graph.{adjacent-iff}
 use Rattle.plan.specs.Plan.{condition1, condition2, condition3, place}
-use Rattle.plan.specs.Passing.{ValidStep, Leads, Passes}
+use Rattle.plan.specs.Passing.{Passes}
 use Rattle.calls.specs.Questions.{question13, question19, question20, question21}
 use Rattle.calls.specs.Calls.{instanceQuestions, planQuestions, checkAnswer}
 

@@ -1,11 +1,11 @@
 -- The correspondence, proved. A satisfying valuation puts each agent at one vertex at each time, by families C and D; at those
 -- places the formula says that they lead from the starts to the goals by valid steps, and so does a passing plan.
-use mathlib.Core.Path.{_≡_, refl, sym, _∙_, ap, subst}
+use mathlib.Core.Path.{_≡_, refl, sym, _∙_, subst}
 use mathlib.Core.Logic.{_↔_, ⊎-elim, Iff·trans, Iff·symm}
-use mathlib.Core.List.{List, [], _∷_, _++_}
+use mathlib.Core.List.{List, [], _∷_}
 use Prim.Native.Nat.{ℕ, suc, _+_, _*_, _≤_, _<_}
 use native.Mathlib.Omega.{arith}
-use lib.ListN.{length, getD, take}
+use lib.ListN.{length, getD}
 use lib.Seq.{ext-getD}
 use lib.Dec.{T, leb}
 use lib.IntN.{ℤ, pos}
@@ -14,7 +14,7 @@ use Rattle.lists.proofs.Tests.{leb-iff}
 use Rattle.lists.proofs.Loops.{unless-nil, unless-all}
 use Rattle.lists.proofs.Blocks.{place-lt, place-split}
 use Rattle.answers.specs.declared.Answer.{Answer}
-use Rattle.answers.proofs.Laws.{clear, numbered, clear-iff, clear-second, numbered-second, decide-iff, decide-after, lent-take}
+use Rattle.answers.proofs.Laws.{clear, clear-iff, clear-second, numbered-second, decide-iff, decide-after, lent-take}
 use Rattle.instance.specs.declared.Sizes.{Sizes}
 use Rattle.instance.specs.Instance.{Instance, instance}
 use Rattle.formula.specs.Variables.{X, variableCount}

@@ -1,12 +1,12 @@
 -- Family F's clause depends on the test of neighbours only below n.
-use mathlib.Core.Path.{_≡_, refl, ap}
+use mathlib.Core.Path.{_≡_, ap}
 use mathlib.Core.List.{[], _∷_}
 use mathlib.Core.Bool.{Bool}
 use Prim.Native.Nat.{ℕ, _+_, _<_}
-use Rattle.lists.specs.Loop.{for, when}
+use Rattle.lists.specs.Loop.{when}
 use Rattle.lists.proofs.Loops.{for-ext}
 use Rattle.instance.specs.declared.Sizes.{Sizes}
-use Rattle.formula.specs.Variables.{Literal, X, ¬X}
+use Rattle.formula.specs.Variables.{X, ¬X}
 use Rattle.formula.specs.Formula.{Clause}
 use Rattle.clauses.specs.Lines.{nearby, onward}
 

@@ -1,13 +1,12 @@
 -- The closed counts are the lengths of the lists of clauses and words.
 use mathlib.Core.Path.{_≡_, refl, sym, _∙_, ap, ap₂}
-use mathlib.Core.List.{List, [], _∷_, _++_, append-nil}
-use Prim.Native.Nat.{ℕ, suc, _+_, _*_, _-_, _/_, _≤_, _<_}
+use mathlib.Core.List.{[], _∷_, append-nil}
+use Prim.Native.Nat.{ℕ, suc, _+_, _*_, _-_}
 use native.Mathlib.Nat.{mul-one, mul-comm, mul-assoc, mul-left-comm}
 use native.Mathlib.Numerals.{add-one}
 use native.Mathlib.Omega.{arith}
 use lib.ListN.{length, length-append}
-use lib.IntN.{ℤ}
-use Rattle.lists.specs.Loop.{for, when, each, sum}
+use Rattle.lists.specs.Loop.{for, each}
 use Rattle.lists.proofs.Loops.{for-length, each-for, each-append, each-when}
 use Rattle.lists.proofs.Blocks.{for1-length}
 use Rattle.lists.proofs.Sums.{for-sum, sum-ext, sum-const, sum-add, above-length, others-length, when-count}

@@ -1,15 +1,14 @@
 -- No formula of an accepted instance is longer than the largest, and no clause has more than 66 words.
-use mathlib.Core.Path.{_≡_, refl, sym, _∙_, ap, ap₂}
-use mathlib.Core.Logic.{⊎-elim, by-cases}
-use mathlib.Core.List.{List, [], _∷_, _++_, List·Memᴰ}
+use mathlib.Core.Path.{_≡_, refl}
+use mathlib.Core.Logic.{⊎-elim}
+use mathlib.Core.List.{List·Memᴰ}
 use mathlib.Core.Bool.{Bool, true, false}
-use Prim.Native.Nat.{ℕ, zero, suc, _+_, _*_, _-_, _/_, _≤_, _<_}
+use Prim.Native.Nat.{ℕ, zero, suc, _+_, _*_, _-_, _≤_, _<_}
 use native.Mathlib.Nat.{mul-le-mul, not-suc-le-zero, le-refl, eq-or-lt-of-le, le-of-suc-le-suc}
-use native.Mathlib.Decide.{ℕ-discrete}
 use native.Mathlib.Omega.{arith}
 use lib.ListN.{length, length-append}
 use lib.Dec.{T, leb}
-use Rattle.lists.specs.Loop.{for, when, all, sum}
+use Rattle.lists.specs.Loop.{all, sum}
 use Rattle.lists.proofs.Tests.{leb-iff}
 use Rattle.lists.proofs.Loops.{for-all, when-all, one-all, all-append, all-mem}
 use Rattle.lists.proofs.Blocks.{for1-length}
@@ -17,9 +16,9 @@ use Rattle.lists.proofs.Sums.{ind, when-count}
 use Rattle.instance.specs.declared.Sizes.{Sizes}
 use Rattle.instance.specs.Instance.{Instance, adjacent}
 use Rattle.instance.proofs.Graph.{Edges, adjacent-iff, degree}
-use Rattle.formula.specs.Variables.{X, ¬X, variableCount}
+use Rattle.formula.specs.Variables.{X, variableCount}
 use Rattle.formula.specs.Formula.{Clause, A, B, C, D, E, F, G, clauses, line}
-use Rattle.formula.specs.Counts.{pairs, clausesBy, wordsBy, clauseCount, wordCount}
+use Rattle.formula.specs.Counts.{pairs, clausesBy, clauseCount, wordCount}
 
 -- the sizes of an accepted instance and horizon
 pub record Limits (s : Sizes) : Type 0 where

@@ -2,23 +2,21 @@
 use mathlib.Core.Path.{_≡_, refl, sym, _∙_, ap, ap₂, subst}
 use mathlib.Core.Logic.{_≢_}
 use mathlib.Core.List.{List, [], _∷_, _++_, append-assoc}
-use Prim.Native.Nat.{ℕ, zero, suc, _+_, _≤_, _<_}
+use Prim.Native.Nat.{ℕ, _≤_, _<_}
 use native.Mathlib.Omega.{arith}
 use lib.IntN.{ℤ}
-use lib.ListN.{length, getD}
+use lib.ListN.{length}
 use lib.Dec.{leb}
-use Rattle.lists.specs.Loop.{each}
 use Rattle.lists.specs.Slice.{filled}
 use Rattle.lists.proofs.Tests.{leb-iff}
 use Rattle.lists.proofs.Loops.{each-append}
 use Rattle.answers.specs.declared.Answer.{Answer}
-use Rattle.answers.specs.declared.Written.{Written}
 use Rattle.answers.specs.Answers.{refuse, accept, decide, withClauses}
 use Rattle.answers.proofs.Laws.{ask-yes, ask-no, byNumber-refused, lent-accepted, lent-refused}
 use Rattle.instance.specs.declared.Sizes.{Sizes}
 use Rattle.instance.specs.declared.Checked.{Checked}
 use Rattle.instance.specs.Instance.{Instance, instance, adjacent}
-use Rattle.formula.specs.Formula.{A, B, C, D, E, F, G, clauses, line, words}
+use Rattle.formula.specs.Formula.{A, clauses, words}
 use Rattle.formula.specs.Counts.{clauseCount, wordCount}
 use Rattle.formula.proofs.Counts.{clause-count, word-count}
 use Rattle.families.specs.Rows.{units, wordsC, wordsD, beside, wordsE, wordsF, wordsG}

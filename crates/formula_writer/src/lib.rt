@@ -71,6 +71,7 @@ pub fn write_formula(b: &[u8], m: usize, f: &mut [i32]) -> Written
     }
     let s = c.sizes;
     let needed = counts::word_count(s);
+    let clauses = counts::clause_count(s);
     if f.len() < needed {
         return Written {
             number: 12,
@@ -78,7 +79,6 @@ pub fn write_formula(b: &[u8], m: usize, f: &mut [i32]) -> Written
             clauses: 0,
         };
     }
-    let clauses = counts::clause_count(s);
     write_words(f, b, c);
     Written {
         number: 0,

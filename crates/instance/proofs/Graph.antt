@@ -1,5 +1,5 @@
 -- The graph of an instance: its edges are distinct, and the degrees of its vertices add up to 2e.
-use mathlib.Core.Path.{_≡_, refl, sym, _∙_, ap, ap₂}
+use mathlib.Core.Path.{_≡_, sym, _∙_, ap, ap₂}
 use mathlib.Core.Logic.{_↔_, _⊎_, inl, inr, ⊎-elim, by-cases, Iff·rfl}
 use mathlib.Core.Bool.{Bool, _&&_, _||_}
 use Prim.Native.Nat.{ℕ, zero, suc, _+_, _*_, _<_}
@@ -7,7 +7,7 @@ use native.Mathlib.Nat.{mul-comm, one-mul, not-suc-le-zero, eq-or-lt-of-le, le-o
 use native.Mathlib.Decide.{decLt}
 use native.Mathlib.Omega.{arith}
 use lib.Dec.{T, eqb}
-use Rattle.lists.specs.Loop.{sum, some}
+use Rattle.lists.specs.Loop.{sum}
 use Rattle.lists.proofs.Tests.{and-iff, or-iff, eqb-iff, some-iff}
 use Rattle.lists.proofs.Sums.{ind, ind-and, ind-or, sum-ext, sum-const, sum-mul, sum-add, sum-swap, sum-one, some-count}
 use Rattle.instance.specs.declared.Sizes.{Sizes}

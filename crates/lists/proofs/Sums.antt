@@ -1,10 +1,10 @@
 -- Sums, and lists whose blocks have different lengths: pairs v < w, and the numbers other than one.
 use mathlib.Core.Path.{_≡_, refl, sym, _∙_, ap, ap₂}
 use mathlib.Core.Logic.{⊎-elim}
-use mathlib.Core.List.{List, [], _∷_, _++_}
+use mathlib.Core.List.{List, [], _∷_}
 use mathlib.Core.Bool.{Bool, true, false, not, _&&_, _||_}
 use Prim.Native.Nat.{ℕ, zero, suc, _+_, _*_, _-_, _/_, _≤_, _<_}
-use native.Mathlib.Nat.{suc-mul, mul-suc, zero-mul, mul-zero, mul-one, add-mul, le-refl, not-suc-le-zero, eq-or-lt-of-le, le-of-suc-le-suc, mul-div-cancel-left, zero-lt-suc, add-zero}
+use native.Mathlib.Nat.{suc-mul, mul-suc, zero-mul, mul-zero, add-mul, le-refl, not-suc-le-zero, eq-or-lt-of-le, le-of-suc-le-suc, mul-div-cancel-left, zero-lt-suc, add-zero}
 use native.Mathlib.Omega.{arith}
 use borrow.Author.Tests.{eq-eqb, ne-eqb}
 use lib.ListN.{length, getD, length-append, List·getD-append}

@@ -1,16 +1,15 @@
 -- The seven ranges of clause numbers: number |A| + .. + place stands at that place of its family.
-use mathlib.Core.Path.{_≡_, refl, sym, _∙_, ap}
-use mathlib.Core.List.{List, [], _∷_, _++_, Memᴰ·append-left, Memᴰ·append-right}
-use Prim.Native.Nat.{ℕ, suc, _+_, _-_, _≤_, _<_}
+use mathlib.Core.Path.{_≡_, sym, _∙_, ap}
+use mathlib.Core.List.{List, [], _++_, Memᴰ·append-left, Memᴰ·append-right}
+use Prim.Native.Nat.{ℕ, _+_, _-_, _≤_, _<_}
 use native.Mathlib.Omega.{arith}
 use lib.ListN.{length, getD, length-append, List·getD-append}
 use lib.Seq.{getD-append-add}
 use Rattle.lists.proofs.Loops.{getD-mem}
-use Rattle.instance.specs.declared.Sizes.{Sizes}
 use Rattle.instance.specs.declared.Checked.{Checked}
 use Rattle.instance.specs.Instance.{Instance}
 use Rattle.formula.specs.Formula.{Clause, A, B, C, D, E, F, G, clauses, line}
-use Rattle.formula.specs.Counts.{Families, clausesBy, clauseCount}
+use Rattle.formula.specs.Counts.{Families, clausesBy}
 use Rattle.formula.proofs.Counts.{count-A, count-B, count-C, count-D, count-E, count-F, count-G}
 use Rattle.formula.proofs.Limits.{clause-most}
 use Rattle.calls.specs.Accepted.{Accepted, instanceOf}

@@ -1,8 +1,7 @@
 -- A valuation's entries, the truth of literals, the plan named and the valuation of a plan.
-use mathlib.Core.Path.{_≡_, refl, sym, _∙_, ap, subst}
+use mathlib.Core.Path.{_≡_, refl, sym, _∙_, ap}
 use mathlib.Core.Logic.{_↔_, _≢_, _⊎_, inl, inr, ⊎-elim, by-cases}
 use mathlib.Core.List.{List}
-use mathlib.Core.Bool.{Bool}
 use Prim.Native.Nat.{ℕ, suc, _+_, _*_, _<_}
 use native.Mathlib.Nat.{mul-comm, mul-left-comm}
 use native.Mathlib.Decide.{ℕ-discrete, decLt}
@@ -10,20 +9,20 @@ use native.Mathlib.Omega.{arith}
 use borrow.Author.Tests.{eq-eqb, ne-eqb}
 use lib.ListN.{length, getD}
 use lib.Dec.{T}
-use lib.IntN.{ℤ, pos, negsuc, negℤ, natAbs}
+use lib.IntN.{ℤ, pos, negsuc, natAbs}
 use Rattle.lists.specs.Loop.{any}
 use Rattle.lists.proofs.Tests.{eqb-iff, ltb-iff, some-iff, first-iff}
 use Rattle.lists.proofs.Loops.{for-all, when-all, one-all, for-any, any-one, any-two, any-getD}
 use Rattle.lists.proofs.Blocks.{place-lt, place-split, for2-length, for2-getD, for3-length, for3-getD}
 use Rattle.instance.specs.declared.Sizes.{Sizes}
 use Rattle.instance.specs.Instance.{Instance}
-use Rattle.formula.specs.Variables as variables
 use Rattle.formula.specs.Variables.{Literal, index, variableCount}
 use Rattle.formula.specs.Formula.{C, D}
 use Rattle.plan.specs.Plan.{place}
 use Rattle.valuation.specs.Valuation.{sameNumber, true?, named, namedPlan, entryFor, planValuation}
 use Rattle.valuation.specs.Satisfying.{Valuation}
 use Rattle.valuation.proofs.Families.{Places, Sat}
+use Rattle.formula.specs.Variables as variables
 
 pub sameNumber-iff : (x y : ℤ) → T (sameNumber x y) ↔ (x ≡ y)
 sameNumber-iff (pos a) (pos b) = ((λ t. ap pos (eqb-iff a b .0 t)), (λ e. eqb-iff a b .1 (cc)))

@@ -2,8 +2,8 @@
 -- where the places lead from the starts to the goals by valid steps.
 use mathlib.Core.Path.{_≡_, refl, sym, _∙_, ap, subst}
 use mathlib.Core.Logic.{_↔_, _≢_, _⊎_, inl, inr, ⊎-elim, by-cases}
-use mathlib.Core.List.{List, [], _∷_, _++_}
-use mathlib.Core.Bool.{Bool, not}
+use mathlib.Core.List.{List}
+use mathlib.Core.Bool.{Bool}
 use Prim.Native.Nat.{ℕ, zero, suc, _<_}
 use native.Mathlib.Nat.{zero-lt-suc, le-refl}
 use native.Mathlib.Decide.{ℕ-discrete, decLt}
@@ -15,10 +15,10 @@ use Rattle.lists.proofs.Loops.{for-all, when-all, one-all, for-any, when-any, a
 use Rattle.instance.specs.declared.Sizes.{Sizes}
 use Rattle.instance.specs.Instance.{Instance, adjacent, Edge}
 use Rattle.instance.proofs.Graph.{adjacent-iff}
-use Rattle.formula.specs.Variables as variables
 use Rattle.formula.specs.Variables.{Literal}
 use Rattle.formula.specs.Formula.{Clause, A, B, C, D, E, F, G, clauses}
-use Rattle.plan.specs.Passing.{ValidStep, Leads}
+use Rattle.plan.specs.Passing.{Leads}
+use Rattle.formula.specs.Variables as variables
 
 -- a truth of literals h satisfies the clauses
 abbrev pub Sat : (Literal → Bool) → List Clause → Type 0

@@ -1,33 +1,19 @@
-use borrow.Author.Needs.{sfits-of}
-
-use mathlib.Core.List.{List, [], _∷_, _++_}
-use lib.ListN.{length, take, drop, length-take, length-drop}
-use lib.IntN.{ℤ}
-use Rattle.lists.specs.Loop.{for}
-use Rattle.lists.proofs.Slices.{filled-nil, for-turn, for-next, for-room}
-use Rattle.lists.specs.Loop.{when}
-use Rattle.formula.specs.Variables.{X}
+-- `clauses::put_near` meets its contract. The invariant: the turns so far have written their blocks one behind another, and `at` is the number of their words. Assumes nothing.
+use mathlib.Core.List.{List, [], _∷_}
 use mathlib.Core.Path.{_≡_, refl, sym, _∙_, ap}
-use mathlib.Core.List.{[], _∷_, _++_}
-use Prim.Native.Nat.{ℕ, suc, _+_, _-_, _*_, _≤_, _<_}
+use Prim.Native.Nat.{ℕ, _-_, _≤_}
 use native.Mathlib.Omega.{arith}
-use lib.ListN.{length, take, drop, length-set, length-take, length-drop, length-append}
-use lib.IntN.{ℤ, pos, negℤ}
 use mir.Facts.{toZ-ofZ}
-use borrow.Author.Needs.{needs, sfits-of}
+use borrow.Author.Needs.{sfits-of, needs}
+use lib.ListN.{length, length-take, length-drop}
+use lib.IntN.{ℤ}
 use Rattle.lists.specs.Loop.{for, when}
+use Rattle.lists.proofs.Slices.{filled-nil, for-turn, for-next, for-room}
+use Rattle.formula.specs.Variables.{X}
 use Rattle.lists.specs.Slice.{filled}
-use Rattle.lists.proofs.Slices.{sets-filled, filled-nil, filled-length, filled-set, filled-part, for-turn, for-next, for-room}
-use Rattle.formula.specs.Variables.{X, ¬X, index}
-use Rattle.formula.specs.Formula.{line}
 use Rattle.clauses.specs.Lines.{marked, nearby}
-use borrow.Author.Needs.{needs}
 use Rattle.clauses.proofs.put_near.Statement.{statement}
 use Rattle.clauses.proofs.put_near.Tie as tie
-use Rattle.clauses.proofs.put_near.Reads as reads
-use Rattle.clauses.proofs.put_near.Lts as lts
-use Rattle.clauses.proofs.positive.Reads as positive-reads
-use Rattle.clauses.proofs.put_when.Reads as put-when-reads
 
 abbrev Inv-loop : tie.InvT-loop
 Inv-loop f₀ s near t a n at₀ w₀ f at w = (w ≤ n) × ((at ≤ length f₀) × ((length f ≡ length f₀) × ((at ≡ length (for w (λ u. when (marked near u) (X s (t .0) (a .0) u ∷ [])))) × (f ≡ filled (for w (λ u. when (marked near u) (X s (t .0) (a .0) u ∷ []))) f₀))))
@@ -35,35 +21,27 @@ Inv-loop f₀ s near t a n at₀ w₀ f at w = (w ≤ n) × ((at ≤ length f₀
 abbrev μ-loop : tie.MeasureT-loop
 μ-loop f₀ s near t a n at₀ w₀ f at w = n - w
 
--- src/lib.rt:91:5
 loop-holds : tie.Need-loop-holds Inv-loop μ-loop
 loop-holds c = (omega arith, (omega arith, (refl, (refl, sym (filled-nil _)))))
 
--- src/lib.rt:92:20
 shared-slice-read-test : tie.Need-shared-slice-read-test Inv-loop μ-loop
 shared-slice-read-test c = search needs
 
--- src/lib.rt:93:24
 mul-put-when : tie.Need-mul-put-when Inv-loop μ-loop
 mul-put-when c = search needs
 
--- src/lib.rt:93:24
 sub-put-when : tie.Need-sub-put-when Inv-loop μ-loop
 sub-put-when c = search needs
 
--- src/lib.rt:93:24
 part-put-when-start : tie.Need-part-put-when-start Inv-loop μ-loop
 part-put-when-start c = search needs
 
--- src/lib.rt:93:24
 part-put-when-end : tie.Need-part-put-when-end Inv-loop μ-loop
 part-put-when-end c = search needs
 
--- src/lib.rt:93:44
 positive-requires : tie.Need-positive-requires Inv-loop μ-loop
 positive-requires c κs = search needs
 
--- src/lib.rt:93:15
 put-when-requires : tie.Need-put-when-requires Inv-loop μ-loop
 unfolding nearby
 put-when-requires c κs =
@@ -73,7 +51,6 @@ put-when-requires c κs =
     let h = c .before .before .before .before .before .before .pre .1 .1 in
     omega arith)
 
--- src/lib.rt:93:9
 add-at : tie.Need-add-at Inv-loop μ-loop
 unfolding nearby
 add-at c =
@@ -82,15 +59,12 @@ add-at c =
     let h = c .before .before .before .before .before .before .before .before .pre .1 .1 in
     let q : c .before .put-when .result ≡ length (g (c .before .before .before .before .before .before .loop .w)) = rw (toZ-ofZ (sfits-of (c .before .before .positive .ok)), c .before .before .positive .ensures) at (c .before .put-when .ensures .0) in omega arith
 
--- src/lib.rt:91:9
 add-w : tie.Need-add-w Inv-loop μ-loop
 add-w c = search needs
 
--- src/lib.rt:91:5
 loop-less : tie.Need-loop-less Inv-loop μ-loop
 loop-less c = search needs
 
--- src/lib.rt:91:5
 loop-again : tie.Need-loop-again Inv-loop μ-loop
 unfolding nearby
 loop-again c =
@@ -113,11 +87,9 @@ loop-again c =
       ),
     )
 
--- src/lib.rt:83:1
 same-length : tie.Need-same-length Inv-loop μ-loop
 same-length c = c .before .loop .inv .1 .1 .0
 
--- src/lib.rt:83:1
 returns : tie.Need-returns Inv-loop μ-loop
 unfolding nearby
 returns c =

@@ -1,136 +1,105 @@
-use mathlib.Core.Path.{_≡_, refl, sym, _∙_, ap}
-use mathlib.Core.List.{[], _∷_, _++_}
-use Prim.Native.Nat.{ℕ, suc, _+_, _-_, _*_, _≤_, _<_}
+-- `clauses::put_onward` meets its contract. The invariant: the turns so far have written their blocks one behind another, and `at` is the number of their words. Assumes nothing.
+use mathlib.Core.Path.{_≡_, refl, sym}
+use mathlib.Core.List.{[], _∷_, _++_, List}
+use Prim.Native.Nat.{_+_, _≤_}
 use native.Mathlib.Omega.{arith}
-use lib.ListN.{length, take, drop, length-set, length-take, length-drop, length-append}
-use lib.IntN.{ℤ, pos, negℤ}
 use mir.Facts.{toZ-ofZ}
 use borrow.Author.Needs.{needs, sfits-of}
-use Rattle.lists.specs.Loop.{for, when}
-use Rattle.lists.specs.Slice.{filled}
-use Rattle.lists.proofs.Slices.{sets-filled, filled-nil, filled-length, filled-set, filled-part, for-turn, for-next, for-room}
-use Rattle.formula.specs.Variables.{X, ¬X, index}
-use Rattle.formula.specs.Formula.{line}
-use mathlib.Core.List.{List}
+use lib.ListN.{length, length-take, length-drop, length-append}
+use lib.IntN.{ℤ, pos}
+use Rattle.lists.proofs.Slices.{filled-nil, filled-part}
+use Rattle.formula.specs.Variables.{X, ¬X}
 use Rattle.clauses.specs.Lines.{marked, nearby, onward}
-use borrow.Author.Needs.{needs}
 use Rattle.clauses.proofs.put_onward.Statement.{statement}
 use Rattle.clauses.proofs.put_onward.Tie as tie
-use Rattle.clauses.proofs.put_onward.Reads as reads
-use Rattle.clauses.proofs.put_onward.Lts as lts
-use Rattle.clauses.proofs.negative.Reads as negative-reads
-use Rattle.clauses.proofs.positive.Reads as positive-reads
-use Rattle.clauses.proofs.put_end.Reads as put-end-reads
-use Rattle.clauses.proofs.put_near.Reads as put-near-reads
-use Rattle.clauses.proofs.put_two.Reads as put-two-reads
 
--- src/lib.rt:123:21
 add-put-two : tie.Need-add-put-two
 add-put-two c = search needs
 
--- src/lib.rt:124:13
 sub-put-two : tie.Need-sub-put-two
 sub-put-two c = search needs
 
--- src/lib.rt:124:13
 part-put-two-start : tie.Need-part-put-two-start
 part-put-two-start c = search needs
 
--- src/lib.rt:124:13
 part-put-two-end : tie.Need-part-put-two-end
 part-put-two-end c = search needs
 
--- src/lib.rt:124:26
 negative-requires : tie.Need-negative-requires
 negative-requires c κs = search needs
 
--- src/lib.rt:124:48
 positive-requires : tie.Need-positive-requires
 positive-requires c κs = search needs
 
--- src/lib.rt:124:5
 put-two-requires : tie.Need-put-two-requires
 unfolding onward
 put-two-requires c κs =
     let room : length (nearby (c .before .before .before .before .before .args .s) (marked (c .before .before .before .before .before .args .near .now)) (c .before .before .before .before .before .args .t .0 + 1) (c .before .before .before .before .before .args .a .0)) + 3 ≤ length (c .before .before .before .before .before .args .f .now) = omega (arith, c .before .before .before .before .before .pre .1 .1, length-append (nearby (c .before .before .before .before .before .args .s) (marked (c .before .before .before .before .before .args .near .now)) (c .before .before .before .before .before .args .t .0 + 1) (c .before .before .before .before .before .args .a .0)) (pos 0 ∷ [])) in
     simp (length-take, length-drop) (omega arith)
 
--- src/lib.rt:125:27
 sub-put-near : tie.Need-sub-put-near
 unfolding onward
 sub-put-near c =
     let room : length (nearby (c .before .before .before .before .before .before .before .args .s) (marked (c .before .before .before .before .before .before .before .args .near .now)) (c .before .before .before .before .before .before .before .args .t .0 + 1) (c .before .before .before .before .before .before .before .args .a .0)) + 3 ≤ length (c .before .before .before .before .before .before .before .args .f .now) = omega (arith, c .before .before .before .before .before .before .before .pre .1 .1, length-append (nearby (c .before .before .before .before .before .before .before .args .s) (marked (c .before .before .before .before .before .before .before .args .near .now)) (c .before .before .before .before .before .before .before .args .t .0 + 1) (c .before .before .before .before .before .before .before .args .a .0)) (pos 0 ∷ [])) in
     omega arith
 
--- src/lib.rt:125:27
 part-put-near-start : tie.Need-part-put-near-start
 unfolding onward
 part-put-near-start c =
     let room : length (nearby (c .before .before .before .before .before .before .before .args .s) (marked (c .before .before .before .before .before .before .before .args .near .now)) (c .before .before .before .before .before .before .before .args .t .0 + 1) (c .before .before .before .before .before .before .before .args .a .0)) + 3 ≤ length (c .before .before .before .before .before .before .before .args .f .now) = omega (arith, c .before .before .before .before .before .before .before .pre .1 .1, length-append (nearby (c .before .before .before .before .before .before .before .args .s) (marked (c .before .before .before .before .before .before .before .args .near .now)) (c .before .before .before .before .before .before .before .args .t .0 + 1) (c .before .before .before .before .before .before .before .args .a .0)) (pos 0 ∷ [])) in
     omega arith
 
--- src/lib.rt:125:27
 part-put-near-end : tie.Need-part-put-near-end
 part-put-near-end c = search needs
 
--- src/lib.rt:125:18
 put-near-requires : tie.Need-put-near-requires
 unfolding onward
 put-near-requires c κs =
     let room : length (nearby (c .before .before .before .before .before .before .before .before .args .s) (marked (c .before .before .before .before .before .before .before .before .args .near .now)) (c .before .before .before .before .before .before .before .before .args .t .0 + 1) (c .before .before .before .before .before .before .before .before .args .a .0)) + 3 ≤ length (c .before .before .before .before .before .before .before .before .args .f .now) = omega (arith, c .before .before .before .before .before .before .before .before .pre .1 .1, length-append (nearby (c .before .before .before .before .before .before .before .before .args .s) (marked (c .before .before .before .before .before .before .before .before .args .near .now)) (c .before .before .before .before .before .before .before .before .args .t .0 + 1) (c .before .before .before .before .before .before .before .before .args .a .0)) (pos 0 ∷ [])) in
     simp (length-take, length-drop) (search needs)
 
--- src/lib.rt:125:14
 add-at : tie.Need-add-at
 unfolding onward
 add-at c =
     let room : length (nearby (c .before .before .before .before .before .before .before .before .before .before .args .s) (marked (c .before .before .before .before .before .before .before .before .before .before .args .near .now)) (c .before .before .before .before .before .before .before .before .before .before .args .t .0 + 1) (c .before .before .before .before .before .before .before .before .before .before .args .a .0)) + 3 ≤ length (c .before .before .before .before .before .before .before .before .before .before .args .f .now) = omega (arith, c .before .before .before .before .before .before .before .before .before .before .pre .1 .1, length-append (nearby (c .before .before .before .before .before .before .before .before .before .before .args .s) (marked (c .before .before .before .before .before .before .before .before .before .before .args .near .now)) (c .before .before .before .before .before .before .before .before .before .before .args .t .0 + 1) (c .before .before .before .before .before .before .before .before .before .before .args .a .0)) (pos 0 ∷ [])) in
     let q = c .before .put-near .ensures .0 in omega arith
 
--- src/lib.rt:126:13
 mul-put-end : tie.Need-mul-put-end
 unfolding onward
 mul-put-end c =
     let room : length (nearby (c .before .before .before .before .before .before .before .before .before .before .args .s) (marked (c .before .before .before .before .before .before .before .before .before .before .args .near .now)) (c .before .before .before .before .before .before .before .before .before .before .args .t .0 + 1) (c .before .before .before .before .before .before .before .before .before .before .args .a .0)) + 3 ≤ length (c .before .before .before .before .before .before .before .before .before .before .args .f .now) = omega (arith, c .before .before .before .before .before .before .before .before .before .before .pre .1 .1, length-append (nearby (c .before .before .before .before .before .before .before .before .before .before .args .s) (marked (c .before .before .before .before .before .before .before .before .before .before .args .near .now)) (c .before .before .before .before .before .before .before .before .before .before .args .t .0 + 1) (c .before .before .before .before .before .before .before .before .before .before .args .a .0)) (pos 0 ∷ [])) in
     let q = c .before .put-near .ensures .0 in omega arith
 
--- src/lib.rt:126:13
 sub-put-end : tie.Need-sub-put-end
 unfolding onward
 sub-put-end c =
     let room : length (nearby (c .before .before .before .before .before .before .before .before .before .before .args .s) (marked (c .before .before .before .before .before .before .before .before .before .before .args .near .now)) (c .before .before .before .before .before .before .before .before .before .before .args .t .0 + 1) (c .before .before .before .before .before .before .before .before .before .before .args .a .0)) + 3 ≤ length (c .before .before .before .before .before .before .before .before .before .before .args .f .now) = omega (arith, c .before .before .before .before .before .before .before .before .before .before .pre .1 .1, length-append (nearby (c .before .before .before .before .before .before .before .before .before .before .args .s) (marked (c .before .before .before .before .before .before .before .before .before .before .args .near .now)) (c .before .before .before .before .before .before .before .before .before .before .args .t .0 + 1) (c .before .before .before .before .before .before .before .before .before .before .args .a .0)) (pos 0 ∷ [])) in
     let q = c .before .put-near .ensures .0 in omega arith
 
--- src/lib.rt:126:13
 part-put-end-start : tie.Need-part-put-end-start
 unfolding onward
 part-put-end-start c =
     let room : length (nearby (c .before .before .before .before .before .before .before .before .before .before .args .s) (marked (c .before .before .before .before .before .before .before .before .before .before .args .near .now)) (c .before .before .before .before .before .before .before .before .before .before .args .t .0 + 1) (c .before .before .before .before .before .before .before .before .before .before .args .a .0)) + 3 ≤ length (c .before .before .before .before .before .before .before .before .before .before .args .f .now) = omega (arith, c .before .before .before .before .before .before .before .before .before .before .pre .1 .1, length-append (nearby (c .before .before .before .before .before .before .before .before .before .before .args .s) (marked (c .before .before .before .before .before .before .before .before .before .before .args .near .now)) (c .before .before .before .before .before .before .before .before .before .before .args .t .0 + 1) (c .before .before .before .before .before .before .before .before .before .before .args .a .0)) (pos 0 ∷ [])) in
     let q = c .before .put-near .ensures .0 in omega arith
 
--- src/lib.rt:126:13
 part-put-end-end : tie.Need-part-put-end-end
 part-put-end-end c = search needs
 
--- src/lib.rt:126:5
 put-end-requires : tie.Need-put-end-requires
 unfolding onward
 put-end-requires c κs =
     let room : length (nearby (c .before .before .before .before .before .before .before .before .before .before .before .args .s) (marked (c .before .before .before .before .before .before .before .before .before .before .before .args .near .now)) (c .before .before .before .before .before .before .before .before .before .before .before .args .t .0 + 1) (c .before .before .before .before .before .before .before .before .before .before .before .args .a .0)) + 3 ≤ length (c .before .before .before .before .before .before .before .before .before .before .before .args .f .now) = omega (arith, c .before .before .before .before .before .before .before .before .before .before .before .pre .1 .1, length-append (nearby (c .before .before .before .before .before .before .before .before .before .before .before .args .s) (marked (c .before .before .before .before .before .before .before .before .before .before .before .args .near .now)) (c .before .before .before .before .before .before .before .before .before .before .before .args .t .0 + 1) (c .before .before .before .before .before .before .before .before .before .before .before .args .a .0)) (pos 0 ∷ [])) in
     let q = c .before .before .put-near .ensures .0 in simp (length-take, length-drop) (omega arith)
 
--- src/lib.rt:127:5
 add-result : tie.Need-add-result
 unfolding onward
 add-result c =
     let room : length (nearby (c .before .before .before .before .before .before .before .before .before .before .before .before .before .args .s) (marked (c .before .before .before .before .before .before .before .before .before .before .before .before .before .args .near .now)) (c .before .before .before .before .before .before .before .before .before .before .before .before .before .args .t .0 + 1) (c .before .before .before .before .before .before .before .before .before .before .before .before .before .args .a .0)) + 3 ≤ length (c .before .before .before .before .before .before .before .before .before .before .before .before .before .args .f .now) = omega (arith, c .before .before .before .before .before .before .before .before .before .before .before .before .before .pre .1 .1, length-append (nearby (c .before .before .before .before .before .before .before .before .before .before .before .before .before .args .s) (marked (c .before .before .before .before .before .before .before .before .before .before .before .before .before .args .near .now)) (c .before .before .before .before .before .before .before .before .before .before .before .before .before .args .t .0 + 1) (c .before .before .before .before .before .before .before .before .before .before .before .before .before .args .a .0)) (pos 0 ∷ [])) in
     let q = c .before .before .before .before .put-near .ensures .0 in omega arith
 
--- src/lib.rt:117:1
 same-length : tie.Need-same-length
 same-length c = search needs
 
--- src/lib.rt:117:1
 returns : tie.Need-returns
 unfolding onward
 returns c =

@@ -1,27 +1,23 @@
-use mathlib.Core.Path.{_≡_, refl, sym, _∙_, ap}
-use mathlib.Core.List.{[], _∷_, _++_}
-use Prim.Native.Nat.{ℕ, suc, _+_, _-_, _*_, _≤_, _<_}
+-- `clauses::put_somewhere` meets its contract. The invariant: the turns so far have written their blocks one behind another, and `at` is the number of their words. Assumes nothing.
+use mathlib.Core.Path.{_≡_, refl, sym}
+use mathlib.Core.List.{[], _∷_, List}
+use Prim.Native.Nat.{ℕ, _+_, _-_, _≤_}
 use native.Mathlib.Omega.{arith}
-use lib.ListN.{length, take, drop, length-set, length-take, length-drop, length-append}
-use lib.IntN.{ℤ, pos, negℤ}
+use native.Mathlib.Numerals.{add-one}
 use mir.Facts.{toZ-ofZ}
 use borrow.Author.Needs.{needs, sfits-of}
-use Rattle.lists.specs.Loop.{for, when}
+use lib.ListN.{length, length-set}
+use lib.IntN.{ℤ, pos}
+use Rattle.lists.specs.Loop.{for}
 use Rattle.lists.specs.Slice.{filled}
-use Rattle.lists.proofs.Slices.{sets-filled, filled-nil, filled-length, filled-set, filled-part, for-turn, for-next, for-room}
-use Rattle.formula.specs.Variables.{X, ¬X, index}
+use Rattle.lists.proofs.Slices.{filled-nil, filled-set}
+use Rattle.formula.specs.Variables.{X}
 use Rattle.formula.specs.Formula.{line}
-use native.Mathlib.Numerals.{add-one}
-use mathlib.Core.List.{List}
 use Rattle.lists.proofs.Blocks.{for1-length}
 use Rattle.clauses.specs.Lines.{somewhere}
 use Rattle.clauses.proofs.Laws.{somewhere-length}
-use borrow.Author.Needs.{needs}
 use Rattle.clauses.proofs.put_somewhere.Statement.{statement}
 use Rattle.clauses.proofs.put_somewhere.Tie as tie
-use Rattle.clauses.proofs.put_somewhere.Reads as reads
-use Rattle.clauses.proofs.put_somewhere.Lts as lts
-use Rattle.clauses.proofs.positive.Reads as positive-reads
 
 abbrev Inv-loop : tie.InvT-loop
 Inv-loop f₀ s t a n v₀ f v = (v ≤ n) × ((length f ≡ length f₀) × (f ≡ filled (for v λ u. X s (t .0) (a .0) u ∷ []) f₀))
@@ -29,35 +25,28 @@ Inv-loop f₀ s t a n v₀ f v = (v ≤ n) × ((length f ≡ length f₀) × (f 
 abbrev μ-loop : tie.MeasureT-loop
 μ-loop f₀ s t a n v₀ f v = n - v
 
--- src/lib.rt:65:5
 loop-holds : tie.Need-loop-holds Inv-loop μ-loop
 loop-holds c = (omega arith, (refl, sym (filled-nil _)))
 
--- src/lib.rt:66:16
 positive-requires : tie.Need-positive-requires Inv-loop μ-loop
 positive-requires c κs = search needs
 
--- src/lib.rt:66:9
 mul-t10 : tie.Need-mul-t10 Inv-loop μ-loop
 mul-t10 c =
     let n : length (line (somewhere (c .before .before .before .args .s) (c .before .before .before .args .t .0) (c .before .before .before .args .a .0))) ≡ c .before .before .before .args .s .n + 1 = somewhere-length (c .before .before .before .args .s) (c .before .before .before .args .t .0) (c .before .before .before .args .a .0) in
     omega arith
 
--- src/lib.rt:66:9
 slice-set-from-f : tie.Need-slice-set-from-f Inv-loop μ-loop
 slice-set-from-f c =
     let n : length (line (somewhere (c .before .before .before .args .s) (c .before .before .before .args .t .0) (c .before .before .before .args .a .0))) ≡ c .before .before .before .args .s .n + 1 = somewhere-length (c .before .before .before .args .s) (c .before .before .before .args .t .0) (c .before .before .before .args .a .0) in
     omega arith
 
--- src/lib.rt:65:9
 add-v : tie.Need-add-v Inv-loop μ-loop
 add-v c = search needs
 
--- src/lib.rt:65:5
 loop-less : tie.Need-loop-less Inv-loop μ-loop
 loop-less c = search needs
 
--- src/lib.rt:65:5
 loop-again : tie.Need-loop-again Inv-loop μ-loop
 loop-again c =
     let n : length (line (somewhere (c .before .before .before .args .s) (c .before .before .before .args .t .0) (c .before .before .before .args .a .0))) ≡ c .before .before .before .args .s .n + 1 = somewhere-length (c .before .before .before .args .s) (c .before .before .before .args .t .0) (c .before .before .before .args .a .0) in
@@ -72,29 +61,24 @@ loop-again c =
       ),
     )
 
--- src/lib.rt:68:5
 mul-f : tie.Need-mul-f Inv-loop μ-loop
 mul-f c =
     let n : length (line (somewhere (c .before .before .args .s) (c .before .before .args .t .0) (c .before .before .args .a .0))) ≡ c .before .before .args .s .n + 1 = somewhere-length (c .before .before .args .s) (c .before .before .args .t .0) (c .before .before .args .a .0) in
     omega arith
 
--- src/lib.rt:68:5
 slice-set-of-f : tie.Need-slice-set-of-f Inv-loop μ-loop
 slice-set-of-f c =
     let n : length (line (somewhere (c .before .before .args .s) (c .before .before .args .t .0) (c .before .before .args .a .0))) ≡ c .before .before .args .s .n + 1 = somewhere-length (c .before .before .args .s) (c .before .before .args .t .0) (c .before .before .args .a .0) in
     omega arith
 
--- src/lib.rt:69:5
 add-result : tie.Need-add-result Inv-loop μ-loop
 add-result c =
     let n : length (line (somewhere (c .before .before .args .s) (c .before .before .args .t .0) (c .before .before .args .a .0))) ≡ c .before .before .args .s .n + 1 = somewhere-length (c .before .before .args .s) (c .before .before .args .t .0) (c .before .before .args .a .0) in
     omega arith
 
--- src/lib.rt:58:1
 same-length : tie.Need-same-length Inv-loop μ-loop
 same-length c = simp length-set (c .before .loop .inv .1 .0)
 
--- src/lib.rt:58:1
 returns : tie.Need-returns Inv-loop μ-loop
 unfolding somewhere
 returns c =

@@ -1,46 +1,30 @@
-use mathlib.Core.Path.{_≡_, refl, sym, _∙_, ap, ap₂}
-use Prim.Native.Nat.{ℕ, suc, _+_, _-_, _*_, _/_, _≤_, _<_}
-use native.Mathlib.Omega.{arith}
-use native.Mathlib.Nat.{mul-le-mul}
-use native.Mathlib.Numerals.{add-one}
-use Rattle.counts.proofs.Laws.{products}
-use Rattle.formula.specs.Counts.{pairs, clausesBy, clauseCount, wordCount}
+-- `counts::clause_count` meets its contract. It follows from the contracts of the functions called and the laws cited. Assumes nothing.
 use borrow.Author.Needs.{needs}
+use Rattle.formula.specs.Counts.{clauseCount}
 use Rattle.counts.proofs.clause_count.Statement.{statement}
 use Rattle.counts.proofs.clause_count.Tie as tie
-use Rattle.counts.proofs.clause_count.Reads as reads
-use Rattle.counts.proofs.clause_count.Lts as lts
-use Rattle.counts.proofs.clauses_by.Reads as clauses-by-reads
 
--- src/lib.rt:57:9
 clauses-by-requires : tie.Need-clauses-by-requires
 clauses-by-requires c κs = search needs
 
--- src/lib.rt:58:5
 add-result : tie.Need-add-result
 add-result c = search needs
 
--- src/lib.rt:58:5
 add-result-2 : tie.Need-add-result-2
 add-result-2 c = search needs
 
--- src/lib.rt:58:5
 add-result-3 : tie.Need-add-result-3
 add-result-3 c = search needs
 
--- src/lib.rt:58:5
 add-result-4 : tie.Need-add-result-4
 add-result-4 c = search needs
 
--- src/lib.rt:58:5
 add-result-5 : tie.Need-add-result-5
 add-result-5 c = search needs
 
--- src/lib.rt:58:5
 add-result-6 : tie.Need-add-result-6
 add-result-6 c = search needs
 
--- src/lib.rt:53:1
 returns : tie.Need-returns
 unfolding clauseCount
 returns c = let q = c .before .before .before .before .before .before .clauses-by .ensures .0 in rw (q .0, q .1, q .2, q .3, q .4, q .5, q .6)

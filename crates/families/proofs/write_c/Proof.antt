@@ -1,27 +1,17 @@
-
-
-
+-- `families::write_c` meets its contract. The invariant: the turns so far have written their blocks one behind another, and `at` is the number of their words. Assumes nothing.
 use mathlib.Core.Path.{_≡_, refl, sym, _∙_, ap}
-use mathlib.Core.List.{List, [], _∷_, _++_}
-use Prim.Native.Nat.{ℕ, suc, _+_, _-_, _*_, _≤_, _<_}
+use mathlib.Core.List.{List}
+use Prim.Native.Nat.{ℕ, suc, _-_, _≤_, _<_}
 use native.Mathlib.Omega.{arith}
-use lib.ListN.{length, take, drop, length-take, length-drop}
+use borrow.Author.Needs.{needs}
+use lib.ListN.{length, length-take, length-drop}
 use lib.IntN.{ℤ}
 use Rattle.lists.specs.Loop.{for}
 use Rattle.lists.specs.Slice.{filled}
 use Rattle.lists.proofs.Slices.{filled-nil, for-turn, for-next, for-room}
-use Rattle.formula.specs.Variables.{X, ¬X}
-use Rattle.formula.specs.Formula.{line}
-use mir.Facts.{toZ-ofZ}
-use borrow.Author.Needs.{sfits-of}
-use Rattle.families.specs.Rows.{stepC}
-use Rattle.families.specs.Rows.{wordsC}
-use borrow.Author.Needs.{needs}
+use Rattle.families.specs.Rows.{stepC, wordsC}
 use Rattle.families.proofs.write_c.Statement.{statement}
 use Rattle.families.proofs.write_c.Tie as tie
-use Rattle.families.proofs.write_c.Reads as reads
-use Rattle.families.proofs.write_c.Lts as lts
-use Rattle.families.proofs.write_c_step.Reads as write-c-step-reads
 
 abbrev Inv-loop : tie.InvT-loop
 Inv-loop f₀ s end at₀ t₀ f at t = (t ≤ end) × ((at ≤ length f₀) × ((length f ≡ length f₀) × ((at ≡ length (for t (stepC s))) × (f ≡ filled (for t (stepC s)) f₀))))
@@ -29,31 +19,24 @@ Inv-loop f₀ s end at₀ t₀ f at t = (t ≤ end) × ((at ≤ length f₀) × 
 abbrev μ-loop : tie.MeasureT-loop
 μ-loop f₀ s end at₀ t₀ f at t = end - t
 
--- src/lib.rt:58:15
 add-end : tie.Need-add-end Inv-loop μ-loop
 add-end c = search needs
 
--- src/lib.rt:60:5
 loop-holds : tie.Need-loop-holds Inv-loop μ-loop
 loop-holds c = (omega arith, (omega arith, (refl, (refl, sym (filled-nil _)))))
 
--- src/lib.rt:61:28
 mul-write-c-step : tie.Need-mul-write-c-step Inv-loop μ-loop
 mul-write-c-step c = search needs
 
--- src/lib.rt:61:28
 sub-write-c-step : tie.Need-sub-write-c-step Inv-loop μ-loop
 sub-write-c-step c = search needs
 
--- src/lib.rt:61:28
 part-write-c-step-start : tie.Need-part-write-c-step-start Inv-loop μ-loop
 part-write-c-step-start c = search needs
 
--- src/lib.rt:61:28
 part-write-c-step-end : tie.Need-part-write-c-step-end Inv-loop μ-loop
 part-write-c-step-end c = search needs
 
--- src/lib.rt:61:15
 write-c-step-requires : tie.Need-write-c-step-requires Inv-loop μ-loop
 unfolding wordsC
 write-c-step-requires c κs =
@@ -64,7 +47,6 @@ write-c-step-requires c κs =
     let h = c .before .before .before .before .pre .1 in
     search needs)
 
--- src/lib.rt:61:9
 add-at : tie.Need-add-at Inv-loop μ-loop
 unfolding wordsC
 add-at c =
@@ -74,15 +56,12 @@ add-at c =
     let h = c .before .before .before .before .before .before .pre .1 in
     let q : c .before .write-c-step .result ≡ length (g (c .before .before .before .before .loop .t)) = c .before .write-c-step .ensures .0 in omega arith
 
--- src/lib.rt:60:9
 add-t : tie.Need-add-t Inv-loop μ-loop
 add-t c = search needs
 
--- src/lib.rt:60:5
 loop-less : tie.Need-loop-less Inv-loop μ-loop
 loop-less c = search needs
 
--- src/lib.rt:60:5
 loop-again : tie.Need-loop-again Inv-loop μ-loop
 unfolding wordsC
 loop-again c =
@@ -106,11 +85,9 @@ loop-again c =
       ),
     )
 
--- src/lib.rt:53:1
 same-length : tie.Need-same-length Inv-loop μ-loop
 same-length c = c .before .loop .inv .1 .1 .0
 
--- src/lib.rt:53:1
 returns : tie.Need-returns Inv-loop μ-loop
 unfolding wordsC
 returns c =

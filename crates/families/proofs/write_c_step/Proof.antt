@@ -1,25 +1,19 @@
-
+-- `families::write_c_step` meets its contract. The invariant: the turns so far have written their blocks one behind another, and `at` is the number of their words. Assumes nothing.
 use mathlib.Core.Path.{_≡_, refl, sym, _∙_, ap}
-use mathlib.Core.List.{List, [], _∷_, _++_}
-use Prim.Native.Nat.{ℕ, suc, _+_, _-_, _*_, _≤_, _<_}
+use mathlib.Core.List.{List}
+use Prim.Native.Nat.{ℕ, _-_, _≤_, _<_}
 use native.Mathlib.Omega.{arith}
-use lib.ListN.{length, take, drop, length-take, length-drop}
+use borrow.Author.Needs.{needs}
+use lib.ListN.{length, length-take, length-drop}
 use lib.IntN.{ℤ}
 use Rattle.lists.specs.Loop.{for}
 use Rattle.lists.specs.Slice.{filled}
 use Rattle.lists.proofs.Slices.{filled-nil, for-turn, for-next, for-room}
-use Rattle.formula.specs.Variables.{X, ¬X}
 use Rattle.formula.specs.Formula.{line}
-use mir.Facts.{toZ-ofZ}
-use borrow.Author.Needs.{sfits-of}
 use Rattle.clauses.specs.Lines.{somewhere}
 use Rattle.families.specs.Rows.{stepC}
-use borrow.Author.Needs.{needs}
 use Rattle.families.proofs.write_c_step.Statement.{statement}
 use Rattle.families.proofs.write_c_step.Tie as tie
-use Rattle.families.proofs.write_c_step.Reads as reads
-use Rattle.families.proofs.write_c_step.Lts as lts
-use Rattle.clauses.proofs.put_somewhere.Reads as put-somewhere-reads
 
 abbrev Inv-loop : tie.InvT-loop
 Inv-loop f₀ s t end at₀ a₀ f at a = (a ≤ end) × ((at ≤ length f₀) × ((length f ≡ length f₀) × ((at ≡ length (for a (λ a. line (somewhere s (t .0) a)))) × (f ≡ filled (for a (λ a. line (somewhere s (t .0) a))) f₀))))
@@ -27,27 +21,21 @@ Inv-loop f₀ s t end at₀ a₀ f at a = (a ≤ end) × ((at ≤ length f₀) �
 abbrev μ-loop : tie.MeasureT-loop
 μ-loop f₀ s t end at₀ a₀ f at a = end - a
 
--- src/lib.rt:46:5
 loop-holds : tie.Need-loop-holds Inv-loop μ-loop
 loop-holds c = (omega arith, (omega arith, (refl, (refl, sym (filled-nil _)))))
 
--- src/lib.rt:47:38
 mul-put-somewhere : tie.Need-mul-put-somewhere Inv-loop μ-loop
 mul-put-somewhere c = search needs
 
--- src/lib.rt:47:38
 sub-put-somewhere : tie.Need-sub-put-somewhere Inv-loop μ-loop
 sub-put-somewhere c = search needs
 
--- src/lib.rt:47:38
 part-put-somewhere-start : tie.Need-part-put-somewhere-start Inv-loop μ-loop
 part-put-somewhere-start c = search needs
 
--- src/lib.rt:47:38
 part-put-somewhere-end : tie.Need-part-put-somewhere-end Inv-loop μ-loop
 part-put-somewhere-end c = search needs
 
--- src/lib.rt:47:15
 put-somewhere-requires : tie.Need-put-somewhere-requires Inv-loop μ-loop
 unfolding stepC
 put-somewhere-requires c κs =
@@ -58,7 +46,6 @@ put-somewhere-requires c κs =
     let h = c .before .before .before .pre .1 .1 in
     search needs)
 
--- src/lib.rt:47:9
 add-at : tie.Need-add-at Inv-loop μ-loop
 unfolding stepC
 add-at c =
@@ -68,15 +55,12 @@ add-at c =
     let h = c .before .before .before .before .before .pre .1 .1 in
     let q : c .before .put-somewhere .result ≡ length (g (c .before .before .before .before .loop .a)) = c .before .put-somewhere .ensures .0 in omega arith
 
--- src/lib.rt:46:9
 add-a : tie.Need-add-a Inv-loop μ-loop
 add-a c = search needs
 
--- src/lib.rt:46:5
 loop-less : tie.Need-loop-less Inv-loop μ-loop
 loop-less c = search needs
 
--- src/lib.rt:46:5
 loop-again : tie.Need-loop-again Inv-loop μ-loop
 unfolding stepC
 loop-again c =
@@ -100,11 +84,9 @@ loop-again c =
       ),
     )
 
--- src/lib.rt:38:1
 same-length : tie.Need-same-length Inv-loop μ-loop
 same-length c = c .before .loop .inv .1 .1 .0
 
--- src/lib.rt:38:1
 returns : tie.Need-returns Inv-loop μ-loop
 unfolding stepC
 returns c =

@@ -1,27 +1,17 @@
-
-
-
+-- `families::write_d_agent` meets its contract. The invariant: the turns so far have written their blocks one behind another, and `at` is the number of their words. Assumes nothing.
 use mathlib.Core.Path.{_≡_, refl, sym, _∙_, ap}
-use mathlib.Core.List.{List, [], _∷_, _++_}
-use Prim.Native.Nat.{ℕ, suc, _+_, _-_, _*_, _≤_, _<_}
+use mathlib.Core.List.{List}
+use Prim.Native.Nat.{ℕ, _-_, _≤_, _<_}
 use native.Mathlib.Omega.{arith}
-use lib.ListN.{length, take, drop, length-take, length-drop}
+use borrow.Author.Needs.{needs}
+use lib.ListN.{length, length-take, length-drop}
 use lib.IntN.{ℤ}
 use Rattle.lists.specs.Loop.{for}
 use Rattle.lists.specs.Slice.{filled}
 use Rattle.lists.proofs.Slices.{filled-nil, for-turn, for-next, for-room}
-use Rattle.formula.specs.Variables.{X, ¬X}
-use Rattle.formula.specs.Formula.{line}
-use mir.Facts.{toZ-ofZ}
-use borrow.Author.Needs.{sfits-of}
-use Rattle.families.specs.Rows.{vertexD}
-use Rattle.families.specs.Rows.{agentD}
-use borrow.Author.Needs.{needs}
+use Rattle.families.specs.Rows.{vertexD, agentD}
 use Rattle.families.proofs.write_d_agent.Statement.{statement}
 use Rattle.families.proofs.write_d_agent.Tie as tie
-use Rattle.families.proofs.write_d_agent.Reads as reads
-use Rattle.families.proofs.write_d_agent.Lts as lts
-use Rattle.families.proofs.write_d_vertex.Reads as write-d-vertex-reads
 
 abbrev Inv-loop : tie.InvT-loop
 Inv-loop f₀ s t a end at₀ v₀ f at v = (v ≤ end) × ((at ≤ length f₀) × ((length f ≡ length f₀) × ((at ≡ length (for v (vertexD s (t .0) (a .0)))) × (f ≡ filled (for v (vertexD s (t .0) (a .0))) f₀))))
@@ -29,27 +19,21 @@ Inv-loop f₀ s t a end at₀ v₀ f at v = (v ≤ end) × ((at ≤ length f₀)
 abbrev μ-loop : tie.MeasureT-loop
 μ-loop f₀ s t a end at₀ v₀ f at v = end - v
 
--- src/lib.rt:92:5
 loop-holds : tie.Need-loop-holds Inv-loop μ-loop
 loop-holds c = (omega arith, (omega arith, (refl, (refl, sym (filled-nil _)))))
 
--- src/lib.rt:93:30
 mul-write-d-vertex : tie.Need-mul-write-d-vertex Inv-loop μ-loop
 mul-write-d-vertex c = search needs
 
--- src/lib.rt:93:30
 sub-write-d-vertex : tie.Need-sub-write-d-vertex Inv-loop μ-loop
 sub-write-d-vertex c = search needs
 
--- src/lib.rt:93:30
 part-write-d-vertex-start : tie.Need-part-write-d-vertex-start Inv-loop μ-loop
 part-write-d-vertex-start c = search needs
 
--- src/lib.rt:93:30
 part-write-d-vertex-end : tie.Need-part-write-d-vertex-end Inv-loop μ-loop
 part-write-d-vertex-end c = search needs
 
--- src/lib.rt:93:15
 write-d-vertex-requires : tie.Need-write-d-vertex-requires Inv-loop μ-loop
 unfolding agentD
 write-d-vertex-requires c κs =
@@ -60,7 +44,6 @@ write-d-vertex-requires c κs =
     let h = c .before .before .before .pre .1 .1 in
     search needs)
 
--- src/lib.rt:93:9
 add-at : tie.Need-add-at Inv-loop μ-loop
 unfolding agentD
 add-at c =
@@ -70,15 +53,12 @@ add-at c =
     let h = c .before .before .before .before .before .pre .1 .1 in
     let q : c .before .write-d-vertex .result ≡ length (g (c .before .before .before .before .loop .v)) = c .before .write-d-vertex .ensures .0 in omega arith
 
--- src/lib.rt:92:9
 add-v : tie.Need-add-v Inv-loop μ-loop
 add-v c = search needs
 
--- src/lib.rt:92:5
 loop-less : tie.Need-loop-less Inv-loop μ-loop
 loop-less c = search needs
 
--- src/lib.rt:92:5
 loop-again : tie.Need-loop-again Inv-loop μ-loop
 unfolding agentD
 loop-again c =
@@ -102,11 +82,9 @@ loop-again c =
       ),
     )
 
--- src/lib.rt:84:1
 same-length : tie.Need-same-length Inv-loop μ-loop
 same-length c = c .before .loop .inv .1 .1 .0
 
--- src/lib.rt:84:1
 returns : tie.Need-returns Inv-loop μ-loop
 unfolding agentD
 returns c =

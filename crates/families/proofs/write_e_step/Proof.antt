@@ -1,26 +1,17 @@
-
-
+-- `families::write_e_step` meets its contract. The invariant: the turns so far have written their blocks one behind another, and `at` is the number of their words. Assumes nothing.
 use mathlib.Core.Path.{_≡_, refl, sym, _∙_, ap}
-use mathlib.Core.List.{List, [], _∷_, _++_}
-use Prim.Native.Nat.{ℕ, suc, _+_, _-_, _*_, _≤_, _<_}
+use mathlib.Core.List.{List}
+use Prim.Native.Nat.{ℕ, _-_, _≤_, _<_}
 use native.Mathlib.Omega.{arith}
-use lib.ListN.{length, take, drop, length-take, length-drop}
+use borrow.Author.Needs.{needs}
+use lib.ListN.{length, length-take, length-drop}
 use lib.IntN.{ℤ}
 use Rattle.lists.specs.Loop.{for}
 use Rattle.lists.specs.Slice.{filled}
 use Rattle.lists.proofs.Slices.{filled-nil, for-turn, for-next, for-room}
-use Rattle.formula.specs.Variables.{X, ¬X}
-use Rattle.formula.specs.Formula.{line}
-use mir.Facts.{toZ-ofZ}
-use borrow.Author.Needs.{sfits-of}
-use Rattle.families.specs.Rows.{vertexE}
-use Rattle.families.specs.Rows.{stepE}
-use borrow.Author.Needs.{needs}
+use Rattle.families.specs.Rows.{vertexE, stepE}
 use Rattle.families.proofs.write_e_step.Statement.{statement}
 use Rattle.families.proofs.write_e_step.Tie as tie
-use Rattle.families.proofs.write_e_step.Reads as reads
-use Rattle.families.proofs.write_e_step.Lts as lts
-use Rattle.families.proofs.write_e_vertex.Reads as write-e-vertex-reads
 
 abbrev Inv-loop : tie.InvT-loop
 Inv-loop f₀ s t end at₀ v₀ f at v = (v ≤ end) × ((at ≤ length f₀) × ((length f ≡ length f₀) × ((at ≡ length (for v (vertexE s (t .0)))) × (f ≡ filled (for v (vertexE s (t .0))) f₀))))
@@ -28,27 +19,21 @@ Inv-loop f₀ s t end at₀ v₀ f at v = (v ≤ end) × ((at ≤ length f₀) �
 abbrev μ-loop : tie.MeasureT-loop
 μ-loop f₀ s t end at₀ v₀ f at v = end - v
 
--- src/lib.rt:168:5
 loop-holds : tie.Need-loop-holds Inv-loop μ-loop
 loop-holds c = (omega arith, (omega arith, (refl, (refl, sym (filled-nil _)))))
 
--- src/lib.rt:169:30
 mul-write-e-vertex : tie.Need-mul-write-e-vertex Inv-loop μ-loop
 mul-write-e-vertex c = search needs
 
--- src/lib.rt:169:30
 sub-write-e-vertex : tie.Need-sub-write-e-vertex Inv-loop μ-loop
 sub-write-e-vertex c = search needs
 
--- src/lib.rt:169:30
 part-write-e-vertex-start : tie.Need-part-write-e-vertex-start Inv-loop μ-loop
 part-write-e-vertex-start c = search needs
 
--- src/lib.rt:169:30
 part-write-e-vertex-end : tie.Need-part-write-e-vertex-end Inv-loop μ-loop
 part-write-e-vertex-end c = search needs
 
--- src/lib.rt:169:15
 write-e-vertex-requires : tie.Need-write-e-vertex-requires Inv-loop μ-loop
 unfolding stepE
 write-e-vertex-requires c κs =
@@ -59,7 +44,6 @@ write-e-vertex-requires c κs =
     let h = c .before .before .before .pre .1 .1 in
     search needs)
 
--- src/lib.rt:169:9
 add-at : tie.Need-add-at Inv-loop μ-loop
 unfolding stepE
 add-at c =
@@ -69,15 +53,12 @@ add-at c =
     let h = c .before .before .before .before .before .pre .1 .1 in
     let q : c .before .write-e-vertex .result ≡ length (g (c .before .before .before .before .loop .v)) = c .before .write-e-vertex .ensures .0 in omega arith
 
--- src/lib.rt:168:9
 add-v : tie.Need-add-v Inv-loop μ-loop
 add-v c = search needs
 
--- src/lib.rt:168:5
 loop-less : tie.Need-loop-less Inv-loop μ-loop
 loop-less c = search needs
 
--- src/lib.rt:168:5
 loop-again : tie.Need-loop-again Inv-loop μ-loop
 unfolding stepE
 loop-again c =
@@ -101,11 +82,9 @@ loop-again c =
       ),
     )
 
--- src/lib.rt:160:1
 same-length : tie.Need-same-length Inv-loop μ-loop
 same-length c = c .before .loop .inv .1 .1 .0
 
--- src/lib.rt:160:1
 returns : tie.Need-returns Inv-loop μ-loop
 unfolding stepE
 returns c =

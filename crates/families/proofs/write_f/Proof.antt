@@ -1,26 +1,17 @@
-
-
+-- `families::write_f` meets its contract. The invariant: the turns so far have written their blocks one behind another, and `at` is the number of their words. Assumes nothing.
 use mathlib.Core.Path.{_≡_, refl, sym, _∙_, ap}
-use mathlib.Core.List.{List, [], _∷_, _++_}
-use Prim.Native.Nat.{ℕ, suc, _+_, _-_, _*_, _≤_, _<_}
+use mathlib.Core.List.{List}
+use Prim.Native.Nat.{ℕ, _-_, _≤_, _<_}
 use native.Mathlib.Omega.{arith}
-use lib.ListN.{length, take, drop, length-take, length-drop}
+use borrow.Author.Needs.{needs}
+use lib.ListN.{length, length-take, length-drop}
 use lib.IntN.{ℤ}
 use Rattle.lists.specs.Loop.{for}
 use Rattle.lists.specs.Slice.{filled}
 use Rattle.lists.proofs.Slices.{filled-nil, for-turn, for-next, for-room}
-use Rattle.formula.specs.Variables.{X, ¬X}
-use Rattle.formula.specs.Formula.{line}
-use mir.Facts.{toZ-ofZ}
-use borrow.Author.Needs.{sfits-of}
-use Rattle.families.specs.Rows.{stepF}
-use Rattle.families.specs.Rows.{wordsF}
-use borrow.Author.Needs.{needs}
+use Rattle.families.specs.Rows.{stepF, wordsF}
 use Rattle.families.proofs.write_f.Statement.{statement}
 use Rattle.families.proofs.write_f.Tie as tie
-use Rattle.families.proofs.write_f.Reads as reads
-use Rattle.families.proofs.write_f.Lts as lts
-use Rattle.families.proofs.write_f_step.Reads as write-f-step-reads
 
 abbrev Inv-loop : tie.InvT-loop
 Inv-loop f₀ s table end at₀ t₀ f at t = (t ≤ end) × ((at ≤ length f₀) × ((length f ≡ length f₀) × ((at ≡ length (for t (stepF s table))) × (f ≡ filled (for t (stepF s table)) f₀))))
@@ -28,27 +19,21 @@ Inv-loop f₀ s table end at₀ t₀ f at t = (t ≤ end) × ((at ≤ length f�
 abbrev μ-loop : tie.MeasureT-loop
 μ-loop f₀ s table end at₀ t₀ f at t = end - t
 
--- src/lib.rt:231:5
 loop-holds : tie.Need-loop-holds Inv-loop μ-loop
 loop-holds c = (omega arith, (omega arith, (refl, (refl, sym (filled-nil _)))))
 
--- src/lib.rt:232:28
 mul-write-f-step : tie.Need-mul-write-f-step Inv-loop μ-loop
 mul-write-f-step c = search needs
 
--- src/lib.rt:232:28
 sub-write-f-step : tie.Need-sub-write-f-step Inv-loop μ-loop
 sub-write-f-step c = search needs
 
--- src/lib.rt:232:28
 part-write-f-step-start : tie.Need-part-write-f-step-start Inv-loop μ-loop
 part-write-f-step-start c = search needs
 
--- src/lib.rt:232:28
 part-write-f-step-end : tie.Need-part-write-f-step-end Inv-loop μ-loop
 part-write-f-step-end c = search needs
 
--- src/lib.rt:232:15
 write-f-step-requires : tie.Need-write-f-step-requires Inv-loop μ-loop
 unfolding wordsF
 write-f-step-requires c κs =
@@ -59,7 +44,6 @@ write-f-step-requires c κs =
     let h = c .before .before .before .before .pre .1 .1 in
     search needs)
 
--- src/lib.rt:232:9
 add-at : tie.Need-add-at Inv-loop μ-loop
 unfolding wordsF
 add-at c =
@@ -69,15 +53,12 @@ add-at c =
     let h = c .before .before .before .before .before .before .pre .1 .1 in
     let q : c .before .write-f-step .result ≡ length (g (c .before .before .before .before .loop .t)) = c .before .write-f-step .ensures .0 in omega arith
 
--- src/lib.rt:231:9
 add-t : tie.Need-add-t Inv-loop μ-loop
 add-t c = search needs
 
--- src/lib.rt:231:5
 loop-less : tie.Need-loop-less Inv-loop μ-loop
 loop-less c = search needs
 
--- src/lib.rt:231:5
 loop-again : tie.Need-loop-again Inv-loop μ-loop
 unfolding wordsF
 loop-again c =
@@ -101,11 +82,9 @@ loop-again c =
       ),
     )
 
--- src/lib.rt:223:1
 same-length : tie.Need-same-length Inv-loop μ-loop
 same-length c = c .before .loop .inv .1 .1 .0
 
--- src/lib.rt:223:1
 returns : tie.Need-returns Inv-loop μ-loop
 unfolding wordsF
 returns c =

@@ -1,28 +1,22 @@
+-- `families::write_f_agent` meets its contract. The invariant: the turns so far have written their blocks one behind another, and `at` is the number of their words. Assumes nothing.
 use mathlib.Core.Path.{_≡_, refl, sym, _∙_, ap}
-use mathlib.Core.List.{List, [], _∷_, _++_}
-use Prim.Native.Nat.{ℕ, suc, _+_, _-_, _*_, _≤_, _<_}
+use mathlib.Core.List.{List}
+use Prim.Native.Nat.{ℕ, _+_, _-_, _*_, _≤_, _<_}
 use native.Mathlib.Omega.{arith}
+use borrow.Author.Needs.{needs}
 use lib.ListN.{length, take, drop, length-take, length-drop}
 use lib.IntN.{ℤ}
+use lib.Dec.{eqb}
+use lib.Seq.{getD-take, getD-drop}
 use Rattle.lists.specs.Loop.{for}
 use Rattle.lists.specs.Slice.{filled}
 use Rattle.lists.proofs.Slices.{filled-nil, for-turn, for-next, for-room}
-use Rattle.formula.specs.Variables.{X, ¬X}
 use Rattle.formula.specs.Formula.{line}
-use mir.Facts.{toZ-ofZ}
-use borrow.Author.Needs.{sfits-of}
-use lib.Dec.{eqb}
-use lib.Seq.{getD-take, getD-drop}
 use Rattle.clauses.specs.Lines.{onward, marked}
-use Rattle.families.specs.Rows.{beside}
+use Rattle.families.specs.Rows.{beside, agentF}
 use Rattle.families.proofs.Laws.{onward-ext}
-use Rattle.families.specs.Rows.{agentF}
-use borrow.Author.Needs.{needs}
 use Rattle.families.proofs.write_f_agent.Statement.{statement}
 use Rattle.families.proofs.write_f_agent.Tie as tie
-use Rattle.families.proofs.write_f_agent.Reads as reads
-use Rattle.families.proofs.write_f_agent.Lts as lts
-use Rattle.clauses.proofs.put_onward.Reads as put-onward-reads
 
 abbrev Inv-loop : tie.InvT-loop
 Inv-loop f₀ s table t a end at₀ v₀ f at v = (v ≤ end) × ((at ≤ length f₀) × ((length f ≡ length f₀) × ((at ≡ length (for v (λ v. line (onward s (beside table v) (t .0) (a .0) v)))) × (f ≡ filled (for v (λ v. line (onward s (beside table v) (t .0) (a .0) v))) f₀))))
@@ -30,47 +24,36 @@ Inv-loop f₀ s table t a end at₀ v₀ f at v = (v ≤ end) × ((at ≤ length
 abbrev μ-loop : tie.MeasureT-loop
 μ-loop f₀ s table t a end at₀ v₀ f at v = end - v
 
--- src/lib.rt:198:5
 loop-holds : tie.Need-loop-holds Inv-loop μ-loop
 loop-holds c = (omega arith, (omega arith, (refl, (refl, sym (filled-nil _)))))
 
--- src/lib.rt:199:20
 mul-from : tie.Need-mul-from Inv-loop μ-loop
 mul-from c = let q = c .before .before .before .pre .0 .n-most in omega arith
 
--- src/lib.rt:200:18
 add-to : tie.Need-add-to Inv-loop μ-loop
 add-to c = let q = c .before .before .before .pre .0 .n-most in omega arith
 
--- src/lib.rt:201:35
 mul-put-onward : tie.Need-mul-put-onward Inv-loop μ-loop
 mul-put-onward c = search needs
 
--- src/lib.rt:201:35
 sub-put-onward : tie.Need-sub-put-onward Inv-loop μ-loop
 sub-put-onward c = search needs
 
--- src/lib.rt:201:35
 part-put-onward-start : tie.Need-part-put-onward-start Inv-loop μ-loop
 part-put-onward-start c = search needs
 
--- src/lib.rt:201:35
 part-put-onward-end : tie.Need-part-put-onward-end Inv-loop μ-loop
 part-put-onward-end c = search needs
 
--- src/lib.rt:201:52
 sub-put-onward-2 : tie.Need-sub-put-onward-2 Inv-loop μ-loop
 sub-put-onward-2 c = let q = c .before .before .before .before .pre .0 .n-most in omega arith
 
--- src/lib.rt:201:52
 part-put-onward-start-2 : tie.Need-part-put-onward-start-2 Inv-loop μ-loop
 part-put-onward-start-2 c = let q = c .before .before .before .before .pre .0 .n-most in omega arith
 
--- src/lib.rt:201:52
 part-put-onward-end-2 : tie.Need-part-put-onward-end-2 Inv-loop μ-loop
 part-put-onward-end-2 c = let q = c .before .before .before .before .pre .0 .n-most in omega arith
 
--- src/lib.rt:201:15
 put-onward-requires : tie.Need-put-onward-requires Inv-loop μ-loop
 unfolding agentF
 put-onward-requires c κs =
@@ -84,7 +67,6 @@ put-onward-requires c κs =
     let room : length (line (onward (c .before .before .before .before .before .args .s) (marked (take (64 * c .before .before .before .loop .v + 64 - 64 * c .before .before .before .loop .v) (drop (64 * c .before .before .before .loop .v) (c .before .before .before .before .before .args .table .now)))) (c .before .before .before .before .before .args .t .0) (c .before .before .before .before .before .args .a .0) (c .before .before .before .loop .v))) ≤ length (c .before .before .before .loop .f) - c .before .before .before .loop .at = rw row (omega arith) in
     search needs)
 
--- src/lib.rt:201:9
 add-at : tie.Need-add-at Inv-loop μ-loop
 unfolding agentF
 add-at c =
@@ -95,15 +77,12 @@ add-at c =
     let row : onward (c .before .before .before .before .before .before .before .args .s) (marked (take (64 * c .before .before .before .before .before .loop .v + 64 - 64 * c .before .before .before .before .before .loop .v) (drop (64 * c .before .before .before .before .before .loop .v) (c .before .before .before .before .before .before .before .args .table .now)))) (c .before .before .before .before .before .before .before .args .t .0) (c .before .before .before .before .before .before .before .args .a .0) (c .before .before .before .before .before .loop .v) ≡ onward (c .before .before .before .before .before .before .before .args .s) (beside (c .before .before .before .before .before .before .before .args .table .now) (c .before .before .before .before .before .loop .v)) (c .before .before .before .before .before .before .before .args .t .0) (c .before .before .before .before .before .before .before .args .a .0) (c .before .before .before .before .before .loop .v) = onward-ext (c .before .before .before .before .before .before .before .args .s) (marked (take (64 * c .before .before .before .before .before .loop .v + 64 - 64 * c .before .before .before .before .before .loop .v) (drop (64 * c .before .before .before .before .before .loop .v) (c .before .before .before .before .before .before .before .args .table .now)))) (beside (c .before .before .before .before .before .before .before .args .table .now) (c .before .before .before .before .before .loop .v)) (c .before .before .before .before .before .before .before .args .t .0) (c .before .before .before .before .before .before .before .args .a .0) (c .before .before .before .before .before .loop .v) (λ w l. let q = c .before .before .before .before .before .before .before .pre .0 .n-most in ap (λ (x : ℕ). eqb x 1) (getD-take (64 * c .before .before .before .before .before .loop .v + 64 - 64 * c .before .before .before .before .before .loop .v) (drop (64 * c .before .before .before .before .before .loop .v) (c .before .before .before .before .before .before .before .args .table .now)) w 0 (omega arith) ∙ getD-drop (64 * c .before .before .before .before .before .loop .v) (c .before .before .before .before .before .before .before .args .table .now) w 0)) in
     let q : c .before .put-onward .result ≡ length (g (c .before .before .before .before .before .loop .v)) = rw (row) at (c .before .put-onward .ensures .0) in omega arith
 
--- src/lib.rt:198:9
 add-v : tie.Need-add-v Inv-loop μ-loop
 add-v c = search needs
 
--- src/lib.rt:198:5
 loop-less : tie.Need-loop-less Inv-loop μ-loop
 loop-less c = search needs
 
--- src/lib.rt:198:5
 loop-again : tie.Need-loop-again Inv-loop μ-loop
 unfolding agentF
 loop-again c =
@@ -128,11 +107,9 @@ loop-again c =
       ),
     )
 
--- src/lib.rt:189:1
 same-length : tie.Need-same-length Inv-loop μ-loop
 same-length c = c .before .loop .inv .1 .1 .0
 
--- src/lib.rt:189:1
 returns : tie.Need-returns Inv-loop μ-loop
 unfolding agentF
 returns c =

@@ -1,27 +1,17 @@
-
-
-
+-- `families::write_f_step` meets its contract. The invariant: the turns so far have written their blocks one behind another, and `at` is the number of their words. Assumes nothing.
 use mathlib.Core.Path.{_≡_, refl, sym, _∙_, ap}
-use mathlib.Core.List.{List, [], _∷_, _++_}
-use Prim.Native.Nat.{ℕ, suc, _+_, _-_, _*_, _≤_, _<_}
+use mathlib.Core.List.{List}
+use Prim.Native.Nat.{ℕ, _-_, _≤_, _<_}
 use native.Mathlib.Omega.{arith}
-use lib.ListN.{length, take, drop, length-take, length-drop}
+use borrow.Author.Needs.{needs}
+use lib.ListN.{length, length-take, length-drop}
 use lib.IntN.{ℤ}
 use Rattle.lists.specs.Loop.{for}
 use Rattle.lists.specs.Slice.{filled}
 use Rattle.lists.proofs.Slices.{filled-nil, for-turn, for-next, for-room}
-use Rattle.formula.specs.Variables.{X, ¬X}
-use Rattle.formula.specs.Formula.{line}
-use mir.Facts.{toZ-ofZ}
-use borrow.Author.Needs.{sfits-of}
-use Rattle.families.specs.Rows.{agentF}
-use Rattle.families.specs.Rows.{stepF}
-use borrow.Author.Needs.{needs}
+use Rattle.families.specs.Rows.{agentF, stepF}
 use Rattle.families.proofs.write_f_step.Statement.{statement}
 use Rattle.families.proofs.write_f_step.Tie as tie
-use Rattle.families.proofs.write_f_step.Reads as reads
-use Rattle.families.proofs.write_f_step.Lts as lts
-use Rattle.families.proofs.write_f_agent.Reads as write-f-agent-reads
 
 abbrev Inv-loop : tie.InvT-loop
 Inv-loop f₀ s table t end at₀ a₀ f at a = (a ≤ end) × ((at ≤ length f₀) × ((length f ≡ length f₀) × ((at ≡ length (for a (agentF s table (t .0)))) × (f ≡ filled (for a (agentF s table (t .0))) f₀))))
@@ -29,27 +19,21 @@ Inv-loop f₀ s table t end at₀ a₀ f at a = (a ≤ end) × ((at ≤ length f
 abbrev μ-loop : tie.MeasureT-loop
 μ-loop f₀ s table t end at₀ a₀ f at a = end - a
 
--- src/lib.rt:216:5
 loop-holds : tie.Need-loop-holds Inv-loop μ-loop
 loop-holds c = (omega arith, (omega arith, (refl, (refl, sym (filled-nil _)))))
 
--- src/lib.rt:217:29
 mul-write-f-agent : tie.Need-mul-write-f-agent Inv-loop μ-loop
 mul-write-f-agent c = search needs
 
--- src/lib.rt:217:29
 sub-write-f-agent : tie.Need-sub-write-f-agent Inv-loop μ-loop
 sub-write-f-agent c = search needs
 
--- src/lib.rt:217:29
 part-write-f-agent-start : tie.Need-part-write-f-agent-start Inv-loop μ-loop
 part-write-f-agent-start c = search needs
 
--- src/lib.rt:217:29
 part-write-f-agent-end : tie.Need-part-write-f-agent-end Inv-loop μ-loop
 part-write-f-agent-end c = search needs
 
--- src/lib.rt:217:15
 write-f-agent-requires : tie.Need-write-f-agent-requires Inv-loop μ-loop
 unfolding stepF
 write-f-agent-requires c κs =
@@ -60,7 +44,6 @@ write-f-agent-requires c κs =
     let h = c .before .before .before .before .pre .1 .1 .1 in
     search needs)
 
--- src/lib.rt:217:9
 add-at : tie.Need-add-at Inv-loop μ-loop
 unfolding stepF
 add-at c =
@@ -70,15 +53,12 @@ add-at c =
     let h = c .before .before .before .before .before .before .pre .1 .1 .1 in
     let q : c .before .write-f-agent .result ≡ length (g (c .before .before .before .before .loop .a)) = c .before .write-f-agent .ensures .0 in omega arith
 
--- src/lib.rt:216:9
 add-a : tie.Need-add-a Inv-loop μ-loop
 add-a c = search needs
 
--- src/lib.rt:216:5
 loop-less : tie.Need-loop-less Inv-loop μ-loop
 loop-less c = search needs
 
--- src/lib.rt:216:5
 loop-again : tie.Need-loop-again Inv-loop μ-loop
 unfolding stepF
 loop-again c =
@@ -102,11 +82,9 @@ loop-again c =
       ),
     )
 
--- src/lib.rt:207:1
 same-length : tie.Need-same-length Inv-loop μ-loop
 same-length c = c .before .loop .inv .1 .1 .0
 
--- src/lib.rt:207:1
 returns : tie.Need-returns Inv-loop μ-loop
 unfolding stepF
 returns c =

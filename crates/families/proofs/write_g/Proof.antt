@@ -1,24 +1,17 @@
+-- `families::write_g` meets its contract. The invariant: the turns so far have written their blocks one behind another, and `at` is the number of their words. Assumes nothing.
 use mathlib.Core.Path.{_≡_, refl, sym, _∙_, ap}
-use mathlib.Core.List.{List, [], _∷_, _++_}
-use Prim.Native.Nat.{ℕ, suc, _+_, _-_, _*_, _≤_, _<_}
+use mathlib.Core.List.{List}
+use Prim.Native.Nat.{ℕ, _-_, _≤_, _<_}
 use native.Mathlib.Omega.{arith}
-use lib.ListN.{length, take, drop, length-take, length-drop}
+use borrow.Author.Needs.{needs}
+use lib.ListN.{length, length-take, length-drop}
 use lib.IntN.{ℤ}
 use Rattle.lists.specs.Loop.{for}
 use Rattle.lists.specs.Slice.{filled}
 use Rattle.lists.proofs.Slices.{filled-nil, for-turn, for-next, for-room}
-use Rattle.formula.specs.Variables.{X, ¬X}
-use Rattle.formula.specs.Formula.{line}
-use mir.Facts.{toZ-ofZ}
-use borrow.Author.Needs.{sfits-of}
-use Rattle.families.specs.Rows.{stepG}
-use Rattle.families.specs.Rows.{wordsG}
-use borrow.Author.Needs.{needs}
+use Rattle.families.specs.Rows.{stepG, wordsG}
 use Rattle.families.proofs.write_g.Statement.{statement}
 use Rattle.families.proofs.write_g.Tie as tie
-use Rattle.families.proofs.write_g.Reads as reads
-use Rattle.families.proofs.write_g.Lts as lts
-use Rattle.families.proofs.write_g_step.Reads as write-g-step-reads
 
 abbrev Inv-loop : tie.InvT-loop
 Inv-loop f₀ s end at₀ t₀ f at t = (t ≤ end) × ((at ≤ length f₀) × ((length f ≡ length f₀) × ((at ≡ length (for t (stepG s))) × (f ≡ filled (for t (stepG s)) f₀))))
@@ -26,27 +19,21 @@ Inv-loop f₀ s end at₀ t₀ f at t = (t ≤ end) × ((at ≤ length f₀) × 
 abbrev μ-loop : tie.MeasureT-loop
 μ-loop f₀ s end at₀ t₀ f at t = end - t
 
--- src/lib.rt:306:5
 loop-holds : tie.Need-loop-holds Inv-loop μ-loop
 loop-holds c = (omega arith, (omega arith, (refl, (refl, sym (filled-nil _)))))
 
--- src/lib.rt:307:28
 mul-write-g-step : tie.Need-mul-write-g-step Inv-loop μ-loop
 mul-write-g-step c = search needs
 
--- src/lib.rt:307:28
 sub-write-g-step : tie.Need-sub-write-g-step Inv-loop μ-loop
 sub-write-g-step c = search needs
 
--- src/lib.rt:307:28
 part-write-g-step-start : tie.Need-part-write-g-step-start Inv-loop μ-loop
 part-write-g-step-start c = search needs
 
--- src/lib.rt:307:28
 part-write-g-step-end : tie.Need-part-write-g-step-end Inv-loop μ-loop
 part-write-g-step-end c = search needs
 
--- src/lib.rt:307:15
 write-g-step-requires : tie.Need-write-g-step-requires Inv-loop μ-loop
 unfolding wordsG
 write-g-step-requires c κs =
@@ -57,7 +44,6 @@ write-g-step-requires c κs =
     let h = c .before .before .before .pre .1 in
     search needs)
 
--- src/lib.rt:307:9
 add-at : tie.Need-add-at Inv-loop μ-loop
 unfolding wordsG
 add-at c =
@@ -67,15 +53,12 @@ add-at c =
     let h = c .before .before .before .before .before .pre .1 in
     let q : c .before .write-g-step .result ≡ length (g (c .before .before .before .before .loop .t)) = c .before .write-g-step .ensures .0 in omega arith
 
--- src/lib.rt:306:9
 add-t : tie.Need-add-t Inv-loop μ-loop
 add-t c = search needs
 
--- src/lib.rt:306:5
 loop-less : tie.Need-loop-less Inv-loop μ-loop
 loop-less c = search needs
 
--- src/lib.rt:306:5
 loop-again : tie.Need-loop-again Inv-loop μ-loop
 unfolding wordsG
 loop-again c =
@@ -99,11 +82,9 @@ loop-again c =
       ),
     )
 
--- src/lib.rt:299:1
 same-length : tie.Need-same-length Inv-loop μ-loop
 same-length c = c .before .loop .inv .1 .1 .0
 
--- src/lib.rt:299:1
 returns : tie.Need-returns Inv-loop μ-loop
 unfolding wordsG
 returns c =

@@ -1,26 +1,17 @@
-
-
+-- `families::write_g_agent` meets its contract. The invariant: the turns so far have written their blocks one behind another, and `at` is the number of their words. Assumes nothing.
 use mathlib.Core.Path.{_≡_, refl, sym, _∙_, ap}
-use mathlib.Core.List.{List, [], _∷_, _++_}
-use Prim.Native.Nat.{ℕ, suc, _+_, _-_, _*_, _≤_, _<_}
+use mathlib.Core.List.{List}
+use Prim.Native.Nat.{ℕ, _-_, _≤_, _<_}
 use native.Mathlib.Omega.{arith}
-use lib.ListN.{length, take, drop, length-take, length-drop}
+use borrow.Author.Needs.{needs}
+use lib.ListN.{length, length-take, length-drop}
 use lib.IntN.{ℤ}
 use Rattle.lists.specs.Loop.{for}
 use Rattle.lists.specs.Slice.{filled}
 use Rattle.lists.proofs.Slices.{filled-nil, for-turn, for-next, for-room}
-use Rattle.formula.specs.Variables.{X, ¬X}
-use Rattle.formula.specs.Formula.{line}
-use mir.Facts.{toZ-ofZ}
-use borrow.Author.Needs.{sfits-of}
-use Rattle.families.specs.Rows.{otherG}
-use Rattle.families.specs.Rows.{agentG}
-use borrow.Author.Needs.{needs}
+use Rattle.families.specs.Rows.{otherG, agentG}
 use Rattle.families.proofs.write_g_agent.Statement.{statement}
 use Rattle.families.proofs.write_g_agent.Tie as tie
-use Rattle.families.proofs.write_g_agent.Reads as reads
-use Rattle.families.proofs.write_g_agent.Lts as lts
-use Rattle.families.proofs.write_g_other.Reads as write-g-other-reads
 
 abbrev Inv-loop : tie.InvT-loop
 Inv-loop f₀ s t a end at₀ b₀ f at b = (b ≤ end) × ((at ≤ length f₀) × ((length f ≡ length f₀) × ((at ≡ length (for b (otherG s (t .0) (a .0)))) × (f ≡ filled (for b (otherG s (t .0) (a .0))) f₀))))
@@ -28,27 +19,21 @@ Inv-loop f₀ s t a end at₀ b₀ f at b = (b ≤ end) × ((at ≤ length f₀)
 abbrev μ-loop : tie.MeasureT-loop
 μ-loop f₀ s t a end at₀ b₀ f at b = end - b
 
--- src/lib.rt:277:5
 loop-holds : tie.Need-loop-holds Inv-loop μ-loop
 loop-holds c = (omega arith, (omega arith, (refl, (refl, sym (filled-nil _)))))
 
--- src/lib.rt:278:29
 mul-write-g-other : tie.Need-mul-write-g-other Inv-loop μ-loop
 mul-write-g-other c = search needs
 
--- src/lib.rt:278:29
 sub-write-g-other : tie.Need-sub-write-g-other Inv-loop μ-loop
 sub-write-g-other c = search needs
 
--- src/lib.rt:278:29
 part-write-g-other-start : tie.Need-part-write-g-other-start Inv-loop μ-loop
 part-write-g-other-start c = search needs
 
--- src/lib.rt:278:29
 part-write-g-other-end : tie.Need-part-write-g-other-end Inv-loop μ-loop
 part-write-g-other-end c = search needs
 
--- src/lib.rt:278:15
 write-g-other-requires : tie.Need-write-g-other-requires Inv-loop μ-loop
 unfolding agentG
 write-g-other-requires c κs =
@@ -59,7 +44,6 @@ write-g-other-requires c κs =
     let h = c .before .before .before .pre .1 .1 in
     search needs)
 
--- src/lib.rt:278:9
 add-at : tie.Need-add-at Inv-loop μ-loop
 unfolding agentG
 add-at c =
@@ -69,15 +53,12 @@ add-at c =
     let h = c .before .before .before .before .before .pre .1 .1 in
     let q : c .before .write-g-other .result ≡ length (g (c .before .before .before .before .loop .b)) = c .before .write-g-other .ensures .0 in omega arith
 
--- src/lib.rt:277:9
 add-b : tie.Need-add-b Inv-loop μ-loop
 add-b c = search needs
 
--- src/lib.rt:277:5
 loop-less : tie.Need-loop-less Inv-loop μ-loop
 loop-less c = search needs
 
--- src/lib.rt:277:5
 loop-again : tie.Need-loop-again Inv-loop μ-loop
 unfolding agentG
 loop-again c =
@@ -101,11 +82,9 @@ loop-again c =
       ),
     )
 
--- src/lib.rt:269:1
 same-length : tie.Need-same-length Inv-loop μ-loop
 same-length c = c .before .loop .inv .1 .1 .0
 
--- src/lib.rt:269:1
 returns : tie.Need-returns Inv-loop μ-loop
 unfolding agentG
 returns c =

@@ -1,27 +1,20 @@
-
-
-
+-- `families::write_g_pair` meets its contract. The invariant: the turns so far have written their blocks one behind another, and `at` is the number of their words. Assumes nothing.
 use mathlib.Core.Path.{_≡_, refl, sym, _∙_, ap}
-use mathlib.Core.List.{List, [], _∷_, _++_}
-use Prim.Native.Nat.{ℕ, suc, _+_, _-_, _*_, _≤_, _<_}
+use mathlib.Core.List.{List, [], _∷_}
+use Prim.Native.Nat.{ℕ, _+_, _-_, _≤_, _<_}
 use native.Mathlib.Omega.{arith}
-use lib.ListN.{length, take, drop, length-take, length-drop}
+use mir.Facts.{toZ-ofZ}
+use borrow.Author.Needs.{sfits-of, needs}
+use lib.ListN.{length, length-take, length-drop}
 use lib.IntN.{ℤ}
 use Rattle.lists.specs.Loop.{for}
 use Rattle.lists.specs.Slice.{filled}
 use Rattle.lists.proofs.Slices.{filled-nil, for-turn, for-next, for-room}
-use Rattle.formula.specs.Variables.{X, ¬X}
+use Rattle.formula.specs.Variables.{¬X}
 use Rattle.formula.specs.Formula.{line}
-use mir.Facts.{toZ-ofZ}
-use borrow.Author.Needs.{sfits-of}
 use Rattle.families.specs.Rows.{pairG}
-use borrow.Author.Needs.{needs}
 use Rattle.families.proofs.write_g_pair.Statement.{statement}
 use Rattle.families.proofs.write_g_pair.Tie as tie
-use Rattle.families.proofs.write_g_pair.Reads as reads
-use Rattle.families.proofs.write_g_pair.Lts as lts
-use Rattle.clauses.proofs.negative.Reads as negative-reads
-use Rattle.clauses.proofs.put_pair.Reads as put-pair-reads
 
 abbrev Inv-loop : tie.InvT-loop
 Inv-loop f₀ s t a b end next at₀ v₀ f at v = (v ≤ end) × ((at ≤ length f₀) × ((length f ≡ length f₀) × ((at ≡ length (for v (λ v. line (¬X s (t .0) (b .0) v ∷ ¬X s (t .0 + 1) (a .0) v ∷ [])))) × (f ≡ filled (for v (λ v. line (¬X s (t .0) (b .0) v ∷ ¬X s (t .0 + 1) (a .0) v ∷ []))) f₀))))
@@ -29,39 +22,30 @@ Inv-loop f₀ s t a b end next at₀ v₀ f at v = (v ≤ end) × ((at ≤ lengt
 abbrev μ-loop : tie.MeasureT-loop
 μ-loop f₀ s t a b end next at₀ v₀ f at v = end - v
 
--- src/lib.rt:245:21
 add-t10 : tie.Need-add-t10 Inv-loop μ-loop
 add-t10 c = search needs
 
--- src/lib.rt:247:5
 loop-holds : tie.Need-loop-holds Inv-loop μ-loop
 loop-holds c = (omega arith, (omega arith, (refl, (refl, sym (filled-nil _)))))
 
--- src/lib.rt:248:33
 mul-put-pair : tie.Need-mul-put-pair Inv-loop μ-loop
 mul-put-pair c = search needs
 
--- src/lib.rt:248:33
 sub-put-pair : tie.Need-sub-put-pair Inv-loop μ-loop
 sub-put-pair c = search needs
 
--- src/lib.rt:248:33
 part-put-pair-start : tie.Need-part-put-pair-start Inv-loop μ-loop
 part-put-pair-start c = search needs
 
--- src/lib.rt:248:33
 part-put-pair-end : tie.Need-part-put-pair-end Inv-loop μ-loop
 part-put-pair-end c = search needs
 
--- src/lib.rt:248:47
 negative-requires : tie.Need-negative-requires Inv-loop μ-loop
 negative-requires c κs = search needs
 
--- src/lib.rt:248:86
 negative-requires-2 : tie.Need-negative-requires-2 Inv-loop μ-loop
 negative-requires-2 c κs = search needs
 
--- src/lib.rt:248:15
 put-pair-requires : tie.Need-put-pair-requires Inv-loop μ-loop
 unfolding pairG
 put-pair-requires c κs =
@@ -72,7 +56,6 @@ put-pair-requires c κs =
     let h = c .before .before .before .before .before .before .pre .1 .1 in
     search needs)
 
--- src/lib.rt:248:9
 add-at : tie.Need-add-at Inv-loop μ-loop
 unfolding pairG
 add-at c =
@@ -82,15 +65,12 @@ add-at c =
     let h = c .before .before .before .before .before .before .before .before .pre .1 .1 in
     let q : c .before .put-pair .result ≡ length (g (c .before .before .before .before .before .before .loop .v)) = c .before .put-pair .ensures .0 in omega arith
 
--- src/lib.rt:247:9
 add-v : tie.Need-add-v Inv-loop μ-loop
 add-v c = search needs
 
--- src/lib.rt:247:5
 loop-less : tie.Need-loop-less Inv-loop μ-loop
 loop-less c = search needs
 
--- src/lib.rt:247:5
 loop-again : tie.Need-loop-again Inv-loop μ-loop
 unfolding pairG
 loop-again c =
@@ -114,11 +94,9 @@ loop-again c =
       ),
     )
 
--- src/lib.rt:238:1
 same-length : tie.Need-same-length Inv-loop μ-loop
 same-length c = c .before .loop .inv .1 .1 .0
 
--- src/lib.rt:238:1
 returns : tie.Need-returns Inv-loop μ-loop
 unfolding pairG
 returns c =

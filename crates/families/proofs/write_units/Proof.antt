@@ -1,27 +1,20 @@
-
+-- `families::write_units` meets its contract. The invariant: the turns so far have written their blocks one behind another, and `at` is the number of their words. Assumes nothing.
 use mathlib.Core.Path.{_≡_, refl, sym, _∙_, ap}
-use mathlib.Core.List.{List, [], _∷_, _++_}
-use Prim.Native.Nat.{ℕ, suc, _+_, _-_, _*_, _≤_, _<_}
+use mathlib.Core.List.{List, [], _∷_}
+use Prim.Native.Nat.{ℕ, _-_, _≤_, _<_}
 use native.Mathlib.Omega.{arith}
-use lib.ListN.{length, take, drop, length-take, length-drop}
+use mir.Facts.{toZ-ofZ}
+use borrow.Author.Needs.{sfits-of, needs}
+use lib.ListN.{length, length-take, length-drop, getD}
 use lib.IntN.{ℤ}
 use Rattle.lists.specs.Loop.{for}
 use Rattle.lists.specs.Slice.{filled}
 use Rattle.lists.proofs.Slices.{filled-nil, for-turn, for-next, for-room}
-use Rattle.formula.specs.Variables.{X, ¬X}
+use Rattle.formula.specs.Variables.{X}
 use Rattle.formula.specs.Formula.{line}
-use mir.Facts.{toZ-ofZ}
-use borrow.Author.Needs.{sfits-of}
-use lib.ListN.{getD}
 use Rattle.families.specs.Rows.{units}
-use borrow.Author.Needs.{needs}
 use Rattle.families.proofs.write_units.Statement.{statement}
 use Rattle.families.proofs.write_units.Tie as tie
-use Rattle.families.proofs.write_units.Reads as reads
-use Rattle.families.proofs.write_units.Lts as lts
-use Rattle.clauses.proofs.positive.Reads as positive-reads
-use Rattle.clauses.proofs.put_unit.Reads as put-unit-reads
-use Rattle.families.proofs.vertex.Reads as vertex-reads
 
 abbrev Inv-loop : tie.InvT-loop
 Inv-loop f₀ s t row end at₀ a₀ f at a = (a ≤ end) × ((at ≤ length f₀) × ((length f ≡ length f₀) × ((at ≡ length (for a (λ a. line (X s (t .0) a (getD row a 0) ∷ [])))) × (f ≡ filled (for a (λ a. line (X s (t .0) a (getD row a 0) ∷ []))) f₀))))
@@ -29,39 +22,30 @@ Inv-loop f₀ s t row end at₀ a₀ f at a = (a ≤ end) × ((at ≤ length f�
 abbrev μ-loop : tie.MeasureT-loop
 μ-loop f₀ s t row end at₀ a₀ f at a = end - a
 
--- src/lib.rt:31:5
 loop-holds : tie.Need-loop-holds Inv-loop μ-loop
 loop-holds c = (omega arith, (omega arith, (refl, (refl, sym (filled-nil _)))))
 
--- src/lib.rt:32:33
 mul-put-unit : tie.Need-mul-put-unit Inv-loop μ-loop
 mul-put-unit c = search needs
 
--- src/lib.rt:32:33
 sub-put-unit : tie.Need-sub-put-unit Inv-loop μ-loop
 sub-put-unit c = search needs
 
--- src/lib.rt:32:33
 part-put-unit-start : tie.Need-part-put-unit-start Inv-loop μ-loop
 part-put-unit-start c = search needs
 
--- src/lib.rt:32:33
 part-put-unit-end : tie.Need-part-put-unit-end Inv-loop μ-loop
 part-put-unit-end c = search needs
 
--- src/lib.rt:32:88
 array-read-vertex : tie.Need-array-read-vertex Inv-loop μ-loop
 array-read-vertex c = let k = c .before .before .before .pre .0 .k-most in omega arith
 
--- src/lib.rt:32:81
 vertex-requires : tie.Need-vertex-requires Inv-loop μ-loop
 vertex-requires c κs = search needs
 
--- src/lib.rt:32:47
 positive-requires : tie.Need-positive-requires Inv-loop μ-loop
 positive-requires c κs = let v = c .before .before .before .before .pre .1 .1 .0 (c .before .before .before .loop .a) (omega arith) in (c .before .before .before .before .pre .0, (c .before .before .before .before .pre .1 .0, omega arith, omega arith))
 
--- src/lib.rt:32:15
 put-unit-requires : tie.Need-put-unit-requires Inv-loop μ-loop
 unfolding units
 put-unit-requires c κs =
@@ -72,7 +56,6 @@ put-unit-requires c κs =
     let h = c .before .before .before .before .before .pre .1 .1 .1 in
     search needs)
 
--- src/lib.rt:32:9
 add-at : tie.Need-add-at Inv-loop μ-loop
 unfolding units
 add-at c =
@@ -82,15 +65,12 @@ add-at c =
     let h = c .before .before .before .before .before .before .before .pre .1 .1 .1 in
     let q : c .before .put-unit .result ≡ length (g (c .before .before .before .before .before .before .loop .a)) = c .before .put-unit .ensures .0 in omega arith
 
--- src/lib.rt:31:9
 add-a : tie.Need-add-a Inv-loop μ-loop
 add-a c = search needs
 
--- src/lib.rt:31:5
 loop-less : tie.Need-loop-less Inv-loop μ-loop
 loop-less c = search needs
 
--- src/lib.rt:31:5
 loop-again : tie.Need-loop-again Inv-loop μ-loop
 unfolding units
 loop-again c =
@@ -114,11 +94,9 @@ loop-again c =
       ),
     )
 
--- src/lib.rt:22:1
 same-length : tie.Need-same-length Inv-loop μ-loop
 same-length c = c .before .loop .inv .1 .1 .0
 
--- src/lib.rt:22:1
 returns : tie.Need-returns Inv-loop μ-loop
 unfolding units
 returns c =

@@ -1,66 +1,51 @@
-use mathlib.Core.Path.{_≡_, refl, sym, _∙_, ap}
-use mathlib.Core.List.{List, [], _∷_, _++_}
-use Prim.Native.Nat.{ℕ, suc, _+_, _-_, _*_, _≤_, _<_}
+-- `formula_writer::write_first` meets its contract. Each call fills the part that starts where the one before it ended. Assumes nothing.
+use mathlib.Core.Path.{_≡_, refl, sym}
+use mathlib.Core.List.{[], _++_}
+use Prim.Native.Nat.{_+_}
 use native.Mathlib.Omega.{arith}
-use lib.IntN.{ℤ}
-use lib.ListN.{length, take, drop, length-take, length-drop, length-append}
-use Rattle.lists.specs.Slice.{filled}
-use Rattle.lists.proofs.Slices.{filled-nil, filled-part}
-use Rattle.families.specs.Rows.{units, wordsC, wordsD, wordsE, wordsF, wordsG}
 use borrow.Author.Needs.{needs}
+use lib.ListN.{length, length-take, length-drop, length-append}
+use Rattle.lists.proofs.Slices.{filled-nil, filled-part}
+use Rattle.families.specs.Rows.{units, wordsC, wordsD}
 use Rattle.formula_writer.proofs.write_first.Statement.{statement}
 use Rattle.formula_writer.proofs.write_first.Tie as tie
-use Rattle.formula_writer.proofs.write_first.Reads as reads
-use Rattle.formula_writer.proofs.write_first.Lts as lts
-use Rattle.families.proofs.write_c.Reads as write-c-reads
-use Rattle.families.proofs.write_d.Reads as write-d-reads
-use Rattle.families.proofs.write_units.Reads as write-units-reads
 
--- src/lib.rt:25:35
 sub-write-units : tie.Need-sub-write-units
 sub-write-units c = search needs
 
--- src/lib.rt:25:35
 part-write-units-start : tie.Need-part-write-units-start
 part-write-units-start c = search needs
 
--- src/lib.rt:25:35
 part-write-units-end : tie.Need-part-write-units-end
 part-write-units-end c = search needs
 
--- src/lib.rt:25:9
 write-units-requires : tie.Need-write-units-requires
 write-units-requires c κs =
     simp (length-take, length-drop) (
     let room = simp length-append at (c .before .pre .1 .1 .1) in
     (c .before .pre .0, (omega arith, (c .before .pre .1 .0, omega arith))))
 
--- src/lib.rt:26:39
 mul-write-units : tie.Need-mul-write-units
 mul-write-units c =
     let room = simp length-append at (c .before .before .before .pre .1 .1 .1) in
     let q0 = c .before .write-units .ensures .0 in
     omega arith
 
--- src/lib.rt:26:39
 sub-write-units-2 : tie.Need-sub-write-units-2
 sub-write-units-2 c =
     let room = simp length-append at (c .before .before .before .pre .1 .1 .1) in
     let q0 = c .before .write-units .ensures .0 in
     omega arith
 
--- src/lib.rt:26:39
 part-write-units-start-2 : tie.Need-part-write-units-start-2
 part-write-units-start-2 c =
     let room = simp length-append at (c .before .before .before .pre .1 .1 .1) in
     let q0 = c .before .write-units .ensures .0 in
     omega arith
 
--- src/lib.rt:26:39
 part-write-units-end-2 : tie.Need-part-write-units-end-2
 part-write-units-end-2 c = search needs
 
--- src/lib.rt:26:17
 write-units-requires-2 : tie.Need-write-units-requires-2
 write-units-requires-2 c κs =
     simp (length-take, length-drop) (
@@ -68,7 +53,6 @@ write-units-requires-2 c κs =
     let q0 = c .before .before .write-units .ensures .0 in
     (c .before .before .before .before .pre .0, (omega arith, (c .before .before .before .before .pre .1 .1 .0, omega arith))))
 
--- src/lib.rt:26:13
 add-b : tie.Need-add-b
 add-b c =
     let room = simp length-append at (c .before .before .before .before .before .before .pre .1 .1 .1) in
@@ -76,7 +60,6 @@ add-b c =
     let q1 = c .before .write-units2 .ensures .0 in
     omega arith
 
--- src/lib.rt:27:35
 mul-write-c : tie.Need-mul-write-c
 mul-write-c c =
     let room = simp length-append at (c .before .before .before .before .before .before .pre .1 .1 .1) in
@@ -84,7 +67,6 @@ mul-write-c c =
     let q1 = c .before .write-units2 .ensures .0 in
     omega arith
 
--- src/lib.rt:27:35
 sub-write-c : tie.Need-sub-write-c
 sub-write-c c =
     let room = simp length-append at (c .before .before .before .before .before .before .pre .1 .1 .1) in
@@ -92,7 +74,6 @@ sub-write-c c =
     let q1 = c .before .write-units2 .ensures .0 in
     omega arith
 
--- src/lib.rt:27:35
 part-write-c-start : tie.Need-part-write-c-start
 part-write-c-start c =
     let room = simp length-append at (c .before .before .before .before .before .before .pre .1 .1 .1) in
@@ -100,11 +81,9 @@ part-write-c-start c =
     let q1 = c .before .write-units2 .ensures .0 in
     omega arith
 
--- src/lib.rt:27:35
 part-write-c-end : tie.Need-part-write-c-end
 part-write-c-end c = search needs
 
--- src/lib.rt:27:17
 write-c-requires : tie.Need-write-c-requires
 write-c-requires c κs =
     simp (length-take, length-drop) (
@@ -113,7 +92,6 @@ write-c-requires c κs =
     let q1 = c .before .before .write-units2 .ensures .0 in
     (c .before .before .before .before .before .before .before .pre .0, omega arith))
 
--- src/lib.rt:27:13
 add-c : tie.Need-add-c
 add-c c =
     let room = simp length-append at (c .before .before .before .before .before .before .before .before .before .pre .1 .1 .1) in
@@ -122,7 +100,6 @@ add-c c =
     let q2 = c .before .write-c .ensures .0 in
     omega arith
 
--- src/lib.rt:28:27
 mul-write-d : tie.Need-mul-write-d
 mul-write-d c =
     let room = simp length-append at (c .before .before .before .before .before .before .before .before .before .pre .1 .1 .1) in
@@ -131,7 +108,6 @@ mul-write-d c =
     let q2 = c .before .write-c .ensures .0 in
     omega arith
 
--- src/lib.rt:28:27
 sub-write-d : tie.Need-sub-write-d
 sub-write-d c =
     let room = simp length-append at (c .before .before .before .before .before .before .before .before .before .pre .1 .1 .1) in
@@ -140,7 +116,6 @@ sub-write-d c =
     let q2 = c .before .write-c .ensures .0 in
     omega arith
 
--- src/lib.rt:28:27
 part-write-d-start : tie.Need-part-write-d-start
 part-write-d-start c =
     let room = simp length-append at (c .before .before .before .before .before .before .before .before .before .pre .1 .1 .1) in
@@ -149,11 +124,9 @@ part-write-d-start c =
     let q2 = c .before .write-c .ensures .0 in
     omega arith
 
--- src/lib.rt:28:27
 part-write-d-end : tie.Need-part-write-d-end
 part-write-d-end c = search needs
 
--- src/lib.rt:28:9
 write-d-requires : tie.Need-write-d-requires
 write-d-requires c κs =
     simp (length-take, length-drop) (
@@ -163,7 +136,6 @@ write-d-requires c κs =
     let q2 = c .before .before .write-c .ensures .0 in
     (c .before .before .before .before .before .before .before .before .before .before .pre .0, omega arith))
 
--- src/lib.rt:28:5
 add-result : tie.Need-add-result
 add-result c =
     let room = simp length-append at (c .before .before .before .before .before .before .before .before .before .before .before .before .pre .1 .1 .1) in
@@ -173,11 +145,9 @@ add-result c =
     let q3 = c .before .write-d .ensures .0 in
     omega arith
 
--- src/lib.rt:18:1
 same-length : tie.Need-same-length
 same-length c = search needs
 
--- src/lib.rt:18:1
 returns : tie.Need-returns
 returns c =
     let l = c .before .before .before .before .before .before .before .before .before .before .before .before .args .f .now in

@@ -1,66 +1,51 @@
-use mathlib.Core.Path.{_≡_, refl, sym, _∙_, ap}
-use mathlib.Core.List.{List, [], _∷_, _++_}
-use Prim.Native.Nat.{ℕ, suc, _+_, _-_, _*_, _≤_, _<_}
+-- `formula_writer::write_rest` meets its contract. Each call fills the part that starts where the one before it ended. Assumes nothing.
+use mathlib.Core.Path.{_≡_, refl, sym}
+use mathlib.Core.List.{[], _++_}
+use Prim.Native.Nat.{_+_}
 use native.Mathlib.Omega.{arith}
-use lib.IntN.{ℤ}
-use lib.ListN.{length, take, drop, length-take, length-drop, length-append}
-use Rattle.lists.specs.Slice.{filled}
-use Rattle.lists.proofs.Slices.{filled-nil, filled-part}
-use Rattle.families.specs.Rows.{units, wordsC, wordsD, wordsE, wordsF, wordsG}
 use borrow.Author.Needs.{needs}
+use lib.ListN.{length, length-take, length-drop, length-append}
+use Rattle.lists.proofs.Slices.{filled-nil, filled-part}
+use Rattle.families.specs.Rows.{wordsE, wordsF, wordsG}
 use Rattle.formula_writer.proofs.write_rest.Statement.{statement}
 use Rattle.formula_writer.proofs.write_rest.Tie as tie
-use Rattle.formula_writer.proofs.write_rest.Reads as reads
-use Rattle.formula_writer.proofs.write_rest.Lts as lts
-use Rattle.families.proofs.write_e.Reads as write-e-reads
-use Rattle.families.proofs.write_f.Reads as write-f-reads
-use Rattle.families.proofs.write_g.Reads as write-g-reads
 
--- src/lib.rt:38:31
 sub-write-e : tie.Need-sub-write-e
 sub-write-e c = search needs
 
--- src/lib.rt:38:31
 part-write-e-start : tie.Need-part-write-e-start
 part-write-e-start c = search needs
 
--- src/lib.rt:38:31
 part-write-e-end : tie.Need-part-write-e-end
 part-write-e-end c = search needs
 
--- src/lib.rt:38:9
 write-e-requires : tie.Need-write-e-requires
 write-e-requires c κs =
     simp (length-take, length-drop) (
     let room = simp length-append at (c .before .before .pre .1 .1) in
     (c .before .before .pre .0, omega arith))
 
--- src/lib.rt:39:35
 mul-write-f : tie.Need-mul-write-f
 mul-write-f c =
     let room = simp length-append at (c .before .before .before .before .pre .1 .1) in
     let q0 = c .before .write-e .ensures .0 in
     omega arith
 
--- src/lib.rt:39:35
 sub-write-f : tie.Need-sub-write-f
 sub-write-f c =
     let room = simp length-append at (c .before .before .before .before .pre .1 .1) in
     let q0 = c .before .write-e .ensures .0 in
     omega arith
 
--- src/lib.rt:39:35
 part-write-f-start : tie.Need-part-write-f-start
 part-write-f-start c =
     let room = simp length-append at (c .before .before .before .before .pre .1 .1) in
     let q0 = c .before .write-e .ensures .0 in
     omega arith
 
--- src/lib.rt:39:35
 part-write-f-end : tie.Need-part-write-f-end
 part-write-f-end c = search needs
 
--- src/lib.rt:39:17
 write-f-requires : tie.Need-write-f-requires
 write-f-requires c κs =
     simp (length-take, length-drop) (
@@ -68,7 +53,6 @@ write-f-requires c κs =
     let q0 = c .before .before .write-e .ensures .0 in
     (c .before .before .before .before .before .pre .0, (c .before .before .before .before .before .pre .1 .0, omega arith)))
 
--- src/lib.rt:39:13
 add-g : tie.Need-add-g
 add-g c =
     let room = simp length-append at (c .before .before .before .before .before .before .before .pre .1 .1) in
@@ -76,7 +60,6 @@ add-g c =
     let q1 = c .before .write-f .ensures .0 in
     omega arith
 
--- src/lib.rt:40:27
 mul-write-g : tie.Need-mul-write-g
 mul-write-g c =
     let room = simp length-append at (c .before .before .before .before .before .before .before .pre .1 .1) in
@@ -84,7 +67,6 @@ mul-write-g c =
     let q1 = c .before .write-f .ensures .0 in
     omega arith
 
--- src/lib.rt:40:27
 sub-write-g : tie.Need-sub-write-g
 sub-write-g c =
     let room = simp length-append at (c .before .before .before .before .before .before .before .pre .1 .1) in
@@ -92,7 +74,6 @@ sub-write-g c =
     let q1 = c .before .write-f .ensures .0 in
     omega arith
 
--- src/lib.rt:40:27
 part-write-g-start : tie.Need-part-write-g-start
 part-write-g-start c =
     let room = simp length-append at (c .before .before .before .before .before .before .before .pre .1 .1) in
@@ -100,11 +81,9 @@ part-write-g-start c =
     let q1 = c .before .write-f .ensures .0 in
     omega arith
 
--- src/lib.rt:40:27
 part-write-g-end : tie.Need-part-write-g-end
 part-write-g-end c = search needs
 
--- src/lib.rt:40:9
 write-g-requires : tie.Need-write-g-requires
 write-g-requires c κs =
     simp (length-take, length-drop) (
@@ -113,7 +92,6 @@ write-g-requires c κs =
     let q1 = c .before .before .write-f .ensures .0 in
     (c .before .before .before .before .before .before .before .before .pre .0, omega arith))
 
--- src/lib.rt:40:5
 add-result : tie.Need-add-result
 add-result c =
     let room = simp length-append at (c .before .before .before .before .before .before .before .before .before .before .pre .1 .1) in
@@ -122,11 +100,9 @@ add-result c =
     let q2 = c .before .write-g .ensures .0 in
     omega arith
 
--- src/lib.rt:32:1
 same-length : tie.Need-same-length
 same-length c = search needs
 
--- src/lib.rt:32:1
 returns : tie.Need-returns
 returns c =
     let l = c .before .before .before .before .before .before .before .before .before .before .args .f .now in

@@ -1,42 +1,32 @@
+-- `formula_writer::write_words` meets its contract. Each call fills the part that starts where the one before it ended. Assumes nothing.
 use mathlib.Core.Path.{_≡_, refl, sym, _∙_, ap}
-use mathlib.Core.List.{List, [], _∷_, _++_}
-use Prim.Native.Nat.{ℕ, suc, _+_, _-_, _*_, _≤_, _<_}
+use mathlib.Core.List.{List, [], _++_}
+use Prim.Native.Nat.{_+_, _≤_}
 use native.Mathlib.Omega.{arith}
+use borrow.Author.Needs.{needs}
 use lib.IntN.{ℤ}
-use lib.ListN.{length, take, drop, length-take, length-drop, length-append}
+use lib.ListN.{length, length-take, length-drop, length-append}
 use Rattle.lists.specs.Slice.{filled}
 use Rattle.lists.proofs.Slices.{filled-nil, filled-part}
-use Rattle.families.specs.Rows.{units, wordsC, wordsD, wordsE, wordsF, wordsG}
 use Rattle.formula.specs.Formula.{words}
 use Rattle.calls.specs.Accepted.{instanceOf}
 use Rattle.calls.proofs.Accepted.{limits-known, starts-inside, goals-inside}
 use Rattle.formula_writer.proofs.Laws.{firstWords, restWords, words-split}
-use borrow.Author.Needs.{needs}
 use Rattle.formula_writer.proofs.write_words.Statement.{statement}
 use Rattle.formula_writer.proofs.write_words.Tie as tie
-use Rattle.formula_writer.proofs.write_words.Reads as reads
-use Rattle.formula_writer.proofs.write_words.Lts as lts
-use Rattle.formula_writer.proofs.write_first.Reads as write-first-reads
-use Rattle.formula_writer.proofs.write_rest.Reads as write-rest-reads
-use Rattle.neighbours.proofs.table_of.Reads as table-of-reads
 
--- src/lib.rt:52:17
 table-of-requires : tie.Need-table-of-requires
 table-of-requires c κs = search needs
 
--- src/lib.rt:53:26
 sub-write-first : tie.Need-sub-write-first
 sub-write-first c = search needs
 
--- src/lib.rt:53:26
 part-write-first-start : tie.Need-part-write-first-start
 part-write-first-start c = search needs
 
--- src/lib.rt:53:26
 part-write-first-end : tie.Need-part-write-first-end
 part-write-first-end c = search needs
 
--- src/lib.rt:53:9
 write-first-requires : tie.Need-write-first-requires
 write-first-requires c κs =
     simp (length-take, length-drop) (
@@ -48,7 +38,6 @@ write-first-requires c κs =
     let room : length F + length R ≤ length l = omega (arith, c .before .before .before .before .before .before .pre .1) in
     (limits-known (c .before .before .before .before .before .before .args .b .now) (c .before .before .before .before .before .before .args .c) (c .before .before .before .before .before .before .pre .0), (starts-inside (c .before .before .before .before .before .before .args .b .now) (c .before .before .before .before .before .before .args .c) (c .before .before .before .before .before .before .pre .0), (goals-inside (c .before .before .before .before .before .before .args .b .now) (c .before .before .before .before .before .before .args .c) (c .before .before .before .before .before .before .pre .0), omega arith))))
 
--- src/lib.rt:54:21
 mul-write-rest : tie.Need-mul-write-rest
 mul-write-rest c =
     let l = c .before .before .before .before .before .before .before .before .args .f .now in
@@ -59,7 +48,6 @@ mul-write-rest c =
     let room : length F + length R ≤ length l = omega (arith, c .before .before .before .before .before .before .before .before .pre .1) in
     let q : c .before .write-first .result ≡ length F = c .before .write-first .ensures .0 in omega arith
 
--- src/lib.rt:54:21
 sub-write-rest : tie.Need-sub-write-rest
 sub-write-rest c =
     let l = c .before .before .before .before .before .before .before .before .args .f .now in
@@ -70,7 +58,6 @@ sub-write-rest c =
     let room : length F + length R ≤ length l = omega (arith, c .before .before .before .before .before .before .before .before .pre .1) in
     let q : c .before .write-first .result ≡ length F = c .before .write-first .ensures .0 in omega arith
 
--- src/lib.rt:54:21
 part-write-rest-start : tie.Need-part-write-rest-start
 part-write-rest-start c =
     let l = c .before .before .before .before .before .before .before .before .args .f .now in
@@ -81,15 +68,12 @@ part-write-rest-start c =
     let room : length F + length R ≤ length l = omega (arith, c .before .before .before .before .before .before .before .before .pre .1) in
     let q : c .before .write-first .result ≡ length F = c .before .write-first .ensures .0 in omega arith
 
--- src/lib.rt:54:21
 part-write-rest-end : tie.Need-part-write-rest-end
 part-write-rest-end c = search needs
 
--- src/lib.rt:54:38
 slice-aggregate-write-rest : tie.Need-slice-aggregate-write-rest
 slice-aggregate-write-rest c = search needs
 
--- src/lib.rt:54:10
 write-rest-requires : tie.Need-write-rest-requires
 write-rest-requires c κs =
     simp (length-take, length-drop) (
@@ -101,7 +85,6 @@ write-rest-requires c κs =
     let room : length F + length R ≤ length l = omega (arith, c .before .before .before .before .before .before .before .before .before .before .pre .1) in
     let q : c .before .before .before .write-first .result ≡ length F = c .before .before .before .write-first .ensures .0 in (limits-known (c .before .before .before .before .before .before .before .before .before .before .args .b .now) (c .before .before .before .before .before .before .before .before .before .before .args .c) (c .before .before .before .before .before .before .before .before .before .before .pre .0), (omega (arith, c .before .before .before .before .before .table-of .ensures .0), omega arith)))
 
--- src/lib.rt:54:5
 add-result : tie.Need-add-result
 add-result c =
     let l = c .before .before .before .before .before .before .before .before .before .before .before .before .args .f .now in
@@ -112,11 +95,9 @@ add-result c =
     let room : length F + length R ≤ length l = omega (arith, c .before .before .before .before .before .before .before .before .before .before .before .before .pre .1) in
     let q : c .before .before .before .before .before .write-first .result ≡ length F = c .before .before .before .before .before .write-first .ensures .0 in let q2 : c .before .write-rest .result ≡ length R = c .before .write-rest .ensures .0 in omega arith
 
--- src/lib.rt:44:1
 same-length : tie.Need-same-length
 same-length c = search needs
 
--- src/lib.rt:44:1
 returns : tie.Need-returns
 returns c =
     let l = c .before .before .before .before .before .before .before .before .before .before .before .before .args .f .now in

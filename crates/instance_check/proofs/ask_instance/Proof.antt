@@ -1,102 +1,73 @@
-use mathlib.Core.Path.{_≡_, refl, sym, _∙_, ap}
-use Prim.Native.Nat.{ℕ, suc, _+_, _-_, _*_, _≤_, _<_}
+-- `instance_check::ask_instance` meets its contract. It follows from the contracts of the functions called and the laws cited. Assumes nothing.
+use mathlib.Core.Path.{_∙_}
 use native.Mathlib.Omega.{arith}
-use lib.ListN.{length, getD}
-use Rattle.instance_check.proofs.Laws.{sizes-refused, sizes-passed, sizes-long, stop-6, pass-6, stop-7, pass-7, stop-8, pass-8, stop-9, pass-9, stop-10, pass-10}
 use borrow.Author.Needs.{needs}
+use Rattle.instance_check.proofs.Laws.{sizes-refused, sizes-passed, sizes-long, stop-6, pass-6, stop-7, pass-7, stop-8, pass-8, stop-9, pass-9, stop-10, pass-10}
 use Rattle.instance_check.proofs.ask_instance.Statement.{statement}
 use Rattle.instance_check.proofs.ask_instance.Tie as tie
-use Rattle.instance_check.proofs.ask_instance.Reads as reads
-use Rattle.instance_check.proofs.ask_instance.Lts as lts
-use Rattle.instance_check.proofs.ask_sizes.Reads as ask-sizes-reads
-use Rattle.instance_check.proofs.edge_count.Reads as edge-count-reads
-use Rattle.instance_check.proofs.edge_fault.Reads as edge-fault-reads
-use Rattle.instance_check.proofs.order_fault.Reads as order-fault-reads
-use Rattle.instance_check.proofs.vertex_fault.Reads as vertex-fault-reads
-use Rattle.instance_check.proofs.wide.Reads as wide-reads
 
--- src/lib.rt:170:9
 ask-sizes-requires : tie.Need-ask-sizes-requires
 ask-sizes-requires c κs = search needs
 
--- src/lib.rt:172:9
 returns : tie.Need-returns
 returns c = sizes-refused (c .before .before .before .before .args .b .now) (c .before .before .before .before .args .m) (c .before .before .ask-sizes .result) (c .before .before .ask-sizes .ensures) (c .if1 .taken)
 
--- src/lib.rt:174:18
 shared-slice-read-wide : tie.Need-shared-slice-read-wide
 shared-slice-read-wide c = let l = sizes-long (c .before .before .before .before .before .args .b .now) (c .before .before .before .before .before .args .m) (c .before .before .before .ask-sizes .result) (c .before .before .before .ask-sizes .ensures) (c .before .if1 .left) in omega arith
 
--- src/lib.rt:174:9
 wide-requires : tie.Need-wide-requires
 wide-requires c κs = search needs
 
--- src/lib.rt:175:18
 shared-slice-read-wide-2 : tie.Need-shared-slice-read-wide-2
 shared-slice-read-wide-2 c = let l = sizes-long (c .before .before .before .before .before .before .before .args .b .now) (c .before .before .before .before .before .before .before .args .m) (c .before .before .before .before .before .ask-sizes .result) (c .before .before .before .before .before .ask-sizes .ensures) (c .before .before .before .if1 .left) in omega arith
 
--- src/lib.rt:175:9
 wide-requires-2 : tie.Need-wide-requires-2
 wide-requires-2 c κs = search needs
 
--- src/lib.rt:176:9
 edge-count-requires : tie.Need-edge-count-requires
 edge-count-requires c κs = let l = sizes-long (c .before .before .before .before .before .before .before .before .args .b .now) (c .before .before .before .before .before .before .before .before .args .m) (c .before .before .before .before .before .before .ask-sizes .result) (c .before .before .before .before .before .before .ask-sizes .ensures) (c .before .before .before .before .if1 .left) in omega arith
 
--- src/lib.rt:177:9
 edge-fault-requires : tie.Need-edge-fault-requires
 edge-fault-requires c κs = let l = sizes-long (c .before .before .before .before .before .before .before .before .before .args .b .now) (c .before .before .before .before .before .before .before .before .before .args .m) (c .before .before .before .before .before .before .before .ask-sizes .result) (c .before .before .before .before .before .before .before .ask-sizes .ensures) (c .before .before .before .before .before .if1 .left) in omega arith
 
--- src/lib.rt:179:44
 add-t17 : tie.Need-add-t17
 add-t17 c = let l = sizes-long (c .before .before .before .before .before .before .before .before .before .before .before .args .b .now) (c .before .before .before .before .before .before .before .before .before .before .before .args .m) (c .before .before .before .before .before .before .before .before .before .ask-sizes .result) (c .before .before .before .before .before .before .before .before .before .ask-sizes .ensures) (c .before .before .before .before .before .before .before .if1 .left) in omega arith
 
--- src/lib.rt:179:9
 returns-2 : tie.Need-returns-2
 returns-2 c =
     stop-6 (c .before .before .before .before .before .before .before .before .before .before .before .args .b .now) (c .before .before .before .before .before .before .before .before .before .before .before .args .m) (c .before .before .edge-count .result) (c .before .before .before .wide2 .result) (c .before .edge-fault .result) 0 0 0 (c .before .before .edge-count .ensures .0) (c .before .before .before .wide2 .ensures .0) (c .before .edge-fault .ensures) (c .if2 .taken)
     ∙ sizes-passed (c .before .before .before .before .before .before .before .before .before .before .before .args .b .now) (c .before .before .before .before .before .before .before .before .before .before .before .args .m) (c .before .before .before .before .before .before .before .before .before .ask-sizes .result) (c .before .before .before .before .before .before .before .before .before .ask-sizes .ensures) (c .before .before .before .before .before .before .before .if1 .left)
 
--- src/lib.rt:181:9
 order-fault-requires : tie.Need-order-fault-requires
 order-fault-requires c κs = let l = sizes-long (c .before .before .before .before .before .before .before .before .before .before .before .args .b .now) (c .before .before .before .before .before .before .before .before .before .before .before .args .m) (c .before .before .before .before .before .before .before .before .before .ask-sizes .result) (c .before .before .before .before .before .before .before .before .before .ask-sizes .ensures) (c .before .before .before .before .before .before .before .if1 .left) in omega arith
 
--- src/lib.rt:182:8
 add-if3 : tie.Need-add-if3
 add-if3 c = let l = sizes-long (c .before .before .before .before .before .before .before .before .before .before .before .before .args .b .now) (c .before .before .before .before .before .before .before .before .before .before .before .before .args .m) (c .before .before .before .before .before .before .before .before .before .before .ask-sizes .result) (c .before .before .before .before .before .before .before .before .before .before .ask-sizes .ensures) (c .before .before .before .before .before .before .before .before .if1 .left) in omega arith
 
--- src/lib.rt:183:44
 add-t19 : tie.Need-add-t19
 add-t19 c = let l = sizes-long (c .before .before .before .before .before .before .before .before .before .before .before .before .before .args .b .now) (c .before .before .before .before .before .before .before .before .before .before .before .before .before .args .m) (c .before .before .before .before .before .before .before .before .before .before .before .ask-sizes .result) (c .before .before .before .before .before .before .before .before .before .before .before .ask-sizes .ensures) (c .before .before .before .before .before .before .before .before .before .if1 .left) in omega arith
 
--- src/lib.rt:183:44
 add-t20 : tie.Need-add-t20
 add-t20 c = let l = sizes-long (c .before .before .before .before .before .before .before .before .before .before .before .before .before .args .b .now) (c .before .before .before .before .before .before .before .before .before .before .before .before .before .args .m) (c .before .before .before .before .before .before .before .before .before .before .before .ask-sizes .result) (c .before .before .before .before .before .before .before .before .before .before .before .ask-sizes .ensures) (c .before .before .before .before .before .before .before .before .before .if1 .left) in omega arith
 
--- src/lib.rt:183:9
 returns-3 : tie.Need-returns-3
 returns-3 c =
     stop-7 (c .before .before .before .before .before .before .before .before .before .before .before .before .before .args .b .now) (c .before .before .before .before .before .before .before .before .before .before .before .before .before .args .m) (c .before .before .before .before .edge-count .result) (c .before .before .before .before .before .wide2 .result) (c .before .before .before .edge-fault .result) (c .before .order-fault .result) 0 0 (c .before .before .before .before .edge-count .ensures .0) (c .before .before .before .before .before .wide2 .ensures .0) (c .before .order-fault .ensures) (c .if3 .taken)
     ∙ pass-6 (c .before .before .before .before .before .before .before .before .before .before .before .before .before .args .b .now) (c .before .before .before .before .before .before .before .before .before .before .before .before .before .args .m) (c .before .before .before .before .edge-count .result) (c .before .before .before .before .before .wide2 .result) (c .before .before .before .edge-fault .result) (c .before .order-fault .result) 0 0 (c .before .before .before .before .edge-count .ensures .0) (c .before .before .before .before .before .wide2 .ensures .0) (c .before .before .before .edge-fault .ensures) (c .before .before .if2 .left)
     ∙ sizes-passed (c .before .before .before .before .before .before .before .before .before .before .before .before .before .args .b .now) (c .before .before .before .before .before .before .before .before .before .before .before .before .before .args .m) (c .before .before .before .before .before .before .before .before .before .before .before .ask-sizes .result) (c .before .before .before .before .before .before .before .before .before .before .before .ask-sizes .ensures) (c .before .before .before .before .before .before .before .before .before .if1 .left)
 
--- src/lib.rt:185:22
 mul-starts : tie.Need-mul-starts
 mul-starts c = let l = sizes-long (c .before .before .before .before .before .before .before .before .before .before .before .before .before .args .b .now) (c .before .before .before .before .before .before .before .before .before .before .before .before .before .args .m) (c .before .before .before .before .before .before .before .before .before .before .before .ask-sizes .result) (c .before .before .before .before .before .before .before .before .before .before .before .ask-sizes .ensures) (c .before .before .before .before .before .before .before .before .before .if1 .left) in omega arith
 
--- src/lib.rt:185:18
 add-starts : tie.Need-add-starts
 add-starts c = let l = sizes-long (c .before .before .before .before .before .before .before .before .before .before .before .before .before .args .b .now) (c .before .before .before .before .before .before .before .before .before .before .before .before .before .args .m) (c .before .before .before .before .before .before .before .before .before .before .before .ask-sizes .result) (c .before .before .before .before .before .before .before .before .before .before .before .ask-sizes .ensures) (c .before .before .before .before .before .before .before .before .before .if1 .left) in omega arith
 
--- src/lib.rt:186:9
 vertex-fault-requires : tie.Need-vertex-fault-requires
 vertex-fault-requires c κs = let l = sizes-long (c .before .before .before .before .before .before .before .before .before .before .before .before .before .args .b .now) (c .before .before .before .before .before .before .before .before .before .before .before .before .before .args .m) (c .before .before .before .before .before .before .before .before .before .before .before .ask-sizes .result) (c .before .before .before .before .before .before .before .before .before .before .before .ask-sizes .ensures) (c .before .before .before .before .before .before .before .before .before .if1 .left) in omega arith
 
--- src/lib.rt:188:44
 add-t21 : tie.Need-add-t21
 add-t21 c = let l = sizes-long (c .before .before .before .before .before .before .before .before .before .before .before .before .before .before .before .args .b .now) (c .before .before .before .before .before .before .before .before .before .before .before .before .before .before .before .args .m) (c .before .before .before .before .before .before .before .before .before .before .before .before .before .ask-sizes .result) (c .before .before .before .before .before .before .before .before .before .before .before .before .before .ask-sizes .ensures) (c .before .before .before .before .before .before .before .before .before .before .before .if1 .left) in omega arith
 
--- src/lib.rt:188:9
 returns-4 : tie.Need-returns-4
 returns-4 c =
     stop-8 (c .before .before .before .before .before .before .before .before .before .before .before .before .before .before .before .args .b .now) (c .before .before .before .before .before .before .before .before .before .before .before .before .before .before .before .args .m) (c .before .before .before .before .before .before .edge-count .result) (c .before .before .before .before .before .before .before .wide2 .result) (c .before .before .before .before .before .edge-fault .result) (c .before .before .before .order-fault .result) (c .before .vertex-fault .result) 0 (c .before .before .before .before .before .before .edge-count .ensures .0) (c .before .before .before .before .before .before .before .wide2 .ensures .0) (c .before .vertex-fault .ensures) (c .if4 .taken)
@@ -104,19 +75,15 @@ returns-4 c =
     ∙ pass-6 (c .before .before .before .before .before .before .before .before .before .before .before .before .before .before .before .args .b .now) (c .before .before .before .before .before .before .before .before .before .before .before .before .before .before .before .args .m) (c .before .before .before .before .before .before .edge-count .result) (c .before .before .before .before .before .before .before .wide2 .result) (c .before .before .before .before .before .edge-fault .result) (c .before .before .before .order-fault .result) (c .before .vertex-fault .result) 0 (c .before .before .before .before .before .before .edge-count .ensures .0) (c .before .before .before .before .before .before .before .wide2 .ensures .0) (c .before .before .before .before .before .edge-fault .ensures) (c .before .before .before .before .if2 .left)
     ∙ sizes-passed (c .before .before .before .before .before .before .before .before .before .before .before .before .before .before .before .args .b .now) (c .before .before .before .before .before .before .before .before .before .before .before .before .before .before .before .args .m) (c .before .before .before .before .before .before .before .before .before .before .before .before .before .ask-sizes .result) (c .before .before .before .before .before .before .before .before .before .before .before .before .before .ask-sizes .ensures) (c .before .before .before .before .before .before .before .before .before .before .before .if1 .left)
 
--- src/lib.rt:190:17
 add-goals : tie.Need-add-goals
 add-goals c = let l = sizes-long (c .before .before .before .before .before .before .before .before .before .before .before .before .before .before .before .args .b .now) (c .before .before .before .before .before .before .before .before .before .before .before .before .before .before .before .args .m) (c .before .before .before .before .before .before .before .before .before .before .before .before .before .ask-sizes .result) (c .before .before .before .before .before .before .before .before .before .before .before .before .before .ask-sizes .ensures) (c .before .before .before .before .before .before .before .before .before .before .before .if1 .left) in omega arith
 
--- src/lib.rt:191:9
 vertex-fault-requires-2 : tie.Need-vertex-fault-requires-2
 vertex-fault-requires-2 c κs = let l = sizes-long (c .before .before .before .before .before .before .before .before .before .before .before .before .before .before .before .args .b .now) (c .before .before .before .before .before .before .before .before .before .before .before .before .before .before .before .args .m) (c .before .before .before .before .before .before .before .before .before .before .before .before .before .ask-sizes .result) (c .before .before .before .before .before .before .before .before .before .before .before .before .before .ask-sizes .ensures) (c .before .before .before .before .before .before .before .before .before .before .before .if1 .left) in omega arith
 
--- src/lib.rt:193:44
 add-t22 : tie.Need-add-t22
 add-t22 c = let l = sizes-long (c .before .before .before .before .before .before .before .before .before .before .before .before .before .before .before .before .before .args .b .now) (c .before .before .before .before .before .before .before .before .before .before .before .before .before .before .before .before .before .args .m) (c .before .before .before .before .before .before .before .before .before .before .before .before .before .before .before .ask-sizes .result) (c .before .before .before .before .before .before .before .before .before .before .before .before .before .before .before .ask-sizes .ensures) (c .before .before .before .before .before .before .before .before .before .before .before .before .before .if1 .left) in omega arith
 
--- src/lib.rt:193:9
 returns-5 : tie.Need-returns-5
 returns-5 c =
     stop-9 (c .before .before .before .before .before .before .before .before .before .before .before .before .before .before .before .before .before .args .b .now) (c .before .before .before .before .before .before .before .before .before .before .before .before .before .before .before .before .before .args .m) (c .before .before .before .before .before .before .before .before .edge-count .result) (c .before .before .before .before .before .before .before .before .before .wide2 .result) (c .before .before .before .before .before .before .before .edge-fault .result) (c .before .before .before .before .before .order-fault .result) (c .before .before .before .vertex-fault .result) (c .before .vertex-fault2 .result) (c .before .before .before .before .before .before .before .before .edge-count .ensures .0) (c .before .before .before .before .before .before .before .before .before .wide2 .ensures .0) (c .before .vertex-fault2 .ensures) (c .if5 .taken)
@@ -125,7 +92,6 @@ returns-5 c =
     ∙ pass-6 (c .before .before .before .before .before .before .before .before .before .before .before .before .before .before .before .before .before .args .b .now) (c .before .before .before .before .before .before .before .before .before .before .before .before .before .before .before .before .before .args .m) (c .before .before .before .before .before .before .before .before .edge-count .result) (c .before .before .before .before .before .before .before .before .before .wide2 .result) (c .before .before .before .before .before .before .before .edge-fault .result) (c .before .before .before .before .before .order-fault .result) (c .before .before .before .vertex-fault .result) (c .before .vertex-fault2 .result) (c .before .before .before .before .before .before .before .before .edge-count .ensures .0) (c .before .before .before .before .before .before .before .before .before .wide2 .ensures .0) (c .before .before .before .before .before .before .before .edge-fault .ensures) (c .before .before .before .before .before .before .if2 .left)
     ∙ sizes-passed (c .before .before .before .before .before .before .before .before .before .before .before .before .before .before .before .before .before .args .b .now) (c .before .before .before .before .before .before .before .before .before .before .before .before .before .before .before .before .before .args .m) (c .before .before .before .before .before .before .before .before .before .before .before .before .before .before .before .ask-sizes .result) (c .before .before .before .before .before .before .before .before .before .before .before .before .before .before .before .ask-sizes .ensures) (c .before .before .before .before .before .before .before .before .before .before .before .before .before .if1 .left)
 
--- src/lib.rt:196:9
 returns-6 : tie.Need-returns-6
 returns-6 c =
     stop-10 (c .before .before .before .before .before .before .before .before .before .before .before .before .before .before .before .before .before .before .args .b .now) (c .before .before .before .before .before .before .before .before .before .before .before .before .before .before .before .before .before .before .args .m) (c .if6 .taken)
@@ -135,7 +101,6 @@ returns-6 c =
     ∙ pass-6 (c .before .before .before .before .before .before .before .before .before .before .before .before .before .before .before .before .before .before .args .b .now) (c .before .before .before .before .before .before .before .before .before .before .before .before .before .before .before .before .before .before .args .m) (c .before .before .before .before .before .before .before .before .before .edge-count .result) (c .before .before .before .before .before .before .before .before .before .before .wide2 .result) (c .before .before .before .before .before .before .before .before .edge-fault .result) (c .before .before .before .before .before .before .order-fault .result) (c .before .before .before .before .vertex-fault .result) (c .before .before .vertex-fault2 .result) (c .before .before .before .before .before .before .before .before .before .edge-count .ensures .0) (c .before .before .before .before .before .before .before .before .before .before .wide2 .ensures .0) (c .before .before .before .before .before .before .before .before .edge-fault .ensures) (c .before .before .before .before .before .before .before .if2 .left)
     ∙ sizes-passed (c .before .before .before .before .before .before .before .before .before .before .before .before .before .before .before .before .before .before .args .b .now) (c .before .before .before .before .before .before .before .before .before .before .before .before .before .before .before .before .before .before .args .m) (c .before .before .before .before .before .before .before .before .before .before .before .before .before .before .before .before .ask-sizes .result) (c .before .before .before .before .before .before .before .before .before .before .before .before .before .before .before .before .ask-sizes .ensures) (c .before .before .before .before .before .before .before .before .before .before .before .before .before .before .if1 .left)
 
--- src/lib.rt:167:1
 returns-7 : tie.Need-returns-7
 returns-7 c =
     pass-10 (c .before .before .before .before .before .before .before .before .before .before .before .before .before .before .before .before .before .before .args .b .now) (c .before .before .before .before .before .before .before .before .before .before .before .before .before .before .before .before .before .before .args .m) (c .if6 .left)

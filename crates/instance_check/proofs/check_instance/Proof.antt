@@ -1,77 +1,53 @@
-
-use mathlib.Core.Path.{_≡_, refl, sym, _∙_, ap}
-use Prim.Native.Nat.{ℕ, suc, _+_, _-_, _*_, _≤_, _<_}
+-- `instance_check::check_instance` meets its contract. It follows from the contracts of the functions called and the laws cited. Assumes nothing.
 use native.Mathlib.Omega.{arith}
-use lib.ListN.{length, getD}
+use borrow.Author.Needs.{needs}
 use Rattle.instance.specs.Instance.{instance, checked, forAgents}
 use Rattle.instance_check.proofs.Laws.{left-unchecked, is-checked, accepted-long, accepted-agents}
-use borrow.Author.Needs.{needs}
 use Rattle.instance_check.proofs.check_instance.Statement.{statement}
 use Rattle.instance_check.proofs.check_instance.Tie as tie
-use Rattle.instance_check.proofs.check_instance.Reads as reads
-use Rattle.instance_check.proofs.check_instance.Lts as lts
-use Rattle.instance_check.proofs.ask_instance.Reads as ask-instance-reads
-use Rattle.instance_check.proofs.edge_count.Reads as edge-count-reads
-use Rattle.instance_check.proofs.for_agents.Reads as for-agents-reads
-use Rattle.instance_check.proofs.wide.Reads as wide-reads
 
--- src/lib.rt:217:9
 ask-instance-requires : tie.Need-ask-instance-requires
 ask-instance-requires c κs = search needs
 
--- src/lib.rt:220:9
 returns : tie.Need-returns
 returns c = (c .before .before .ask-instance .ensures, left-unchecked (c .before .before .before .before .args .b .now) (c .before .before .before .before .args .m) (c .before .before .ask-instance .result) (c .before .before .ask-instance .ensures) (c .if1 .taken))
 
--- src/lib.rt:229:18
 shared-slice-read-wide : tie.Need-shared-slice-read-wide
 shared-slice-read-wide c = let l = accepted-long (c .before .before .before .before .before .args .b .now) (c .before .before .before .before .before .args .m) (c .before .before .before .ask-instance .result) (c .before .before .before .ask-instance .ensures) (c .before .if1 .left) in let k = accepted-agents (c .before .before .before .before .before .args .b .now) (c .before .before .before .before .before .args .m) (c .before .before .before .ask-instance .result) (c .before .before .before .ask-instance .ensures) (c .before .if1 .left) in omega arith
 
--- src/lib.rt:229:9
 wide-requires : tie.Need-wide-requires
 wide-requires c κs = search needs
 
--- src/lib.rt:230:18
 shared-slice-read-wide-2 : tie.Need-shared-slice-read-wide-2
 shared-slice-read-wide-2 c = let l = accepted-long (c .before .before .before .before .before .before .before .args .b .now) (c .before .before .before .before .before .before .before .args .m) (c .before .before .before .before .before .ask-instance .result) (c .before .before .before .before .before .ask-instance .ensures) (c .before .before .before .if1 .left) in let k = accepted-agents (c .before .before .before .before .before .before .before .args .b .now) (c .before .before .before .before .before .before .before .args .m) (c .before .before .before .before .before .ask-instance .result) (c .before .before .before .before .before .ask-instance .ensures) (c .before .before .before .if1 .left) in omega arith
 
--- src/lib.rt:230:9
 wide-requires-2 : tie.Need-wide-requires-2
 wide-requires-2 c κs = search needs
 
--- src/lib.rt:231:9
 edge-count-requires : tie.Need-edge-count-requires
 edge-count-requires c κs = let l = accepted-long (c .before .before .before .before .before .before .before .before .args .b .now) (c .before .before .before .before .before .before .before .before .args .m) (c .before .before .before .before .before .before .ask-instance .result) (c .before .before .before .before .before .before .ask-instance .ensures) (c .before .before .before .before .if1 .left) in let k = accepted-agents (c .before .before .before .before .before .before .before .before .args .b .now) (c .before .before .before .before .before .before .before .before .args .m) (c .before .before .before .before .before .before .ask-instance .result) (c .before .before .before .before .before .before .ask-instance .ensures) (c .before .before .before .before .if1 .left) in omega arith
 
--- src/lib.rt:232:36
 mul-for-agents : tie.Need-mul-for-agents
 mul-for-agents c = let l = accepted-long (c .before .before .before .before .before .before .before .before .before .args .b .now) (c .before .before .before .before .before .before .before .before .before .args .m) (c .before .before .before .before .before .before .before .ask-instance .result) (c .before .before .before .before .before .before .before .ask-instance .ensures) (c .before .before .before .before .before .if1 .left) in let k = accepted-agents (c .before .before .before .before .before .before .before .before .before .args .b .now) (c .before .before .before .before .before .before .before .before .before .args .m) (c .before .before .before .before .before .before .before .ask-instance .result) (c .before .before .before .before .before .before .before .ask-instance .ensures) (c .before .before .before .before .before .if1 .left) in omega arith
 
--- src/lib.rt:232:32
 add-for-agents : tie.Need-add-for-agents
 add-for-agents c = let l = accepted-long (c .before .before .before .before .before .before .before .before .before .args .b .now) (c .before .before .before .before .before .before .before .before .before .args .m) (c .before .before .before .before .before .before .before .ask-instance .result) (c .before .before .before .before .before .before .before .ask-instance .ensures) (c .before .before .before .before .before .if1 .left) in let k = accepted-agents (c .before .before .before .before .before .before .before .before .before .args .b .now) (c .before .before .before .before .before .before .before .before .before .args .m) (c .before .before .before .before .before .before .before .ask-instance .result) (c .before .before .before .before .before .before .before .ask-instance .ensures) (c .before .before .before .before .before .if1 .left) in omega arith
 
--- src/lib.rt:232:9
 for-agents-requires : tie.Need-for-agents-requires
 for-agents-requires c κs = let l = accepted-long (c .before .before .before .before .before .before .before .before .before .args .b .now) (c .before .before .before .before .before .before .before .before .before .args .m) (c .before .before .before .before .before .before .before .ask-instance .result) (c .before .before .before .before .before .before .before .ask-instance .ensures) (c .before .before .before .before .before .if1 .left) in let k = accepted-agents (c .before .before .before .before .before .before .before .before .before .args .b .now) (c .before .before .before .before .before .before .before .before .before .args .m) (c .before .before .before .before .before .before .before .ask-instance .result) (c .before .before .before .before .before .before .before .ask-instance .ensures) (c .before .before .before .before .before .if1 .left) in omega arith
 
--- src/lib.rt:233:35
 mul-for-agents-2 : tie.Need-mul-for-agents-2
 mul-for-agents-2 c = let l = accepted-long (c .before .before .before .before .before .before .before .before .before .before .args .b .now) (c .before .before .before .before .before .before .before .before .before .before .args .m) (c .before .before .before .before .before .before .before .before .ask-instance .result) (c .before .before .before .before .before .before .before .before .ask-instance .ensures) (c .before .before .before .before .before .before .if1 .left) in let k = accepted-agents (c .before .before .before .before .before .before .before .before .before .before .args .b .now) (c .before .before .before .before .before .before .before .before .before .before .args .m) (c .before .before .before .before .before .before .before .before .ask-instance .result) (c .before .before .before .before .before .before .before .before .ask-instance .ensures) (c .before .before .before .before .before .before .if1 .left) in omega arith
 
--- src/lib.rt:233:31
 add-for-agents-2 : tie.Need-add-for-agents-2
 add-for-agents-2 c = let l = accepted-long (c .before .before .before .before .before .before .before .before .before .before .args .b .now) (c .before .before .before .before .before .before .before .before .before .before .args .m) (c .before .before .before .before .before .before .before .before .ask-instance .result) (c .before .before .before .before .before .before .before .before .ask-instance .ensures) (c .before .before .before .before .before .before .if1 .left) in let k = accepted-agents (c .before .before .before .before .before .before .before .before .before .before .args .b .now) (c .before .before .before .before .before .before .before .before .before .before .args .m) (c .before .before .before .before .before .before .before .before .ask-instance .result) (c .before .before .before .before .before .before .before .before .ask-instance .ensures) (c .before .before .before .before .before .before .if1 .left) in omega arith
 
--- src/lib.rt:233:31
 add-for-agents-3 : tie.Need-add-for-agents-3
 add-for-agents-3 c = let l = accepted-long (c .before .before .before .before .before .before .before .before .before .before .args .b .now) (c .before .before .before .before .before .before .before .before .before .before .args .m) (c .before .before .before .before .before .before .before .before .ask-instance .result) (c .before .before .before .before .before .before .before .before .ask-instance .ensures) (c .before .before .before .before .before .before .if1 .left) in let k = accepted-agents (c .before .before .before .before .before .before .before .before .before .before .args .b .now) (c .before .before .before .before .before .before .before .before .before .before .args .m) (c .before .before .before .before .before .before .before .before .ask-instance .result) (c .before .before .before .before .before .before .before .before .ask-instance .ensures) (c .before .before .before .before .before .before .if1 .left) in omega arith
 
--- src/lib.rt:233:9
 for-agents-requires-2 : tie.Need-for-agents-requires-2
 for-agents-requires-2 c κs = let l = accepted-long (c .before .before .before .before .before .before .before .before .before .before .args .b .now) (c .before .before .before .before .before .before .before .before .before .before .args .m) (c .before .before .before .before .before .before .before .before .ask-instance .result) (c .before .before .before .before .before .before .before .before .ask-instance .ensures) (c .before .before .before .before .before .before .if1 .left) in let k = accepted-agents (c .before .before .before .before .before .before .before .before .before .before .args .b .now) (c .before .before .before .before .before .before .before .before .before .before .args .m) (c .before .before .before .before .before .before .before .before .ask-instance .result) (c .before .before .before .before .before .before .before .before .ask-instance .ensures) (c .before .before .before .before .before .before .if1 .left) in omega arith
 
--- src/lib.rt:214:1
 returns-2 : tie.Need-returns-2
 unfolding instance checked forAgents
 returns-2 c =

@@ -1,18 +1,14 @@
-use borrow.Author.Tests.{not-true, not-false}
-use mathlib.Core.Path.{_≡_, refl, sym, _∙_, ap}
-use Prim.Native.Nat.{ℕ, suc, _+_, _-_, _*_, _≤_, _<_}
+-- `instance_check::edge_fault` meets its contract. The invariant: every item so far passes the test. Assumes nothing.
+use Prim.Native.Nat.{ℕ, _-_, _≤_, _<_}
 use native.Mathlib.Omega.{arith}
-use lib.ListN.{length, getD}
-use lib.Dec.{T}
+use borrow.Author.Tests.{not-true, not-false}
 use borrow.Author.Count.{below-more, below-none}
+use borrow.Author.Needs.{needs}
+use lib.Dec.{T}
 use Rattle.answers.proofs.Faults.{holds, fails, fault-at, fault-none}
 use Rattle.calls.specs.Questions.{properEdge}
-use borrow.Author.Needs.{needs}
 use Rattle.instance_check.proofs.edge_fault.Statement.{statement}
 use Rattle.instance_check.proofs.edge_fault.Tie as tie
-use Rattle.instance_check.proofs.edge_fault.Reads as reads
-use Rattle.instance_check.proofs.edge_fault.Lts as lts
-use Rattle.instance_check.proofs.proper_edge.Reads as proper-edge-reads
 
 abbrev Inv-loop : tie.InvT-loop
 Inv-loop b n e j₀ j = (j ≤ e) × ((i : ℕ) → i < j → T (properEdge b i))
@@ -20,31 +16,24 @@ Inv-loop b n e j₀ j = (j ≤ e) × ((i : ℕ) → i < j → T (properEdge b i)
 abbrev μ-loop : tie.MeasureT-loop
 μ-loop b n e j₀ j = e - j
 
--- src/lib.rt:84:5
 loop-holds : tie.Need-loop-holds Inv-loop μ-loop
 loop-holds c = (omega arith, below-none _)
 
--- src/lib.rt:85:13
 proper-edge-requires : tie.Need-proper-edge-requires Inv-loop μ-loop
 proper-edge-requires c κs = search needs
 
--- src/lib.rt:86:13
 returns : tie.Need-returns Inv-loop μ-loop
 returns c = fault-at (omega arith) (c .before .before .before .loop .inv .1) (fails (c .before .proper-edge .ensures) (not-true _ (c .if1 .taken)))
 
--- src/lib.rt:84:9
 add-j : tie.Need-add-j Inv-loop μ-loop
 add-j c = search needs
 
--- src/lib.rt:84:5
 loop-less : tie.Need-loop-less Inv-loop μ-loop
 loop-less c = search needs
 
--- src/lib.rt:84:5
 loop-again : tie.Need-loop-again Inv-loop μ-loop
 loop-again c = (omega arith, below-more _ _ (c .before .before .before .loop .inv .1) (holds (c .before .proper-edge .ensures) (not-false _ (c .if1 .left))))
 
--- src/lib.rt:80:1
 returns-2 : tie.Need-returns-2 Inv-loop μ-loop
 returns-2 c = fault-none (omega arith) (c .before .loop .inv .1)
 

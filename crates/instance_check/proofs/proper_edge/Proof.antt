@@ -1,52 +1,33 @@
-use borrow.Author.Tests.{not-true, not-false}
-use mathlib.Core.Path.{_≡_, refl, sym, _∙_, ap}
-use Prim.Native.Nat.{ℕ, suc, _+_, _-_, _*_, _≤_, _<_}
-use native.Mathlib.Omega.{arith}
-use lib.ListN.{length, getD}
-use lib.Dec.{T}
-use borrow.Author.Count.{below-more, below-none}
-use Rattle.answers.proofs.Faults.{holds, fails, fault-at, fault-none}
+-- `instance_check::proper_edge` meets its contract. The invariant: every item so far passes the test. Assumes nothing.
 use borrow.Author.Tests.{lt-ltb, le-ltb}
 use borrow.Author.Needs.{needs}
 use Rattle.instance_check.proofs.proper_edge.Statement.{statement}
 use Rattle.instance_check.proofs.proper_edge.Tie as tie
-use Rattle.instance_check.proofs.proper_edge.Reads as reads
-use Rattle.instance_check.proofs.proper_edge.Lts as lts
-use Rattle.instance_check.proofs.wide.Reads as wide-reads
 
--- src/lib.rt:71:22
 add-wide : tie.Need-add-wide
 add-wide c = search needs
 
--- src/lib.rt:71:20
 shared-slice-read-wide : tie.Need-shared-slice-read-wide
 shared-slice-read-wide c = search needs
 
--- src/lib.rt:71:9
 wide-requires : tie.Need-wide-requires
 wide-requires c κs = search needs
 
--- src/lib.rt:72:23
 add-wide-2 : tie.Need-add-wide-2
 add-wide-2 c = search needs
 
--- src/lib.rt:72:23
 add-wide-3 : tie.Need-add-wide-3
 add-wide-3 c = search needs
 
--- src/lib.rt:72:21
 shared-slice-read-wide-2 : tie.Need-shared-slice-read-wide-2
 shared-slice-read-wide-2 c = search needs
 
--- src/lib.rt:72:9
 wide-requires-2 : tie.Need-wide-requires-2
 wide-requires-2 c κs = search needs
 
--- src/lib.rt:74:9
 returns : tie.Need-returns
 returns c = rw (← (c .before .before .before .before .before .before .pre .2), ← (c .before .before .before .wide .ensures .0), ← (c .before .wide2 .ensures .0), ← (c .before .before .before .before .before .before .pre .1), lt-ltb _ _ (c .if1 .taken))
 
--- src/lib.rt:67:1
 returns-2 : tie.Need-returns-2
 returns-2 c = rw (← (c .before .before .before .before .before .before .pre .2), ← (c .before .before .before .wide .ensures .0), ← (c .before .wide2 .ensures .0), ← (c .before .before .before .before .before .before .pre .1), le-ltb _ _ (c .if1 .left))
 

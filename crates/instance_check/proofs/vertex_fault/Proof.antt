@@ -1,18 +1,15 @@
-use mathlib.Core.Path.{_≡_, refl, sym, _∙_, ap}
-use Prim.Native.Nat.{ℕ, suc, _+_, _-_, _*_, _≤_, _<_}
+-- `instance_check::vertex_fault` meets its contract. The invariant: every item so far passes the test. Assumes nothing.
+use Prim.Native.Nat.{ℕ, _+_, _-_, _≤_, _<_}
 use native.Mathlib.Omega.{arith}
-use lib.ListN.{length, getD}
-use lib.Dec.{T}
 use borrow.Author.Count.{below-more, below-none}
-use Rattle.answers.proofs.Faults.{holds, fails, fault-at, fault-none}
 use borrow.Author.Tests.{not-true, not-false}
-use Rattle.calls.specs.Questions.{newVertex}
 use borrow.Author.Needs.{needs}
+use lib.ListN.{getD}
+use lib.Dec.{T}
+use Rattle.answers.proofs.Faults.{holds, fails, fault-at, fault-none}
+use Rattle.calls.specs.Questions.{newVertex}
 use Rattle.instance_check.proofs.vertex_fault.Statement.{statement}
 use Rattle.instance_check.proofs.vertex_fault.Tie as tie
-use Rattle.instance_check.proofs.vertex_fault.Reads as reads
-use Rattle.instance_check.proofs.vertex_fault.Lts as lts
-use Rattle.instance_check.proofs.new_vertex.Reads as new-vertex-reads
 
 abbrev Inv-loop : tie.InvT-loop
 Inv-loop b offset n k a₀ a = (a ≤ k) × ((i : ℕ) → i < a → T (newVertex b (λ c. getD b (offset + c) 0) i))
@@ -20,31 +17,24 @@ Inv-loop b offset n k a₀ a = (a ≤ k) × ((i : ℕ) → i < a → T (newVerte
 abbrev μ-loop : tie.MeasureT-loop
 μ-loop b offset n k a₀ a = k - a
 
--- src/lib.rt:150:5
 loop-holds : tie.Need-loop-holds Inv-loop μ-loop
 loop-holds c = (omega arith, below-none _)
 
--- src/lib.rt:151:13
 new-vertex-requires : tie.Need-new-vertex-requires Inv-loop μ-loop
 new-vertex-requires c κs = search needs
 
--- src/lib.rt:152:13
 returns : tie.Need-returns Inv-loop μ-loop
 returns c = fault-at (omega arith) (c .before .before .before .loop .inv .1) (fails (c .before .new-vertex .ensures) (not-true _ (c .if1 .taken)))
 
--- src/lib.rt:150:9
 add-a : tie.Need-add-a Inv-loop μ-loop
 add-a c = search needs
 
--- src/lib.rt:150:5
 loop-less : tie.Need-loop-less Inv-loop μ-loop
 loop-less c = search needs
 
--- src/lib.rt:150:5
 loop-again : tie.Need-loop-again Inv-loop μ-loop
 loop-again c = (omega arith, below-more _ _ (c .before .before .before .loop .inv .1) (holds (c .before .new-vertex .ensures) (not-false _ (c .if1 .left))))
 
--- src/lib.rt:146:1
 returns-2 : tie.Need-returns-2 Inv-loop μ-loop
 returns-2 c = fault-none (omega arith) (c .before .loop .inv .1)
 

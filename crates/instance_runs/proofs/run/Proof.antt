@@ -1,13 +1,9 @@
+-- `instance_runs::run` meets its contract. The invariant says what the turns so far have done. Assumes nothing.
 use Prim.Native.Nat.{_≤_, _-_}
-use lib.ListN.{length}
 use borrow.Author.Needs.{needs}
+use lib.ListN.{length}
 use Rattle.instance_runs.proofs.run.Statement.{statement}
 use Rattle.instance_runs.proofs.run.Tie as tie
-use Rattle.instance_runs.proofs.run.Reads as reads
-use Rattle.instance_runs.proofs.run.Lts as lts
-use Rattle.instance_runs.proofs.eight_bytes.Reads as eight-bytes-reads
-use Rattle.instance_runs.proofs.report.Reads as report-reads
-use Rattle.instance_runs.proofs.two_bytes.Reads as two-bytes-reads
 
 abbrev Inv-loop : tie.InvT-loop
 Inv-loop cases at₀ at = at ≤ length cases
@@ -15,67 +11,51 @@ Inv-loop cases at₀ at = at ≤ length cases
 abbrev μ-loop : tie.MeasureT-loop
 μ-loop cases at₀ at = length cases - at
 
--- src/main.rt:42:5
 loop-holds : tie.Need-loop-holds Inv-loop μ-loop
 loop-holds c = search needs
 
--- src/main.rt:42:11
 add-loop : tie.Need-add-loop Inv-loop μ-loop
 add-loop c = search needs
 
--- src/main.rt:43:13
 eight-bytes-requires : tie.Need-eight-bytes-requires Inv-loop μ-loop
 eight-bytes-requires c κs = search needs
 
--- src/main.rt:44:36
 add-two-bytes : tie.Need-add-two-bytes Inv-loop μ-loop
 add-two-bytes c = search needs
 
--- src/main.rt:44:13
 two-bytes-requires : tie.Need-two-bytes-requires Inv-loop μ-loop
 two-bytes-requires c κs = search needs
 
--- src/main.rt:45:20
 add-from : tie.Need-add-from Inv-loop μ-loop
 add-from c = search needs
 
--- src/main.rt:46:12
 sub-if1 : tie.Need-sub-if1 Inv-loop μ-loop
 sub-if1 c = search needs
 
--- src/main.rt:47:13
 returns : tie.Need-returns Inv-loop μ-loop
 returns c = search needs
 
--- src/main.rt:49:19
 add-end : tie.Need-add-end Inv-loop μ-loop
 add-end c = search needs
 
--- src/main.rt:50:16
 sub-report : tie.Need-sub-report Inv-loop μ-loop
 sub-report c = search needs
 
--- src/main.rt:50:16
 part-report-start : tie.Need-part-report-start Inv-loop μ-loop
 part-report-start c = search needs
 
--- src/main.rt:50:16
 part-report-end : tie.Need-part-report-end Inv-loop μ-loop
 part-report-end c = search needs
 
--- src/main.rt:50:9
 report-requires : tie.Need-report-requires Inv-loop μ-loop
 report-requires c κs = search needs
 
--- src/main.rt:42:5
 loop-less : tie.Need-loop-less Inv-loop μ-loop
 loop-less c = search needs
 
--- src/main.rt:42:5
 loop-again : tie.Need-loop-again Inv-loop μ-loop
 loop-again c = search needs
 
--- src/main.rt:40:1
 returns-2 : tie.Need-returns-2 Inv-loop μ-loop
 returns-2 c = search needs
 

@@ -1,21 +1,17 @@
-
-use mathlib.Core.Path.{_≡_, refl, sym, _∙_, ap}
-use Prim.Native.Nat.{ℕ, suc, _+_, _-_, _*_, _/_, _%_, _≤_, _<_}
+-- `neighbours::row_of` meets its contract. The invariant says what the turns so far have done. Assumes nothing.
+use mathlib.Core.Path.{_≡_, refl, _∙_}
+use Prim.Native.Nat.{ℕ, _-_, _≤_, _<_}
 use native.Mathlib.Omega.{arith}
 use borrow.Author.Count.{below-none}
+use borrow.Author.Needs.{needs}
 use lib.Dec.{eqb}
 use lib.ListN.{length, getD, length-set}
 use Rattle.instance.specs.Instance.{instance, adjacent}
 use Rattle.edges.proofs.Laws.{searchable}
 use Rattle.calls.proofs.Accepted.{limits-known}
 use Rattle.neighbours.proofs.Laws.{mark-more}
-use borrow.Author.Needs.{needs}
 use Rattle.neighbours.proofs.row_of.Statement.{statement}
 use Rattle.neighbours.proofs.row_of.Tie as tie
-use Rattle.neighbours.proofs.row_of.Reads as reads
-use Rattle.neighbours.proofs.row_of.Lts as lts
-use Rattle.edges.proofs.is_edge.Reads as is-edge-reads
-use Rattle.neighbours.proofs.mark.Reads as mark-reads
 
 abbrev Inv-loop : tie.InvT-loop
 Inv-loop b v n e row₀ w₀ row w = (w ≤ n) × ((length row ≡ 64) × ((u : ℕ) → u < w → (m : ℕ) → eqb (getD row u 0) 1 ≡ adjacent (instance b m) v u))
@@ -23,31 +19,24 @@ Inv-loop b v n e row₀ w₀ row w = (w ≤ n) × ((length row ≡ 64) × ((u : 
 abbrev μ-loop : tie.MeasureT-loop
 μ-loop b v n e row₀ w₀ row w = n - w
 
--- src/lib.rt:29:5
 loop-holds : tie.Need-loop-holds Inv-loop μ-loop
 loop-holds c = (omega arith, (refl, below-none _))
 
--- src/lib.rt:30:23
 is-edge-requires : tie.Need-is-edge-requires Inv-loop μ-loop
 is-edge-requires c κs = searchable (c .before .before .before .args .b .now) (c .before .before .before .args .c) (c .before .before .before .pre)
 
--- src/lib.rt:30:18
 mark-requires : tie.Need-mark-requires Inv-loop μ-loop
 mark-requires c κs = search needs
 
--- src/lib.rt:30:9
 array-write-row : tie.Need-array-write-row Inv-loop μ-loop
 array-write-row c = let w = limits-known (c .before .before .before .before .before .args .b .now) (c .before .before .before .before .before .args .c) (c .before .before .before .before .before .pre) in omega arith
 
--- src/lib.rt:29:9
 add-w : tie.Need-add-w Inv-loop μ-loop
 add-w c = let w = limits-known (c .before .before .before .before .before .args .b .now) (c .before .before .before .before .before .args .c) (c .before .before .before .before .before .pre) in omega arith
 
--- src/lib.rt:29:5
 loop-less : tie.Need-loop-less Inv-loop μ-loop
 loop-less c = search needs
 
--- src/lib.rt:29:5
 loop-again : tie.Need-loop-again Inv-loop μ-loop
 loop-again c =
     let w = limits-known (c .before .before .before .before .before .args .b .now) (c .before .before .before .before .before .args .c) (c .before .before .before .before .before .pre) in (
@@ -58,7 +47,6 @@ loop-again c =
       ),
     )
 
--- src/lib.rt:21:1
 returns : tie.Need-returns Inv-loop μ-loop
 returns c = (c .before .loop .inv .1 .0, λ w l. c .before .loop .inv .1 .1 w (omega arith) (c .before .before .before .args .c .sizes .m))
 

@@ -1,65 +1,43 @@
-use Rattle.one_clause.proofs.Out.{fits, instance-refused, checked-accepted, no-such-clause, too-short, done}
-use mathlib.Core.Path.{_≡_, refl, sym, _∙_, ap}
-use mathlib.Core.List.{List, [], _∷_, _++_}
-use Prim.Native.Nat.{ℕ, suc, _+_, _-_, _*_, _≤_, _<_}
+-- `one_clause::clause` meets its contract. It follows from the contracts of the functions called and the laws cited. Assumes nothing.
 use native.Mathlib.Omega.{arith}
-use lib.IntN.{ℤ}
-use lib.ListN.{length, getD}
+use borrow.Author.Needs.{needs}
 use lib.IntN.{pos}
 use lib.ListN.{replicate}
+use Rattle.one_clause.proofs.Out.{fits, instance-refused, checked-accepted, no-such-clause, too-short, done}
 use Rattle.calls.proofs.Accepted.{limits-known}
-use Rattle.one_clause.proofs.Out.{instance-refused, checked-accepted, no-such-clause, too-short, done}
-use borrow.Author.Needs.{needs}
 use Rattle.one_clause.proofs.clause.Statement.{statement}
 use Rattle.one_clause.proofs.clause.Tie as tie
-use Rattle.one_clause.proofs.clause.Reads as reads
-use Rattle.one_clause.proofs.clause.Lts as lts
-use Rattle.counts.proofs.clause_count.Reads as clause-count-reads
-use Rattle.instance_check.proofs.check_instance.Reads as check-instance-reads
-use Rattle.one_clause.proofs.copy_words.Reads as copy-words-reads
-use Rattle.one_clause.proofs.put_number.Reads as put-number-reads
 
--- src/lib.rt:259:9
 check-instance-requires : tie.Need-check-instance-requires
 check-instance-requires c κs = search needs
 
--- src/lib.rt:263:9
 returns : tie.Need-returns
 returns c = instance-refused (c .before .before .before .before .before .before .args .b .now) (c .before .before .before .before .before .before .args .m) (c .before .before .before .before .check-instance .result .answer) (c .before .before .before .before .check-instance .ensures .0) (c .before .before .before .before .before .before .args .number) (c .before .before .before .before .before .before .args .f .now) (c .if1 .taken)
 
--- src/lib.rt:266:9
 clause-count-requires : tie.Need-clause-count-requires
 clause-count-requires c κs = limits-known (c .before .before .before .before .before .before .before .args .b .now) (c .before .before .before .before .before .check-instance .result .checked) (checked-accepted (c .before .before .before .before .before .before .before .args .b .now) (c .before .before .before .before .before .before .before .args .m) (c .before .before .before .before .before .check-instance .result .answer) (c .before .before .before .before .before .check-instance .ensures .0) (c .before .before .before .before .before .before .before .args .number) (c .before .before .before .before .before .before .before .args .f .now) (c .before .if1 .left) (c .before .before .before .before .before .check-instance .result .checked) (c .before .before .before .before .before .check-instance .ensures .1))
 
--- src/lib.rt:268:9
 returns-2 : tie.Need-returns-2
 returns-2 c = rw (c .before .clause-count .ensures) (no-such-clause (c .before .before .before .before .before .before .before .before .before .args .b .now) (c .before .before .before .before .before .before .before .before .before .args .m) (c .before .before .before .before .before .before .before .check-instance .result .answer) (c .before .before .before .before .before .before .before .check-instance .ensures .0) (c .before .before .before .before .before .before .before .before .before .args .number) (c .before .before .before .before .before .before .before .before .before .args .f .now) (c .before .before .before .if1 .left) (c .before .before .before .before .before .before .before .check-instance .result .checked) (c .before .before .before .before .before .before .before .check-instance .ensures .1) (let q = c .before .clause-count .ensures in omega arith))
 
--- src/lib.rt:271:28
 slice-aggregate-put-number : tie.Need-slice-aggregate-put-number
 slice-aggregate-put-number c = search needs
 
--- src/lib.rt:271:9
 put-number-requires : tie.Need-put-number-requires
 put-number-requires c κs = (checked-accepted (c .before .before .before .before .before .before .before .before .before .before .args .b .now) (c .before .before .before .before .before .before .before .before .before .before .args .m) (c .before .before .before .before .before .before .before .before .check-instance .result .answer) (c .before .before .before .before .before .before .before .before .check-instance .ensures .0) (c .before .before .before .before .before .before .before .before .before .before .args .number) (c .before .before .before .before .before .before .before .before .before .before .args .f .now) (c .before .before .before .before .if1 .left) (c .before .before .before .before .before .before .before .before .check-instance .result .checked) (c .before .before .before .before .before .before .before .before .check-instance .ensures .1), (let q = c .before .before .clause-count .ensures in omega arith, omega arith))
 
--- src/lib.rt:273:9
 returns-3 : tie.Need-returns-3
 returns-3 c = too-short (c .before .before .before .before .before .before .before .before .before .before .before .before .before .args .b .now) (c .before .before .before .before .before .before .before .before .before .before .before .before .before .args .m) (c .before .before .before .before .before .before .before .before .before .before .before .check-instance .result .answer) (c .before .before .before .before .before .before .before .before .before .before .before .check-instance .ensures .0) (c .before .before .before .before .before .before .before .before .before .before .before .before .before .args .number) (c .before .before .before .before .before .before .before .before .before .before .before .before .before .args .f .now) (c .before .before .before .before .before .before .before .if1 .left) (c .before .before .before .before .before .before .before .before .before .before .before .check-instance .result .checked) (c .before .before .before .before .before .before .before .before .before .before .before .check-instance .ensures .1) (let q = c .before .before .before .before .before .clause-count .ensures in omega arith) (c .before .before .put-number .result) (replicate 66 (pos 0)) (c .before .before .put-number .last .0) (c .before .before .put-number .ensures) (c .if3 .taken)
 
--- src/lib.rt:275:19
 slice-aggregate-copy-words : tie.Need-slice-aggregate-copy-words
 slice-aggregate-copy-words c = search needs
 
--- src/lib.rt:275:5
 copy-words-requires : tie.Need-copy-words-requires
 copy-words-requires c κs = (fits (c .before .before .before .before .put-number .ensures), c .before .before .if3 .left)
 
--- src/lib.rt:255:1
 same-length : tie.Need-same-length
 same-length c = search needs
 
--- src/lib.rt:255:1
 returns-4 : tie.Need-returns-4
 returns-4 c = done (c .before .before .before .before .before .before .before .before .before .before .before .before .before .before .before .before .before .args .b .now) (c .before .before .before .before .before .before .before .before .before .before .before .before .before .before .before .before .before .args .m) (c .before .before .before .before .before .before .before .before .before .before .before .before .before .before .before .check-instance .result .answer) (c .before .before .before .before .before .before .before .before .before .before .before .before .before .before .before .check-instance .ensures .0) (c .before .before .before .before .before .before .before .before .before .before .before .before .before .before .before .before .before .args .number) (c .before .before .before .before .before .before .before .before .before .before .before .before .before .before .before .before .before .args .f .now) (c .before .before .before .before .before .before .before .before .before .before .before .if1 .left) (c .before .before .before .before .before .before .before .before .before .before .before .before .before .before .before .check-instance .result .checked) (c .before .before .before .before .before .before .before .before .before .before .before .before .before .before .before .check-instance .ensures .1) (let q = c .before .before .before .before .before .before .before .before .before .clause-count .ensures in omega arith) (c .before .before .before .before .before .before .put-number .result) (replicate 66 (pos 0)) (c .before .before .before .before .before .before .put-number .last .0) (c .before .before .before .before .before .before .put-number .ensures) (c .before .before .before .before .if3 .left) _ (c .before .copy-words .ensures)
 

@@ -1,17 +1,12 @@
-
-use mathlib.Core.Path.{_≡_, refl, sym, _∙_, ap}
-use mathlib.Core.List.{List, [], _∷_, _++_}
-use Prim.Native.Nat.{ℕ, suc, _+_, _-_, _*_, _≤_, _<_}
+-- `one_clause::pair_of` meets its contract. The invariant says what the turns so far have done. Assumes nothing.
+use mathlib.Core.Path.{_≡_}
+use Prim.Native.Nat.{suc, _+_, _-_, _<_}
 use native.Mathlib.Omega.{arith}
-use lib.IntN.{ℤ}
-use lib.ListN.{length, getD}
+use borrow.Author.Needs.{needs}
 use Rattle.lists.specs.Loop.{sum}
 use Rattle.one_clause.proofs.Laws.{pairs-some, more-rows, next-row, found-pair}
-use borrow.Author.Needs.{needs}
 use Rattle.one_clause.proofs.pair_of.Statement.{statement}
 use Rattle.one_clause.proofs.pair_of.Tie as tie
-use Rattle.one_clause.proofs.pair_of.Reads as reads
-use Rattle.one_clause.proofs.pair_of.Lts as lts
 
 abbrev Inv-loop : tie.InvT-loop
 Inv-loop n p low₀ left₀ low left = (low < n) × (left + sum low (λ u. n - suc u) ≡ p)
@@ -19,51 +14,39 @@ Inv-loop n p low₀ left₀ low left = (low < n) × (left + sum low (λ u. n - s
 abbrev μ-loop : tie.MeasureT-loop
 μ-loop n p low₀ left₀ low left = n - low
 
--- src/lib.rt:94:5
 loop-holds : tie.Need-loop-holds Inv-loop μ-loop
 loop-holds c = (pairs-some (c .args .n) (omega (arith, c .pre)), omega arith)
 
--- src/lib.rt:94:11
 sub-loop : tie.Need-sub-loop Inv-loop μ-loop
 sub-loop c = search needs
 
--- src/lib.rt:94:11
 sub-loop-2 : tie.Need-sub-loop-2 Inv-loop μ-loop
 sub-loop-2 c = search needs
 
--- src/lib.rt:95:17
 sub-left : tie.Need-sub-left Inv-loop μ-loop
 sub-left c = search needs
 
--- src/lib.rt:95:17
 sub-left-2 : tie.Need-sub-left-2 Inv-loop μ-loop
 sub-left-2 c = search needs
 
--- src/lib.rt:95:9
 sub-left-3 : tie.Need-sub-left-3 Inv-loop μ-loop
 sub-left-3 c = search needs
 
--- src/lib.rt:96:9
 add-low : tie.Need-add-low Inv-loop μ-loop
 add-low c = let r = more-rows (c .before .before .args .n) (c .before .loop .low) (c .before .loop .left) (c .before .before .args .p) (c .before .loop .inv .0) (c .before .loop .inv .1) (c .before .before .pre) in omega arith
 
--- src/lib.rt:94:5
 loop-less : tie.Need-loop-less Inv-loop μ-loop
 loop-less c = let r = more-rows (c .before .before .args .n) (c .before .loop .low) (c .before .loop .left) (c .before .before .args .p) (c .before .loop .inv .0) (c .before .loop .inv .1) (c .before .before .pre) in omega arith
 
--- src/lib.rt:94:5
 loop-again : tie.Need-loop-again Inv-loop μ-loop
 loop-again c = let r = more-rows (c .before .before .args .n) (c .before .loop .low) (c .before .loop .left) (c .before .before .args .p) (c .before .loop .inv .0) (c .before .loop .inv .1) (c .before .before .pre) in (omega arith, next-row (c .before .before .args .n) (c .before .loop .low) (c .before .loop .left) (c .before .before .args .p) (c .before .loop .inv .0) (c .before .loop .inv .1) (c .loop-test .taken))
 
--- src/lib.rt:98:23
 add-t8 : tie.Need-add-t8 Inv-loop μ-loop
 add-t8 c = search needs
 
--- src/lib.rt:98:23
 add-t9 : tie.Need-add-t9 Inv-loop μ-loop
 add-t9 c = search needs
 
--- src/lib.rt:88:1
 returns : tie.Need-returns Inv-loop μ-loop
 returns c = found-pair (c .before .before .args .n) (c .before .loop .low) (c .before .loop .left) (c .before .before .args .p) (c .before .loop .inv .0) (c .before .loop .inv .1) (c .loop-test .left)
 

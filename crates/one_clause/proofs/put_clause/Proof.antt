@@ -1,117 +1,76 @@
-use mathlib.Core.Path.{_≡_, refl, sym, _∙_, ap}
-use mathlib.Core.List.{List, [], _∷_, _++_}
-use Prim.Native.Nat.{ℕ, suc, _+_, _-_, _*_, _≤_, _<_}
+-- `one_clause::put_clause` meets its contract. It follows from the contracts of the functions called and the laws cited. Assumes nothing.
+use mathlib.Core.Path.{sym}
 use native.Mathlib.Omega.{arith}
-use lib.IntN.{ℤ}
-use lib.ListN.{length, getD}
-use mir.Facts.{toZ-ofZ}
-use borrow.Author.Needs.{sfits-of}
-use Rattle.formula.specs.Variables.{X, ¬X}
-use Rattle.formula.specs.Formula.{line}
-use Rattle.lists.specs.Slice.{filled}
-use Rattle.one_clause.proofs.Clauses.{puts, clause-C, clause-D, clause-E, clause-F, clause-G}
-use native.Mathlib.Numerals.{add-one}
-use Rattle.counts.proofs.Laws.{products}
-use Rattle.formula.specs.Counts.{pairs}
-use Rattle.formula.specs.Formula.{Clause, A, B, C, D, E, F, G, clauses}
-use Rattle.formula.specs.Counts.{clausesBy, clauseCount}
+use borrow.Author.Needs.{needs}
+use Rattle.formula.specs.Formula.{A, B, C, D, E, F, G}
+use Rattle.one_clause.proofs.Clauses.{puts, clause-A, clause-B, place-in, last-family}
+use Rattle.formula.specs.Counts.{clausesBy}
 use Rattle.formula.proofs.Counts.{count-A, count-B, count-C, count-D, count-E, count-F, count-G}
 use Rattle.calls.specs.Accepted.{instanceOf}
 use Rattle.calls.proofs.Accepted.{limits-known, sizes-same, starts-inside, goals-inside}
-use Rattle.one_clause.proofs.Clauses.{clause-A, clause-B, place-in, last-family}
-use borrow.Author.Needs.{needs}
 use Rattle.one_clause.proofs.put_clause.Statement.{statement}
 use Rattle.one_clause.proofs.put_clause.Tie as tie
-use Rattle.one_clause.proofs.put_clause.Reads as reads
-use Rattle.one_clause.proofs.put_clause.Lts as lts
-use Rattle.one_clause.proofs.put_c.Reads as put-c-reads
-use Rattle.one_clause.proofs.put_d.Reads as put-d-reads
-use Rattle.one_clause.proofs.put_e.Reads as put-e-reads
-use Rattle.one_clause.proofs.put_end_of.Reads as put-end-of-reads
-use Rattle.one_clause.proofs.put_f.Reads as put-f-reads
-use Rattle.one_clause.proofs.put_g.Reads as put-g-reads
 
--- src/lib.rt:219:13
 put-end-of-requires : tie.Need-put-end-of-requires
 put-end-of-requires c κs = let l = place-in (c .before .before .before .before .before .args .b .now) (c .before .before .before .before .before .args .c) (c .before .before .before .before .before .pre .0) A (λ s. clausesBy s .A) (count-A (instanceOf (c .before .before .before .before .before .args .b .now) (c .before .before .before .before .before .args .c))) (c .before .before .before .before .before .args .place) (rw (c .before .before .match .keys1) at (c .before .before .before .before .before .pre .1 .1)) in (limits-known (c .before .before .before .before .before .args .b .now) (c .before .before .before .before .before .args .c) (c .before .before .before .before .before .pre .0), (omega arith, l, starts-inside (c .before .before .before .before .before .args .b .now) (c .before .before .before .before .before .args .c) (c .before .before .before .before .before .pre .0) (c .before .before .before .before .before .args .place) l, omega (arith, c .before .before .before .before .before .pre .1 .2)))
 
--- src/lib.rt:223:13
 put-end-of-requires-2 : tie.Need-put-end-of-requires-2
 put-end-of-requires-2 c κs = let l = place-in (c .before .before .before .before .before .args .b .now) (c .before .before .before .before .before .args .c) (c .before .before .before .before .before .pre .0) B (λ s. clausesBy s .B) (count-B (instanceOf (c .before .before .before .before .before .args .b .now) (c .before .before .before .before .before .args .c))) (c .before .before .before .before .before .args .place) (rw (c .before .before .match .keys2) at (c .before .before .before .before .before .pre .1 .1)) in (limits-known (c .before .before .before .before .before .args .b .now) (c .before .before .before .before .before .args .c) (c .before .before .before .before .before .pre .0), (omega arith, l, goals-inside (c .before .before .before .before .before .args .b .now) (c .before .before .before .before .before .args .c) (c .before .before .before .before .before .pre .0) (c .before .before .before .before .before .args .place) l, omega (arith, c .before .before .before .before .before .pre .1 .2)))
 
--- src/lib.rt:225:14
 put-c-requires : tie.Need-put-c-requires
 put-c-requires c κs = (limits-known (c .before .before .before .before .args .b .now) (c .before .before .before .before .args .c) (c .before .before .before .before .pre .0), (place-in (c .before .before .before .before .args .b .now) (c .before .before .before .before .args .c) (c .before .before .before .before .pre .0) C (λ s. clausesBy s .C) (count-C (instanceOf (c .before .before .before .before .args .b .now) (c .before .before .before .before .args .c))) (c .before .before .before .before .args .place) (rw (c .before .match .keys3) at (c .before .before .before .before .pre .1 .1)), c .before .before .before .before .pre .1 .2))
 
--- src/lib.rt:226:14
 put-d-requires : tie.Need-put-d-requires
 put-d-requires c κs = (limits-known (c .before .before .before .before .args .b .now) (c .before .before .before .before .args .c) (c .before .before .before .before .pre .0), (place-in (c .before .before .before .before .args .b .now) (c .before .before .before .before .args .c) (c .before .before .before .before .pre .0) D (λ s. clausesBy s .D) (count-D (instanceOf (c .before .before .before .before .args .b .now) (c .before .before .before .before .args .c))) (c .before .before .before .before .args .place) (rw (c .before .match .keys4) at (c .before .before .before .before .pre .1 .1)), c .before .before .before .before .pre .1 .2))
 
--- src/lib.rt:227:14
 put-e-requires : tie.Need-put-e-requires
 put-e-requires c κs = (limits-known (c .before .before .before .before .args .b .now) (c .before .before .before .before .args .c) (c .before .before .before .before .pre .0), (place-in (c .before .before .before .before .args .b .now) (c .before .before .before .before .args .c) (c .before .before .before .before .pre .0) E (λ s. clausesBy s .E) (count-E (instanceOf (c .before .before .before .before .args .b .now) (c .before .before .before .before .args .c))) (c .before .before .before .before .args .place) (rw (c .before .match .keys5) at (c .before .before .before .before .pre .1 .1)), c .before .before .before .before .pre .1 .2))
 
--- src/lib.rt:228:14
 put-f-requires : tie.Need-put-f-requires
 put-f-requires c κs = ((c .before .before .before .before .pre .0), (place-in (c .before .before .before .before .args .b .now) (c .before .before .before .before .args .c) (c .before .before .before .before .pre .0) F (λ s. clausesBy s .F) (count-F (instanceOf (c .before .before .before .before .args .b .now) (c .before .before .before .before .args .c))) (c .before .before .before .before .args .place) (rw (c .before .match .keys6) at (c .before .before .before .before .pre .1 .1)), c .before .before .before .before .pre .1 .2))
 
--- src/lib.rt:229:14
 put-g-requires : tie.Need-put-g-requires
 put-g-requires c κs = (limits-known (c .before .before .before .before .args .b .now) (c .before .before .before .before .args .c) (c .before .before .before .before .pre .0), (place-in (c .before .before .before .before .args .b .now) (c .before .before .before .before .args .c) (c .before .before .before .before .pre .0) G (λ s. clausesBy s .G) (count-G (instanceOf (c .before .before .before .before .args .b .now) (c .before .before .before .before .args .c))) (c .before .before .before .before .args .place) (rw (last-family (instanceOf (c .before .before .before .before .args .b .now) (c .before .before .before .before .args .c)) (c .before .before .before .before .args .which) (c .before .match .rest .0 .0 .0 .0 .0 .1) (c .before .match .rest .0 .0 .0 .0 .1) (c .before .match .rest .0 .0 .0 .1) (c .before .match .rest .0 .0 .1) (c .before .match .rest .0 .1) (c .before .match .rest .1)) at (c .before .before .before .before .pre .1 .1)), c .before .before .before .before .pre .1 .2))
 
--- src/lib.rt:210:1
 same-length : tie.Need-same-length
 same-length c = search needs
 
--- src/lib.rt:210:1
 returns : tie.Need-returns
 returns c = rw (c .before .before .before .before .match .keys1) (let l = place-in (c .before .before .before .before .before .before .before .args .b .now) (c .before .before .before .before .before .before .before .args .c) (c .before .before .before .before .before .before .before .pre .0) A (λ s. clausesBy s .A) (count-A (instanceOf (c .before .before .before .before .before .before .before .args .b .now) (c .before .before .before .before .before .before .before .args .c))) (c .before .before .before .before .before .before .before .args .place) (rw (c .before .before .before .before .match .keys1) at (c .before .before .before .before .before .before .before .pre .1 .1)) in puts (clause-A (c .before .before .before .before .before .before .before .args .b .now) (c .before .before .before .before .before .before .before .args .c) (c .before .before .before .before .before .before .before .pre .0) (c .before .before .before .before .before .before .before .args .place) l) (c .before .put-end-of .ensures .0) (c .before .put-end-of .ensures .1))
 
--- src/lib.rt:210:1
 same-length-2 : tie.Need-same-length-2
 same-length-2 c = search needs
 
--- src/lib.rt:210:1
 returns-2 : tie.Need-returns-2
 returns-2 c = rw (c .before .before .before .before .match .keys2) (let l = place-in (c .before .before .before .before .before .before .before .args .b .now) (c .before .before .before .before .before .before .before .args .c) (c .before .before .before .before .before .before .before .pre .0) B (λ s. clausesBy s .B) (count-B (instanceOf (c .before .before .before .before .before .before .before .args .b .now) (c .before .before .before .before .before .before .before .args .c))) (c .before .before .before .before .before .before .before .args .place) (rw (c .before .before .before .before .match .keys2) at (c .before .before .before .before .before .before .before .pre .1 .1)) in puts (clause-B (c .before .before .before .before .before .before .before .args .b .now) (c .before .before .before .before .before .before .before .args .c) (c .before .before .before .before .before .before .before .pre .0) (c .before .before .before .before .before .before .before .args .place) l) (c .before .put-end-of2 .ensures .0) (c .before .put-end-of2 .ensures .1))
 
--- src/lib.rt:210:1
 same-length-3 : tie.Need-same-length-3
 same-length-3 c = search needs
 
--- src/lib.rt:210:1
 returns-3 : tie.Need-returns-3
 returns-3 c = rw (c .before .before .before .match .keys3) (c .before .put-c .ensures (instanceOf (c .before .before .before .before .before .before .args .b .now) (c .before .before .before .before .before .before .args .c)) (sym (sizes-same (c .before .before .before .before .before .before .args .b .now) (c .before .before .before .before .before .before .args .c) (c .before .before .before .before .before .before .pre .0))))
 
--- src/lib.rt:210:1
 same-length-4 : tie.Need-same-length-4
 same-length-4 c = search needs
 
--- src/lib.rt:210:1
 returns-4 : tie.Need-returns-4
 returns-4 c = rw (c .before .before .before .match .keys4) (c .before .put-d .ensures (instanceOf (c .before .before .before .before .before .before .args .b .now) (c .before .before .before .before .before .before .args .c)) (sym (sizes-same (c .before .before .before .before .before .before .args .b .now) (c .before .before .before .before .before .before .args .c) (c .before .before .before .before .before .before .pre .0))))
 
--- src/lib.rt:210:1
 same-length-5 : tie.Need-same-length-5
 same-length-5 c = search needs
 
--- src/lib.rt:210:1
 returns-5 : tie.Need-returns-5
 returns-5 c = rw (c .before .before .before .match .keys5) (c .before .put-e .ensures (instanceOf (c .before .before .before .before .before .before .args .b .now) (c .before .before .before .before .before .before .args .c)) (sym (sizes-same (c .before .before .before .before .before .before .args .b .now) (c .before .before .before .before .before .before .args .c) (c .before .before .before .before .before .before .pre .0))))
 
--- src/lib.rt:210:1
 same-length-6 : tie.Need-same-length-6
 same-length-6 c = search needs
 
--- src/lib.rt:210:1
 returns-6 : tie.Need-returns-6
 returns-6 c = rw (c .before .before .before .match .keys6) (c .before .put-f .ensures)
 
--- src/lib.rt:210:1
 same-length-7 : tie.Need-same-length-7
 same-length-7 c = search needs
 
--- src/lib.rt:210:1
 returns-7 : tie.Need-returns-7
 returns-7 c = rw (last-family (instanceOf (c .before .before .before .before .before .before .args .b .now) (c .before .before .before .before .before .before .args .c)) (c .before .before .before .before .before .before .args .which) (c .before .before .before .match .rest .0 .0 .0 .0 .0 .1) (c .before .before .before .match .rest .0 .0 .0 .0 .1) (c .before .before .before .match .rest .0 .0 .0 .1) (c .before .before .before .match .rest .0 .0 .1) (c .before .before .before .match .rest .0 .1) (c .before .before .before .match .rest .1)) (c .before .put-g .ensures (instanceOf (c .before .before .before .before .before .before .args .b .now) (c .before .before .before .before .before .before .args .c)) (sym (sizes-same (c .before .before .before .before .before .before .args .b .now) (c .before .before .before .before .before .before .args .c) (c .before .before .before .before .before .before .pre .0))))
 

@@ -1,75 +1,46 @@
-
-use mathlib.Core.Path.{_≡_, refl, sym, _∙_, ap}
-use mathlib.Core.List.{List, [], _∷_, _++_}
-use Prim.Native.Nat.{ℕ, suc, _+_, _-_, _*_, _≤_, _<_}
+-- `one_clause::put_d` meets its contract. It follows from the contracts of the functions called and the laws cited. Assumes nothing.
 use native.Mathlib.Omega.{arith}
-use lib.IntN.{ℤ}
-use lib.ListN.{length, getD}
-use mir.Facts.{toZ-ofZ}
-use borrow.Author.Needs.{sfits-of}
-use Rattle.formula.specs.Variables.{X, ¬X}
-use Rattle.formula.specs.Formula.{line}
-use Rattle.lists.specs.Slice.{filled}
-use Rattle.one_clause.proofs.Clauses.{puts, clause-C, clause-D, clause-E, clause-F, clause-G}
 use native.Mathlib.Numerals.{add-one}
+use mir.Facts.{toZ-ofZ}
+use borrow.Author.Needs.{sfits-of, needs}
+use Rattle.one_clause.proofs.Clauses.{puts, clause-D}
 use Rattle.counts.proofs.Laws.{products}
-use Rattle.formula.specs.Counts.{pairs}
-use borrow.Author.Needs.{needs}
 use Rattle.one_clause.proofs.put_d.Statement.{statement}
 use Rattle.one_clause.proofs.put_d.Tie as tie
-use Rattle.one_clause.proofs.put_d.Reads as reads
-use Rattle.one_clause.proofs.put_d.Lts as lts
-use Rattle.clauses.proofs.negative.Reads as negative-reads
-use Rattle.clauses.proofs.put_pair.Reads as put-pair-reads
-use Rattle.counts.proofs.pair_count.Reads as pair-count-reads
-use Rattle.one_clause.proofs.cell_of.Reads as cell-of-reads
-use Rattle.one_clause.proofs.pair_of.Reads as pair-of-reads
 
--- src/lib.rt:131:17
 add-rows : tie.Need-add-rows
 add-rows c = search needs
 
--- src/lib.rt:131:16
 mul-rows : tie.Need-mul-rows
 mul-rows c = let p = products (c .before .args .s) (c .before .pre .0) in omega arith
 
--- src/lib.rt:132:9
 pair-count-requires : tie.Need-pair-count-requires
 pair-count-requires c κs = search needs
 
--- src/lib.rt:133:9
 cell-of-requires : tie.Need-cell-of-requires
 cell-of-requires c κs = rw (c .pair-count .ensures .0, add-one) (c .before .before .pre .1 .0)
 
--- src/lib.rt:134:35
 add-cell-of : tie.Need-add-cell-of
 add-cell-of c = search needs
 
--- src/lib.rt:134:9
 cell-of-requires-2 : tie.Need-cell-of-requires-2
 cell-of-requires-2 c κs = c .before .cell-of .ensures .0
 
--- src/lib.rt:135:9
 pair-of-requires : tie.Need-pair-of-requires
 pair-of-requires c κs = rw (c .before .before .before .pair-count .ensures .0) at (c .before .before .cell-of .ensures .1)
 
--- src/lib.rt:138:26
 negative-requires : tie.Need-negative-requires
 negative-requires c κs = (let q = c .before .before .cell-of2 .ensures in let h = c .before .pair-of .ensures in (c .before .before .before .before .before .before .before .pre .0, (omega (arith, q .0), q .1, omega (arith, h .order, h .below))))
 
--- src/lib.rt:138:72
 negative-requires-2 : tie.Need-negative-requires-2
 negative-requires-2 c κs = (let q = c .before .before .before .cell-of2 .ensures in let h = c .before .before .pair-of .ensures in (c .before .before .before .before .before .before .before .before .pre .0, (omega (arith, q .0), q .1, omega (arith, h .order, h .below))))
 
--- src/lib.rt:138:5
 put-pair-requires : tie.Need-put-pair-requires
 put-pair-requires c κs = search needs
 
--- src/lib.rt:124:1
 same-length : tie.Need-same-length
 same-length c = search needs
 
--- src/lib.rt:124:1
 returns : tie.Need-returns
 returns c =
     λ I e.

@@ -1,53 +1,34 @@
-
-use mathlib.Core.Path.{_≡_, refl, sym, _∙_, ap}
-use mathlib.Core.List.{List, [], _∷_, _++_}
-use Prim.Native.Nat.{ℕ, suc, _+_, _-_, _*_, _≤_, _<_}
+-- `one_clause::put_f` meets its contract. It follows from the contracts of the functions called and the laws cited. Assumes nothing.
+use mathlib.Core.Path.{sym}
+use Prim.Native.Nat.{_≤_}
 use native.Mathlib.Omega.{arith}
-use lib.IntN.{ℤ}
-use lib.ListN.{length, getD}
-use mir.Facts.{toZ-ofZ}
-use borrow.Author.Needs.{sfits-of}
-use Rattle.formula.specs.Variables.{X, ¬X}
+use borrow.Author.Needs.{needs}
+use lib.ListN.{length}
 use Rattle.formula.specs.Formula.{line}
-use Rattle.lists.specs.Slice.{filled}
-use Rattle.one_clause.proofs.Clauses.{puts, clause-C, clause-D, clause-E, clause-F, clause-G}
-use native.Mathlib.Numerals.{add-one}
+use Rattle.one_clause.proofs.Clauses.{puts, clause-F}
 use Rattle.counts.proofs.Laws.{products}
-use Rattle.formula.specs.Counts.{pairs}
 use Rattle.clauses.specs.Lines.{marked, onward}
 use Rattle.calls.specs.Accepted.{instanceOf}
 use Rattle.calls.proofs.Accepted.{limits-known, sizes-same}
 use Rattle.one_clause.proofs.Ranges.{clause-F-most}
-use borrow.Author.Needs.{needs}
 use Rattle.one_clause.proofs.put_f.Statement.{statement}
 use Rattle.one_clause.proofs.put_f.Tie as tie
-use Rattle.one_clause.proofs.put_f.Reads as reads
-use Rattle.one_clause.proofs.put_f.Lts as lts
-use Rattle.clauses.proofs.put_onward.Reads as put-onward-reads
-use Rattle.neighbours.proofs.row_of.Reads as row-of-reads
-use Rattle.one_clause.proofs.cell_of.Reads as cell-of-reads
 
--- src/lib.rt:169:16
 mul-rows : tie.Need-mul-rows
 mul-rows c = let p = products (c .before .before .args .c .sizes) (limits-known (c .before .before .args .b .now) (c .before .before .args .c) (c .before .before .pre .0)) in omega arith
 
--- src/lib.rt:170:9
 cell-of-requires : tie.Need-cell-of-requires
 cell-of-requires c κs = c .before .before .pre .1 .0
 
--- src/lib.rt:171:9
 cell-of-requires-2 : tie.Need-cell-of-requires-2
 cell-of-requires-2 c κs = c .cell-of .ensures .0
 
--- src/lib.rt:173:16
 row-of-requires : tie.Need-row-of-requires
 row-of-requires c κs = search needs
 
--- src/lib.rt:174:31
 slice-aggregate-put-onward : tie.Need-slice-aggregate-put-onward
 slice-aggregate-put-onward c = search needs
 
--- src/lib.rt:174:5
 put-onward-requires : tie.Need-put-onward-requires
 put-onward-requires c κs =
     let q = c .before .before .before .cell-of2 .ensures in let f = clause-F (instanceOf (c .before .before .before .before .before .before .before .args .b .now) (c .before .before .before .before .before .before .before .args .c)) (c .before .before .before .before .before .before .before .args .c .sizes) (sym (sizes-same (c .before .before .before .before .before .before .before .args .b .now) (c .before .before .before .before .before .before .before .args .c) (c .before .before .before .before .before .before .before .pre .0))) (marked (c .before .before .row-of .result)) (c .before .before .before .before .before .before .before .args .i) (c .before .before .before .before .cell-of .result .row) (c .before .before .before .cell-of2 .result .row) (c .before .before .before .cell-of2 .result .place) (c .before .before .before .before .cell-of .result .place) (q .0) (q .1) (c .before .before .before .before .cell-of .ensures .1) (c .before .before .before .before .cell-of .ensures .2) (q .2) (c .before .before .row-of .ensures .1) in
@@ -55,11 +36,9 @@ put-onward-requires c κs =
     let short : length (line (onward (c .before .before .before .before .before .before .before .args .c .sizes) (marked (c .before .before .row-of .result)) (c .before .before .before .cell-of2 .result .row) (c .before .before .before .cell-of2 .result .place) (c .before .before .before .before .cell-of .result .place))) ≤ 66 = rw (← f) (clause-F-most (c .before .before .before .before .before .before .before .args .b .now) (c .before .before .before .before .before .before .before .args .c) (c .before .before .before .before .before .before .before .pre .0) (c .before .before .before .before .before .before .before .args .i) (c .before .before .before .before .before .before .before .pre .1 .0)) in
     (l, ((q .0, q .1, c .before .before .before .before .cell-of .ensures .1, omega (arith, c .before .before .row-of .ensures .0, l .n-most)), omega (arith, c .before .before .before .before .before .before .before .pre .1 .1)))
 
--- src/lib.rt:160:1
 same-length : tie.Need-same-length
 same-length c = search needs
 
--- src/lib.rt:160:1
 returns : tie.Need-returns
 returns c =
     let q = c .before .before .before .before .before .cell-of2 .ensures in let f = clause-F (instanceOf (c .before .before .before .before .before .before .before .before .before .args .b .now) (c .before .before .before .before .before .before .before .before .before .args .c)) (c .before .before .before .before .before .before .before .before .before .args .c .sizes) (sym (sizes-same (c .before .before .before .before .before .before .before .before .before .args .b .now) (c .before .before .before .before .before .before .before .before .before .args .c) (c .before .before .before .before .before .before .before .before .before .pre .0))) (marked (c .before .before .before .before .row-of .result)) (c .before .before .before .before .before .before .before .before .before .args .i) (c .before .before .before .before .before .before .cell-of .result .row) (c .before .before .before .before .before .cell-of2 .result .row) (c .before .before .before .before .before .cell-of2 .result .place) (c .before .before .before .before .before .before .cell-of .result .place) (q .0) (q .1) (c .before .before .before .before .before .before .cell-of .ensures .1) (c .before .before .before .before .before .before .cell-of .ensures .2) (q .2) (c .before .before .before .before .row-of .ensures .1) in
