@@ -13,16 +13,18 @@ literal-of-requires c κs = search needs
 
 returns : tie.Need-returns
 returns c =
-    let e : c .before .before .args .entry ≡ pos (c .before .before .args .x .0) = same (c .before .before .fits .entry) (pos-fits (c .before .before .pre)) (c .if1 .taken ∙ ap (ofZ w32) (c .before .literal-of .ensures)) in
-    rw (same-true (c .before .before .args .entry) (pos (c .before .before .args .x .0)) e)
+    let start = c .before .before in
+    let e : start .args .entry ≡ pos (start .args .x .0) = same (start .fits .entry) (pos-fits (start .pre)) (c .if1 .taken ∙ ap (ofZ w32) (c .before .literal-of .ensures)) in
+    rw (same-true (start .args .entry) (pos (start .args .x .0)) e)
 
 negation-of-requires : tie.Need-negation-of-requires
 negation-of-requires c κs = search needs
 
 returns-2 : tie.Need-returns-2
 returns-2 c =
-    rw (same-false (c .before .before .before .args .entry) (pos (c .before .before .before .args .x .0)) (λ e. c .before .if1 .left (ap (ofZ w32) (e ∙ sym (c .before .before .literal-of .ensures)))), c .negation-of .ensures)
-    (bits-same (c .before .before .before .args .entry) (negℤ (pos (c .before .before .before .args .x .0))) (c .before .before .before .fits .entry) (neg-fits _ (c .before .before .before .pre)))
+    let start = c .before .before .before in
+    rw (same-false (start .args .entry) (pos (start .args .x .0)) (λ e. c .before .if1 .left (ap (ofZ w32) (e ∙ sym (c .before .before .literal-of .ensures)))), c .negation-of .ensures)
+    (bits-same (start .args .entry) (negℤ (pos (start .args .x .0))) (start .fits .entry) (neg-fits _ (start .pre)))
 
 pub is-entry-spec : {M : Type 1} → statement M
 is-entry-spec = tie.close (tie.spec literal-of-requires returns negation-of-requires returns-2)

@@ -9,7 +9,9 @@ literal-of-requires : tie.Need-literal-of-requires
 literal-of-requires c κs = search needs
 
 returns : tie.Need-returns
-returns c = rw (c .literal-of .ensures) (bits-same (c .before .args .entry) (pos (c .before .args .x .0)) (c .before .fits .entry) (pos-fits (c .before .pre)))
+returns c =
+    let start = c .before in
+    rw (c .literal-of .ensures) (bits-same (start .args .entry) (pos (start .args .x .0)) (start .fits .entry) (pos-fits (start .pre)))
 
 pub is-literal-spec : {M : Type 1} → statement M
 is-literal-spec = tie.close (tie.spec literal-of-requires returns)

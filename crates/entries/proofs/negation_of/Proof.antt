@@ -10,10 +10,14 @@ cast-result : tie.Need-cast-result
 cast-result c = search needs
 
 sub-result : tie.Need-sub-result
-sub-result c = rw (neg-is _ (c .before .pre)) (neg-fits _ (c .before .pre))
+sub-result c =
+    let start = c .before in
+    rw (neg-is _ (start .pre)) (neg-fits _ (start .pre))
 
 returns : tie.Need-returns
-returns c = rw (neg-is _ (c .before .pre)) (toZ-ofZ (neg-fits _ (c .before .pre)))
+returns c =
+    let start = c .before in
+    rw (neg-is _ (start .pre)) (toZ-ofZ (neg-fits _ (start .pre)))
 
 pub negation-of-spec : {M : Type 1} → statement M
 negation-of-spec = tie.close (tie.spec cast-result sub-result returns)

@@ -1,0 +1,131 @@
+// The encoder: the valuation of a plan.
+use answers::Answer;
+use instance::Checked;
+use instance::Sizes;
+use entries::Agent;
+use entries::Step;
+use entries::Variable;
+use entries::Vertex;
+ghost use mathlib.Core.Path.{_≡_};
+ghost use mathlib.Core.Bool.{cond};
+ghost use mathlib.Core.List.{[], _∷_};
+ghost use Prim.Native.Nat.{suc, _*_, _+_, _≤_, _<_};
+ghost use lib.ListN.{length};
+ghost use lib.Dec.{eqb};
+ghost use lib.IntN.{pos, negℤ};
+ghost use Rattle.lists.specs.Loop.{for};
+ghost use Rattle.lists.specs.Slice.{filled};
+ghost use Rattle.formula.specs.Variables.{X, ¬X, variableCount};
+ghost use Rattle.formula.proofs.Limits.{Limits};
+ghost use Rattle.answers.specs.Answers.{decide};
+ghost use Rattle.plan.specs.Plan.{planBytes};
+ghost use Rattle.valuation.specs.Valuation.{entryFor, planValuation};
+ghost use Rattle.calls.specs.Accepted.{Accepted, instanceOf};
+ghost use Rattle.calls.specs.Questions.{question13, question16};
+ghost use Rattle.calls.specs.Calls.{planQuestions, encodeAnswer, encodeSlice};
+
+// A byte as a number.
+fn wide(x: u8) -> usize
+    ensures { λ r. ⌜ r ≡ x ⌝ }
+{
+    x as usize
+}
+
+// A variable's entry: the variable where it is true, else its negative.
+fn entry_for(x: Variable, holds: bool) -> i32
+    requires { ⌜ x .0 ≤ 33792 ⌝ }
+    ensures { λ r. ⌜ r ≡ cond holds (pos (x .0)) (negℤ (pos (x .0))) ⌝ }
+{
+    if holds {
+        return entries::literal_of(x);
+    }
+    entries::negation_of(x)
+}
+
+// The entries of agent a at time t, where it is at the given vertex.
+fn write_agent(z: &mut [i32], s: Sizes, t: Step, a: Agent, at: Vertex)
+    requires { ⌜ Limits s ⌝ }
+    requires { ⌜ (t .0 ≤ s .m) × (a .0 < s .k) × (s .n ≤ length (now z)) ⌝ }
+    ensures { λ _. ⌜ now (z .exit) ≡ filled (for (s .n) λ v. cond (eqb (at .0) v) (X s (t .0) (a .0) v) (¬X s (t .0) (a .0) v) ∷ []) (now (z .entry)) ⌝ }
+{
+    let n = s.n;
+    let place = at.0;
+    for v in 0..n {
+        let x = entries::variable_of(s, t, a, Vertex(v));
+        z[v] = entry_for(x, place == v);
+    }
+}
+
+// The entries of all agents at time t.
+fn write_row(z: &mut [i32], s: Sizes, p: &[u8], t: Step)
+    requires { ⌜ Limits s ⌝ }
+    requires { ⌜ (t .0 ≤ s .m) × (length (now p) ≡ planBytes s) × (s .k * s .n ≤ length (now z)) ⌝ }
+    ensures { λ _. ⌜ now (z .exit) ≡ filled (for (s .k) λ a. for (s .n) λ v. entryFor s (now (p .entry)) (t .0) a v ∷ []) (now (z .entry)) ⌝ }
+{
+    let n = s.n;
+    let k = s.k;
+    let row = t.0 * k;
+    for a in 0..k {
+        let at = a * n;
+        let place = Vertex(wide(p[row + a]));
+        write_agent(&mut z[at..], s, t, Agent(a), place);
+    }
+}
+
+// The valuation of a plan, first in the slice.
+fn write_valuation(z: &mut [i32], s: Sizes, p: &[u8])
+    requires { ⌜ Limits s ⌝ }
+    requires { ⌜ (length (now p) ≡ planBytes s) × (variableCount s ≤ length (now z)) ⌝ }
+    ensures { λ _. ⌜ now (z .exit) ≡ filled (planValuation s (now (p .entry))) (now (z .entry)) ⌝ }
+{
+    let size = s.k * s.n;
+    let rows = s.m + 1;
+    for t in 0..rows {
+        let at = t * size;
+        write_row(&mut z[at..], s, p, Step(t));
+    }
+}
+
+// Questions 13, 16 and 17 to 22, for a valuation slice of the given size.
+fn ask_encoding(b: &[u8], c: Checked, p: &[u8], size: usize) -> Answer
+    requires { ⌜ Accepted (now b) c ⌝ }
+    ensures { λ r. ⌜ r ≡ decide (question13 (instanceOf (now (b .entry)) c) (now (p .entry)) ∷ question16 (instanceOf (now (b .entry)) c) size ∷ planQuestions (instanceOf (now (b .entry)) c) (now (p .entry))) (variableCount (c .sizes)) ⌝ }
+{
+    let s = c.sizes;
+    let n = s.n;
+    let k = s.k;
+    let m = s.m;
+    let len = p.len();
+    if len != (m + 1) * k {
+        return Answer { number: 13, second: len };
+    }
+    let count = n * k * (m + 1);
+    if size < count {
+        return Answer { number: 16, second: count };
+    }
+    let answer = plan_check::ask_plan(b, c, p);
+    if answer.number != 0 {
+        return answer;
+    }
+    Answer { number: 0, second: count }
+}
+
+// The call, for every byte string, every number, all bytes given as a plan and every slice.
+pub fn encode(b: &[u8], m: usize, p: &[u8], z: &mut [i32]) -> Answer
+    ensures { λ r. ⌜ r ≡ encodeAnswer (now (b .entry)) m (now (p .entry)) (length (now (z .entry))) ⌝ }
+    ensures { λ _. ⌜ now (z .exit) ≡ encodeSlice (now (b .entry)) m (now (p .entry)) (now (z .entry)) ⌝ }
+{
+    let inspection = instance_check::check_instance(b, m);
+    let refusal = inspection.answer;
+    if refusal.number != 0 {
+        return refusal;
+    }
+    let c = inspection.checked;
+    let answer = ask_encoding(b, c, p, z.len());
+    if answer.number != 0 {
+        return answer;
+    }
+    let s = c.sizes;
+    write_valuation(z, s, p);
+    answer
+}
