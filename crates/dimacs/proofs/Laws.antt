@@ -1,0 +1,176 @@
+-- Decimal digits one by one, how many there are, and what they say; the text of words.
+use mathlib.Core.Path.{_≡_, refl, sym, _∙_, ap}
+use mathlib.Core.Logic.{by-cases}
+use mathlib.Core.Bool.{true, false}
+use mathlib.Core.List.{List, [], _∷_, _++_, append-nil}
+use Prim.Native.Nat.{ℕ, zero, suc, _+_, _/_, _%_, _^_, _≤_, _<_}
+use native.Mathlib.Nat.{div-lt-iff-lt-mul, pow-suc, le-refl}
+use native.Mathlib.Decide.{decLt}
+use native.Mathlib.Omega.{arith}
+use borrow.Author.Tests.{lt-ltb, le-ltb, ltb-true}
+use lib.Dec.{T, lit<}
+use lib.IntN.{ℤ, pos, negsuc, negℤ, _-ℤ_, +ℤ-idl, natAbs}
+use lib.Signed.{ltZ, nonNeg}
+use lib.ListN.{length, getD, set, take, length-append}
+use lib.Seq.{take-suc, take-all}
+use mir.Syntax.{w32, w64}
+use mir.Val.{Fits, SFits, toZ, ofZ}
+use mir.Facts.{toZ-ofZ}
+use Rattle.lists.specs.Loop.{for, each}
+use Rattle.lists.specs.Slice.{filled}
+use Rattle.lists.proofs.Loops.{each-append}
+use Rattle.lists.proofs.Slices.{filled-set}
+use Rattle.dimacs.specs.Text.{digit, digits, decimal, ended, signed, after, wordText}
+
+-- ---- digits one by one
+-- what is counted down from makes no difference, where it is large enough
+fuel : (p q x : ℕ) → x ≤ p → x ≤ q → digits p x ≡ digits q x
+unfolding digits
+fuel zero zero x h k = refl
+fuel zero (suc q) x h k = rw (lt-ltb x 10 (omega arith))
+fuel (suc p) zero x h k = rw (lt-ltb x 10 (omega arith))
+fuel (suc p) (suc q) x h k =
+    by-cases (decLt x 10)
+    (λ l. rw (lt-ltb x 10 l))
+    (λ d. rw (le-ltb x 10 (omega arith)) (ap (λ (l : List ℕ). l ++ digit (x % 10) ∷ []) (fuel p q (x / 10) (omega arith) (omega arith))))
+
+pub decimal-one : (x : ℕ) → x < 10 → decimal x ≡ digit x ∷ []
+unfolding decimal digits
+decimal-one zero h = refl
+decimal-one (suc x) h = rw (lt-ltb (suc x) 10 h)
+
+pub decimal-more : (x : ℕ) → 10 ≤ x → decimal x ≡ decimal (x / 10) ++ digit (x % 10) ∷ []
+unfolding decimal digits
+decimal-more zero h = absurd (let z : ⊥ = omega arith in z)
+decimal-more (suc x) h =
+    rw (le-ltb (suc x) 10 h) (ap (λ (l : List ℕ). l ++ digit (suc x % 10) ∷ []) (fuel x (suc x / 10) (suc x / 10) (omega arith) (omega arith)))
+
+pub decimal-two : (x : ℕ) → 10 ≤ x → x < 100 → decimal x ≡ digit (x / 10) ∷ digit (x % 10) ∷ []
+decimal-two x h k = decimal-more x h ∙ ap (λ (l : List ℕ). l ++ digit (x % 10) ∷ []) (decimal-one (x / 10) (omega arith))
+
+pub decimal-three : (x : ℕ) → 100 ≤ x → x < 1000 → decimal x ≡ digit (x / 10 / 10) ∷ digit (x / 10 % 10) ∷ digit (x % 10) ∷ []
+decimal-three x h k =
+    decimal-more x (omega arith) ∙ ap (λ (l : List ℕ). l ++ digit (x % 10) ∷ []) (decimal-two (x / 10) (omega arith) (omega arith))
+
+pub decimal-four : (x : ℕ) → 1000 ≤ x → x < 10000
+    → decimal x ≡ digit (x / 10 / 10 / 10) ∷ digit (x / 10 / 10 % 10) ∷ digit (x / 10 % 10) ∷ digit (x % 10) ∷ []
+decimal-four x h k =
+    decimal-more x (omega arith) ∙ ap (λ (l : List ℕ). l ++ digit (x % 10) ∷ []) (decimal-three (x / 10) (omega arith) (omega arith))
+
+pub decimal-five : (x : ℕ) → 10000 ≤ x → x < 100000
+    → decimal x ≡ digit (x / 10 / 10 / 10 / 10) ∷ digit (x / 10 / 10 / 10 % 10) ∷ digit (x / 10 / 10 % 10) ∷ digit (x / 10 % 10) ∷ digit (x % 10) ∷ []
+decimal-five x h k =
+    decimal-more x (omega arith) ∙ ap (λ (l : List ℕ). l ++ digit (x % 10) ∷ []) (decimal-four (x / 10) (omega arith) (omega arith))
+
+-- one digit more behind those of a tenth
+pub length-more : (x : ℕ) → 10 ≤ x → length (decimal x) ≡ length (decimal (x / 10)) + 1
+length-more x h = ap length (decimal-more x h) ∙ length-append (decimal (x / 10)) _
+
+pub put-more : (x r : ℕ) (f l : List ℕ) → 10 ≤ x → r ≡ length (decimal (x / 10)) → length (decimal x) ≤ length l → f ≡ filled (decimal (x / 10)) l
+    → (r + 1 ≡ length (decimal x)) × (set f r (digit (x % 10)) ≡ filled (decimal x) l)
+put-more x r f l h er hr ef =
+    let n = length-more x h in (
+      omega arith,
+      ap (λ (g : List ℕ). set g r (digit (x % 10))) ef
+          ∙ filled-set (decimal (x / 10)) l r (digit (x % 10)) 0 (sym er) (omega arith)
+          ∙ ap (λ (ds : List ℕ). filled ds l) (sym (decimal-more x h)),
+    )
+
+-- a number below 10 ^ w has at most w digits
+pub length-most : (w x : ℕ) → x < 10 ^ suc w → length (decimal x) ≤ suc w
+length-most zero x h = let e = ap length (decimal-one x (rw pow-suc at h)) in omega arith
+length-most (suc w) x h =
+    by-cases (decLt x 10)
+    (λ l. let e = ap length (decimal-one x l) in omega arith)
+    (λ d.
+    let b : x / 10 < 10 ^ suc w = div-lt-iff-lt-mul (lit< tt) .1 (rw (pow-suc 10 (suc w)) at h) in
+    omega (arith, length-more x (omega arith), length-most w (x / 10) b))
+
+pub length-any : (x : ℕ) → x < 2 ^ 64 → length (decimal x) ≤ 20
+length-any x h = length-most 19 x (omega arith)
+
+pub length-word : (x : ℕ) → x ≤ 2147483648 → length (decimal x) ≤ 10
+length-word x h = length-most 9 x (omega arith)
+
+-- one byte behind a number
+pub put-after : (x b r : ℕ) (f l : List ℕ) → r ≡ length (decimal x) → length (decimal x) < length l → f ≡ filled (decimal x) l
+    → (r + 1 ≡ length (ended x b)) × (set f r b ≡ filled (ended x b) l)
+put-after x b r f l er h ef = (
+  rw (length-append, er),
+  ap (λ (g : List ℕ). set g r b) ef ∙ filled-set (decimal x) l r b 0 (sym er) (omega arith),
+)
+
+-- ---- words
+pub word-negative : (w : ℤ) → ltZ w (pos 0) ≡ true → wordText w ≡ (45 ∷ []) ++ ended (natAbs w) 32
+unfolding wordText signed
+word-negative (pos zero) e = let z : _≡_ {A = ℕ} 0 1 = cc in absurd (let f : ⊥ = omega arith in f)
+word-negative (pos (suc n)) e = absurd (let h = ltb-true (suc n) 0 e in let f : ⊥ = omega arith in f)
+word-negative (negsuc n) e = refl
+
+pub word-zero : (w : ℤ) → natAbs w ≡ 0 → wordText w ≡ ended (natAbs w) 10
+unfolding wordText signed
+word-zero (pos zero) e = refl
+word-zero (pos (suc n)) e = absurd (let f : ⊥ = omega arith in f)
+word-zero (negsuc n) e = absurd (let f : ⊥ = omega arith in f)
+
+pub word-positive : (w : ℤ) → ltZ w (pos 0) ≡ false → (natAbs w ≡ 0 → ⊥) → wordText w ≡ ended (natAbs w) 32
+unfolding wordText signed
+word-positive (pos zero) e d = absurd (d refl)
+word-positive (pos (suc n)) e d = refl
+word-positive (negsuc n) e d = let z : _≡_ {A = ℕ} 0 1 = cc in absurd (let f : ⊥ = omega arith in f)
+
+pub length-word-text : (w : ℤ) → SFits w32 w → length (wordText w) ≤ 12
+unfolding wordText signed
+length-word-text (pos x) f = omega (arith, length-append (decimal x) (after (pos x) ∷ []), length-word x (omega (arith, f .sfits)))
+length-word-text (negsuc x) f = omega (arith, length-append (45 ∷ decimal (suc x)) (32 ∷ []), length-word (suc x) (omega (arith, f .sfits)))
+
+-- a loop over the elements of a list
+pub each-element : {A B : Type 0} (g : A → List B) (l : List A) (d : A) (i : ℕ) → i ≤ length l → for i (λ j. g (getD l j d)) ≡ each g (take i l)
+each-element g l d zero h = refl
+each-element g l d (suc i) h =
+    rw (take-suc l i d (omega arith), each-append, append-nil) (ap (λ (p : List _). p ++ g (getD l i d)) (each-element g l d i (omega arith)))
+
+pub each-all : {A B : Type 0} (g : A → List B) (l : List A) (d : A) → for (length l) (λ j. g (getD l j d)) ≡ each g l
+each-all g l d = each-element g l d (length l) (le-refl _) ∙ ap (each g) (take-all (length l) l (le-refl _))
+
+-- ---- a word's size, as the code works it out: a negation at i64, which the lowest i32 has too
+wide : {z : ℤ} → SFits w32 z → SFits w64 z
+wide f = record { sfits = omega (arith, f .sfits) }
+
+neg-wide : (z : ℤ) → SFits w32 z → SFits w64 (negℤ z)
+neg-wide (pos zero) f = record { sfits = lit< tt }
+neg-wide (pos (suc n)) f = record { sfits = omega (arith, f .sfits) }
+neg-wide (negsuc n) f = record { sfits = omega (arith, f .sfits) }
+
+pub widened : {z : ℤ} → SFits w32 z → SFits w64 (toZ w32 (ofZ w32 z))
+widened f = rw (toZ-ofZ f) (wide f)
+
+neg-same : {z : ℤ} → SFits w32 z → pos 0 -ℤ toZ w64 (ofZ w64 (toZ w32 (ofZ w32 z))) ≡ negℤ z
+neg-same {z} f = rw (toZ-ofZ f, toZ-ofZ (wide f)) (+ℤ-idl (negℤ z))
+
+pub neg-fits64 : {z : ℤ} → SFits w32 z → SFits w64 (pos 0 -ℤ toZ w64 (ofZ w64 (toZ w32 (ofZ w32 z))))
+neg-fits64 {z} f = rw (neg-same f) (neg-wide z f)
+
+pub negated : {z : ℤ} → SFits w32 z → toZ w64 (ofZ w64 (pos 0 -ℤ toZ w64 (ofZ w64 (toZ w32 (ofZ w32 z))))) ≡ negℤ z
+negated {z} f = rw (neg-same f) (toZ-ofZ (neg-wide z f))
+
+pub natAbs-neg : (z : ℤ) → natAbs (negℤ z) ≡ natAbs z
+natAbs-neg (pos zero) = refl
+natAbs-neg (pos (suc n)) = refl
+natAbs-neg (negsuc n) = refl
+
+pub neg-sign : (z : ℤ) → ltZ z (pos 0) ≡ true → T (nonNeg (negℤ z))
+neg-sign (pos zero) e = tt
+neg-sign (pos (suc n)) e = let h = ltb-true (suc n) 0 e in omega arith
+neg-sign (negsuc n) e = tt
+
+pub pos-sign : (z : ℤ) → ltZ z (pos 0) ≡ false → T (nonNeg z)
+pos-sign (pos n) e = tt
+pos-sign (negsuc n) e = let z : _≡_ {A = ℕ} 0 1 = cc in omega arith
+
+pub size-most : (z : ℤ) → SFits w32 z → natAbs z ≤ 2147483648
+size-most (pos n) f = omega (arith, f .sfits)
+size-most (negsuc n) f = omega (arith, f .sfits)
+
+pub size-fits : (z : ℤ) → SFits w32 z → Fits w64 (natAbs z)
+size-fits z f = record { fits = omega (arith, size-most z f) }

@@ -1,0 +1,18 @@
+-- `dimacs::put_number` meets its contract: a number below 2 ^ 64 has at most 20 digits. Assumes nothing.
+use native.Mathlib.Omega.{arith}
+use Rattle.dimacs.proofs.Laws.{length-any}
+use borrow.Author.Needs.{needs}
+use Rattle.dimacs.proofs.put_number.Statement.{statement}
+use Rattle.dimacs.proofs.put_number.Tie as tie
+
+put-decimal-requires : tie.Need-put-decimal-requires
+put-decimal-requires c κs = omega (arith, length-any (c .before .before .args .x) (c .before .before .fits .x .fits))
+
+same-length : tie.Need-same-length
+same-length c = search needs
+
+returns : tie.Need-returns
+returns c = search needs
+
+pub put-number-spec : {M : Type 1} → statement M
+put-number-spec = tie.close (tie.spec put-decimal-requires same-length returns)

@@ -1,0 +1,68 @@
+-- The text of a formula, as bytes: a byte is its number in ASCII.
+use mathlib.Core.Bool.{cond}
+use mathlib.Core.List.{List, [], _∷_, _++_}
+use Prim.Native.Nat.{ℕ, zero, suc, _+_, _*_, _-_, _/_, _%_}
+use lib.Dec.{ltb}
+use lib.IntN.{ℤ, pos, negsuc}
+use lib.ListN.{length}
+use Rattle.lists.specs.Loop.{each}
+use Rattle.instance.specs.Instance.{Instance}
+use Rattle.formula.specs.Variables.{variableCount}
+use Rattle.formula.specs.Formula.{Clause, clauses}
+
+-- the digit d, below 10: 0 is byte 48
+abbrev pub digit : ℕ → ℕ
+digit d = 48 + d
+
+-- The decimal digits of x: below 10 it is one digit, from 10 on those of x / 10 and then that of x % 10.
+-- The recursion is counted down from x, which has at most x digits after its first.
+unfoldable pub digits : ℕ → ℕ → List ℕ
+digits zero x = digit x ∷ []
+digits (suc more) x = cond (ltb x 10) (digit x ∷ []) (digits more (x / 10) ++ digit (x % 10) ∷ [])
+
+unfoldable pub decimal : ℕ → List ℕ
+decimal x = digits x x
+
+-- a number and one byte after it
+abbrev pub ended : ℕ → ℕ → List ℕ
+ended x byte = decimal x ++ byte ∷ []
+
+-- a word's number, with "-" where it is negative
+unfoldable pub signed : ℤ → List ℕ
+signed (pos x) = decimal x
+signed (negsuc x) = 45 ∷ decimal (suc x)
+
+-- what follows a word: the word 0 ends its line, any other is followed by a space
+abbrev pub after : ℤ → ℕ
+after (pos zero) = 10
+after (pos (suc x)) = 32
+after (negsuc x) = 32
+
+unfoldable pub wordText : ℤ → List ℕ
+wordText w = signed w ++ after w ∷ []
+
+-- the text of a list of words
+unfoldable pub wordsText : List ℤ → List ℕ
+wordsText words = each wordText words
+
+-- A clause's line: each literal and a space, then 0 and the line's end.
+unfoldable pub clauseText : Clause → List ℕ
+clauseText clause = (each (λ literal. signed literal ++ 32 ∷ []) clause) ++ 48 ∷ 10 ∷ []
+
+-- "p cnf ", the number of variables, a space, the number of clauses, the line's end
+unfoldable pub headerText : ℕ → ℕ → List ℕ
+headerText variables clauses = (112 ∷ 32 ∷ 99 ∷ 110 ∷ 102 ∷ 32 ∷ []) ++ (ended variables 32 ++ ended clauses 10)
+
+-- "c refused ", the refusal's number, a space, its place, the line's end
+unfoldable pub refusalText : ℕ → ℕ → List ℕ
+refusalText number place =
+    (99 ∷ 32 ∷ 114 ∷ 101 ∷ 102 ∷ 117 ∷ 115 ∷ 101 ∷ 100 ∷ 32 ∷ []) ++ (ended number 32 ++ ended place 10)
+
+-- what is printed of an accepted instance: the header, with N and the clause count, then a line a clause
+unfoldable pub formulaText : Instance → List ℕ
+formulaText I = headerText (variableCount (I .sizes)) (length (clauses I)) ++ each clauseText (clauses I)
+
+-- The number that digits say, read from the first to the last, after those that say x.
+abbrev pub readOn : ℕ → List ℕ → ℕ
+readOn x [] = x
+readOn x (d ∷ l) = readOn (10 * x + (d - 48)) l

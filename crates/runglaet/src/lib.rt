@@ -1,0 +1,45 @@
+// The five calls for programs in other languages; include/runglaet.h declares them for C.
+use answers::Answer;
+use answers::Written;
+ghost use mathlib.Core.Path.{_≡_};
+ghost use lib.ListN.{length};
+ghost use Rattle.calls.specs.Calls.{writeAnswer, writeSlice, clauseAnswer, clauseSlice, checkAnswer, decodeAnswer, decodeSlice, encodeAnswer, encodeSlice};
+
+#[no_mangle]
+pub extern "C" fn runglaet_write_formula(instance: &[u8], horizon: u64, words: &mut [i32]) -> Written
+    ensures { λ r. ⌜ r ≡ writeAnswer (now (instance .entry)) horizon (length (now (words .entry))) ⌝ }
+    ensures { λ _. ⌜ now (words .exit) ≡ writeSlice (now (instance .entry)) horizon (now (words .entry)) ⌝ }
+{
+    formula_writer::write_formula(instance, horizon as usize, words)
+}
+
+#[no_mangle]
+pub extern "C" fn runglaet_clause(instance: &[u8], horizon: u64, clause_number: u64, words: &mut [i32]) -> Answer
+    ensures { λ r. ⌜ r ≡ clauseAnswer (now (instance .entry)) horizon «clause_number» (length (now (words .entry))) ⌝ }
+    ensures { λ _. ⌜ now (words .exit) ≡ clauseSlice (now (instance .entry)) horizon «clause_number» (now (words .entry)) ⌝ }
+{
+    one_clause::clause(instance, horizon as usize, clause_number as usize, words)
+}
+
+#[no_mangle]
+pub extern "C" fn runglaet_check_plan(instance: &[u8], horizon: u64, plan: &[u8]) -> Answer
+    ensures { λ r. ⌜ r ≡ checkAnswer (now (instance .entry)) horizon (now (plan .entry)) ⌝ }
+{
+    plan_check::check_plan(instance, horizon as usize, plan)
+}
+
+#[no_mangle]
+pub extern "C" fn runglaet_decode(instance: &[u8], horizon: u64, entries: &[i32], plan: &mut [u8]) -> Answer
+    ensures { λ r. ⌜ r ≡ decodeAnswer (now (instance .entry)) horizon (now (entries .entry)) (length (now (plan .entry))) ⌝ }
+    ensures { λ _. ⌜ now (plan .exit) ≡ decodeSlice (now (instance .entry)) horizon (now (entries .entry)) (now (plan .entry)) ⌝ }
+{
+    decoder::decode(instance, horizon as usize, entries, plan)
+}
+
+#[no_mangle]
+pub extern "C" fn runglaet_encode(instance: &[u8], horizon: u64, plan: &[u8], entries: &mut [i32]) -> Answer
+    ensures { λ r. ⌜ r ≡ encodeAnswer (now (instance .entry)) horizon (now (plan .entry)) (length (now (entries .entry))) ⌝ }
+    ensures { λ _. ⌜ now (entries .exit) ≡ encodeSlice (now (instance .entry)) horizon (now (plan .entry)) (now (entries .entry)) ⌝ }
+{
+    encoder::encode(instance, horizon as usize, plan, entries)
+}
