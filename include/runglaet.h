@@ -1,0 +1,64 @@
+/* Runglaet: shuttle formulas, valuations and plans.
+ *
+ * Every call takes any bytes and any numbers, checks all of them itself, keeps no pointer and allocates nothing.
+ * An answer's number is 0 for accepted, or the number of the first question that was answered no; `second` is then the
+ * place of the refusal, and the count of an acceptance. A refusal changes nothing that was lent. An accepted call fills
+ * the first places of its slice and touches none beyond. A pointer of a slice of length 0 may be anything but NULL.
+ *
+ * Questions are numbered as in README.md. Words and entries are signed 32-bit numbers.
+ */
+#ifndef RUNGLAET_H
+#define RUNGLAET_H
+
+#include <stddef.h>
+#include <stdint.h>
+
+#ifdef __cplusplus
+extern "C" {
+#endif
+
+typedef struct {
+    uint32_t number;
+    uint64_t second;
+} runglaet_answer;
+
+typedef struct {
+    uint32_t number;
+    uint64_t second;
+    uint64_t clauses;
+} runglaet_written;
+
+/* The formula, as words: each clause is its literals and then 0.
+ * Asks 1 to 10 and 12. Accepted: the words stand first in `words`, `second` is how many they are, `clauses` how many
+ * clauses. Refused: `words` is as it was, and `clauses` is 0. Refusal 12 gives the words needed. */
+runglaet_written runglaet_write_formula(const uint8_t *instance, size_t instance_len, uint64_t horizon,
+                                        int32_t *words, size_t words_len);
+
+/* The clause with a number, from 0, and its closing 0: at most 66 words.
+ * Asks 1 to 12. Accepted: its words stand first in `words`, and `second` is how many they are. Refusal 11 gives the
+ * clause count, refusal 12 the words needed. */
+runglaet_answer runglaet_clause(const uint8_t *instance, size_t instance_len, uint64_t horizon, uint64_t clause_number,
+                                int32_t *words, size_t words_len);
+
+/* The plan check.
+ * Asks 1 to 10, 13 and 17 to 22. Accepted: `second` is the plan's cost, its number of moves. */
+runglaet_answer runglaet_check_plan(const uint8_t *instance, size_t instance_len, uint64_t horizon,
+                                    const uint8_t *plan, size_t plan_len);
+
+/* From a solver's valuation to the plan that it names. Entry i must be the variable number i + 1 or its negative.
+ * Asks 1 to 10, 14, 15, 23 and 24. Accepted: the plan's bytes stand first in `plan`, and `second` is how many they are.
+ * Refusal 24 gives the lowest clause number without a true literal. */
+runglaet_answer runglaet_decode(const uint8_t *instance, size_t instance_len, uint64_t horizon,
+                                const int32_t *entries, size_t entries_len, uint8_t *plan, size_t plan_len);
+
+/* From a plan to its valuation.
+ * Asks 1 to 10, 13 and 16 to 22. Accepted: the valuation's entries stand first in `entries`, and `second` is how many
+ * they are. */
+runglaet_answer runglaet_encode(const uint8_t *instance, size_t instance_len, uint64_t horizon,
+                                const uint8_t *plan, size_t plan_len, int32_t *entries, size_t entries_len);
+
+#ifdef __cplusplus
+}
+#endif
+
+#endif
