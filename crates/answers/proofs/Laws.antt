@@ -13,13 +13,8 @@ use Rattle.lists.proofs.Tests.{and-iff}
 use Rattle.lists.proofs.Loops.{for-nil, for-split, unless-nil, unless-one}
 use Rattle.lists.proofs.Slices.{take-filled}
 use Rattle.answers.specs.declared.Answer.{Answer}
-use Rattle.answers.specs.Answers.{Question, accept, decide, byNumber, lent}
+use Rattle.answers.specs.Answers.{Question, clear, accept, decide, byNumber, lent}
 use Rattle.answers.specs.Fault.{FirstFault}
-
--- a question is answered yes
-abbrev pub clear : Question → Bool
-clear [] = true
-clear (r ∷ rs) = false
 
 -- no refusal of a question has the number 0
 abbrev pub numbered : Question → Bool

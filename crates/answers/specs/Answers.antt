@@ -1,6 +1,7 @@
 -- Answers, and how a list of questions comes to one.
 -- A question is the list of its refusals, in the order in which its items are asked. It is answered yes where that list is empty.
 use mathlib.Core.List.{List, [], _∷_}
+use mathlib.Core.Bool.{Bool, true, false}
 use Prim.Native.Nat.{ℕ, zero, suc}
 use Rattle.lists.specs.Slice.{filled}
 use Rattle.answers.specs.declared.Answer.{Answer}
@@ -16,6 +17,11 @@ accept count = record { number = 0; second = count }
 
 abbrev pub Question : Type 0
 Question = List Answer
+
+-- a question is answered yes
+abbrev pub clear : Question → Bool
+clear [] = true
+clear (r ∷ rs) = false
 
 -- Questions are asked in order, and the first no decides. Where there is none, the answer holds the count.
 unfoldable pub decide : List Question → ℕ → Answer

@@ -10,9 +10,8 @@ use Rattle.lists.proofs.Slices.{filled-length}
 use Rattle.answers.proofs.Laws.{byNumber-accepted}
 use Rattle.instance.specs.declared.Sizes.{Sizes}
 use Rattle.instance.specs.declared.Checked.{Checked}
-use Rattle.instance.specs.Instance.{Instance, instance, checked, unchecked, forAgents, vertices, agents, edges, starts, goals}
-use Rattle.instance.proofs.Graph.{Edges}
-use Rattle.formula.proofs.Limits.{Limits}
+use Rattle.instance.specs.Instance.{Instance, instance, checked, unchecked, forAgents, vertices, agents, edges, starts, goals, Edges}
+use Rattle.formula.specs.Limits.{Limits}
 use Rattle.valuation.proofs.Families.{Sound}
 use Rattle.calls.specs.Calls.{instanceAnswer, instanceChecked}
 use Rattle.calls.specs.Accepted.{Accepted, instanceOf}

@@ -11,11 +11,10 @@ use Rattle.lists.specs.Loop.{all}
 use Rattle.lists.proofs.Tests.{and-iff, or-iff, not-iff, eqb-iff, ltb-iff, leb-iff, every-iff}
 use Rattle.lists.proofs.Loops.{for-all, for-nil, unless-nil, unless-all}
 use Rattle.answers.specs.declared.Answer.{Answer}
-use Rattle.answers.specs.Answers.{Question, decide}
-use Rattle.answers.proofs.Laws.{clear, numbered, clear-iff, decide-iff, decide-after, decide-refused}
-use Rattle.instance.specs.Instance.{instance, vertices, agents, edges, lowEnd}
-use Rattle.instance.proofs.Graph.{Edges}
-use Rattle.formula.proofs.Limits.{Limits}
+use Rattle.answers.specs.Answers.{Question, decide, clear}
+use Rattle.answers.proofs.Laws.{numbered, clear-iff, decide-iff, decide-after, decide-refused}
+use Rattle.instance.specs.Instance.{instance, vertices, agents, edges, lowEnd, Edges}
+use Rattle.formula.specs.Limits.{Limits}
 use Rattle.valuation.proofs.Families.{Sound}
 use Rattle.calls.specs.Calls.{instanceQuestions, instanceAnswer}
 

@@ -9,8 +9,8 @@ use lib.Dec.{T}
 use Rattle.lists.specs.Loop.{for, all}
 use Rattle.lists.proofs.Tests.{and-iff, or-imp, not-iff, eqb-iff, ltb-iff, every-iff}
 use Rattle.lists.proofs.Loops.{all-append, for-all, for-nil, unless-nil, unless-all}
-use Rattle.answers.specs.Answers.{Question}
-use Rattle.answers.proofs.Laws.{clear, numbered, clear-iff, decide-iff, decide-after}
+use Rattle.answers.specs.Answers.{Question, clear}
+use Rattle.answers.proofs.Laws.{numbered, clear-iff, decide-iff, decide-after}
 use Rattle.instance.specs.declared.Sizes.{Sizes}
 use Rattle.instance.specs.Instance.{Instance, instance, adjacent, Edge}
 use Rattle.instance.proofs.Graph.{adjacent-iff}

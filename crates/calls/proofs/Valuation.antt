@@ -9,7 +9,8 @@ use lib.IntN.{ℤ, pos, negsuc, negℤ}
 use Rattle.lists.specs.Loop.{any, all}
 use Rattle.lists.proofs.Tests.{and-iff, or-iff, eqb-iff}
 use Rattle.lists.proofs.Loops.{for-all, for-nil, unless-nil, unless-all, all-getD, any-mem, all-mem}
-use Rattle.answers.proofs.Laws.{clear, numbered, clear-iff}
+use Rattle.answers.specs.Answers.{clear}
+use Rattle.answers.proofs.Laws.{numbered, clear-iff}
 use Rattle.instance.specs.Instance.{Instance}
 use Rattle.formula.specs.Variables.{Literal}
 use Rattle.formula.specs.Formula.{clauses}

@@ -4,7 +4,7 @@ use mathlib.Core.List.{List}
 use Prim.Native.Nat.{ℕ}
 use lib.Dec.{T}
 use Rattle.lists.specs.Loop.{all}
-use Rattle.answers.proofs.Laws.{clear}
+use Rattle.answers.specs.Answers.{clear}
 use Rattle.instance.specs.declared.Checked.{Checked}
 use Rattle.instance.specs.Instance.{Instance, instance, checked}
 use Rattle.calls.specs.Calls.{instanceQuestions}

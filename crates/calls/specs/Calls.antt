@@ -53,46 +53,53 @@ module _ (b : List ℕ) (m : ℕ) where
   instanceChecked = byNumber (instanceAnswer .number) (checked b m) unchecked
 
   -- ---- the formula writer: 1 to 10, 12
+  abbrev pub writeQuestions : ℕ → List Question
+  writeQuestions size = instanceQuestions ++ question12 (length (words I)) size ∷ []
+
   unfoldable pub writeAnswer : ℕ → Written
-  writeAnswer size =
-      withClauses
-      (decide (instanceQuestions ++ question12 (length (words I)) size ∷ []) (length (words I)))
-      (length (clauses I))
+  writeAnswer size = withClauses (decide (writeQuestions size) (length (words I))) (length (clauses I))
 
   unfoldable pub writeSlice : List ℤ → List ℤ
-  writeSlice s =
-      lent (decide (instanceQuestions ++ question12 (length (words I)) (length s) ∷ []) (length (words I))) (words I) s
+  writeSlice s = lent (decide (writeQuestions (length s)) (length (words I))) (words I) s
 
   -- ---- one clause: 1 to 12
   -- the clause at a number, with its 0
   abbrev pub clauseLine : ℕ → List ℤ
   clauseLine c = line (getD (clauses I) c [])
 
+  abbrev pub clauseQuestions : ℕ → ℕ → List Question
+  clauseQuestions c size = instanceQuestions ++ question11 I c ∷ question12 (length (clauseLine c)) size ∷ []
+
   unfoldable pub clauseAnswer : ℕ → ℕ → Answer
-  clauseAnswer c size =
-      decide (instanceQuestions ++ question11 I c ∷ question12 (length (clauseLine c)) size ∷ []) (length (clauseLine c))
+  clauseAnswer c size = decide (clauseQuestions c size) (length (clauseLine c))
 
   unfoldable pub clauseSlice : ℕ → List ℤ → List ℤ
   clauseSlice c s = lent (clauseAnswer c (length s)) (clauseLine c) s
 
   -- ---- the plan check: 1 to 10, 13, 17 to 22
+  abbrev pub checkQuestions : List ℕ → List Question
+  checkQuestions p = instanceQuestions ++ question13 I p ∷ planQuestions I p
+
   unfoldable pub checkAnswer : List ℕ → Answer
-  checkAnswer p = decide (instanceQuestions ++ question13 I p ∷ planQuestions I p) (cost I p)
+  checkAnswer p = decide (checkQuestions p) (cost I p)
 
   -- ---- the decoder: 1 to 10, 14, 15, 23, 24
+  abbrev pub decodeQuestions : List ℤ → ℕ → List Question
+  decodeQuestions entries size =
+      instanceQuestions ++ question14 I entries ∷ question15 I size ∷ question23 I entries ∷ question24 I entries ∷ []
+
   unfoldable pub decodeAnswer : List ℤ → ℕ → Answer
-  decodeAnswer entries size =
-      decide
-      (instanceQuestions ++ question14 I entries ∷ question15 I size ∷ question23 I entries ∷ question24 I entries ∷ [])
-      (planBytes (I .sizes))
+  decodeAnswer entries size = decide (decodeQuestions entries size) (planBytes (I .sizes))
 
   unfoldable pub decodeSlice : List ℤ → List ℕ → List ℕ
   decodeSlice entries s = lent (decodeAnswer entries (length s)) (namedPlan (I .sizes) entries) s
 
   -- ---- the encoder: 1 to 10, 13, 16 to 22
+  abbrev pub encodeQuestions : List ℕ → ℕ → List Question
+  encodeQuestions p size = instanceQuestions ++ question13 I p ∷ question16 I size ∷ planQuestions I p
+
   unfoldable pub encodeAnswer : List ℕ → ℕ → Answer
-  encodeAnswer p size =
-      decide (instanceQuestions ++ question13 I p ∷ question16 I size ∷ planQuestions I p) (variableCount (I .sizes))
+  encodeAnswer p size = decide (encodeQuestions p size) (variableCount (I .sizes))
 
   unfoldable pub encodeSlice : List ℕ → List ℤ → List ℤ
   encodeSlice p s = lent (encodeAnswer p (length s)) (planValuation (I .sizes) p) s

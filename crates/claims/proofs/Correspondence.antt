@@ -14,7 +14,8 @@ use Rattle.lists.proofs.Tests.{leb-iff}
 use Rattle.lists.proofs.Loops.{unless-nil, unless-all}
 use Rattle.lists.proofs.Blocks.{place-lt, place-split}
 use Rattle.answers.specs.declared.Answer.{Answer}
-use Rattle.answers.proofs.Laws.{clear, clear-iff, clear-second, numbered-second, decide-iff, decide-after, lent-take}
+use Rattle.answers.specs.Answers.{clear}
+use Rattle.answers.proofs.Laws.{clear-iff, clear-second, numbered-second, decide-iff, decide-after, lent-take}
 use Rattle.instance.specs.declared.Sizes.{Sizes}
 use Rattle.instance.specs.Instance.{Instance, instance}
 use Rattle.formula.specs.Variables.{X, variableCount}
@@ -23,7 +24,8 @@ use Rattle.plan.specs.Plan.{place}
 use Rattle.plan.specs.Passing.{Passes}
 use Rattle.valuation.specs.Valuation.{true?, named, namedPlan, planValuation}
 use Rattle.valuation.specs.Satisfying.{Valuation, Names}
-use Rattle.valuation.proofs.Families.{Sat, Places, Sound, satisfies-iff, sat-CD, places-cong, places-unique}
+use Rattle.valuation.specs.Places.{Places}
+use Rattle.valuation.proofs.Families.{Sat, Sound, satisfies-iff, sat-CD, places-cong, places-unique}
 use Rattle.valuation.proofs.Entries.{index-onto, true-yes, named-places, named-size, named-at, written-size, written-valuation, written-places}
 use Rattle.calls.specs.Questions.{question13, question14, question15, question16, question23, question24}
 use Rattle.calls.specs.Calls.{instanceQuestions, planQuestions, decodeAnswer, decodeSlice, encodeAnswer, encodeSlice}

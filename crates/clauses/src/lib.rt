@@ -12,7 +12,7 @@ ghost use Rattle.lists.specs.Loop.{when};
 ghost use Rattle.lists.specs.Slice.{filled};
 ghost use Rattle.formula.specs.Variables.{X, ¬X};
 ghost use Rattle.formula.specs.Formula.{line};
-ghost use Rattle.formula.proofs.Limits.{Limits};
+ghost use Rattle.formula.specs.Limits.{Limits};
 ghost use Rattle.clauses.specs.Lines.{somewhere, nearby, onward, marked};
 
 // The literal X(t,a,v).

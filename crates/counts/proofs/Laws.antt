@@ -5,7 +5,8 @@ use native.Mathlib.Numerals.{add-one}
 use native.Mathlib.Omega.{arith}
 use Rattle.instance.specs.declared.Sizes.{Sizes}
 use Rattle.formula.specs.Counts.{pairs}
-use Rattle.formula.proofs.Limits.{Limits, rows, moves, count-D-most, count-E-most, count-F-most, count-G-most}
+use Rattle.formula.specs.Limits.{Limits}
+use Rattle.formula.proofs.Limits.{rows, moves, count-D-most, count-E-most, count-F-most, count-G-most}
 
 pub record Products (s : Sizes) : Type 0 where
   pub rows′ : (s .m + 1) * s .k ≤ 528

@@ -3,7 +3,7 @@ use instance::Sizes;
 ghost use mathlib.Core.Path.{_≡_};
 ghost use Prim.Native.Nat.{_*_, _-_, _/_, _≤_};
 ghost use Rattle.formula.specs.Counts.{pairs, clausesBy, clauseCount, wordCount};
-ghost use Rattle.formula.proofs.Limits.{Limits};
+ghost use Rattle.formula.specs.Limits.{Limits};
 
 // A number for each family.
 pub struct Families {

@@ -16,9 +16,9 @@ use Rattle.lists.proofs.Loops.{unless-nil, unless-all}
 use Rattle.lists.proofs.Slices.{filled-set}
 use Rattle.lists.proofs.Blocks.{for1-length}
 use Rattle.answers.specs.declared.Answer.{Answer}
-use Rattle.answers.specs.Answers.{Question, refuse, accept, decide, lent}
+use Rattle.answers.specs.Answers.{Question, refuse, accept, decide, lent, clear}
 use Rattle.answers.specs.Fault.{FirstFault}
-use Rattle.answers.proofs.Laws.{clear, numbered, clear-iff, clear-second, numbered-second, decide-iff, decide-count, decide-after, decide-front, ask-yes, ask-no, fault-pass, fault-stop, lent-accepted, lent-refused}
+use Rattle.answers.proofs.Laws.{numbered, clear-iff, clear-second, numbered-second, decide-iff, decide-count, decide-after, decide-front, ask-yes, ask-no, fault-pass, fault-stop, lent-accepted, lent-refused}
 use Rattle.instance.specs.declared.Sizes.{Sizes}
 use Rattle.instance.specs.declared.Checked.{Checked}
 use Rattle.instance.specs.Instance.{Instance, instance}
@@ -29,7 +29,8 @@ use Rattle.formula.proofs.Counts.{clause-count}
 use Rattle.plan.specs.Plan.{planBytes}
 use Rattle.valuation.specs.Valuation.{sameNumber, entry, rightEntry, true?, satisfied?, named, namedPlan}
 use Rattle.valuation.specs.Satisfying.{Valuation}
-use Rattle.valuation.proofs.Families.{Places, Sat, sat-CD}
+use Rattle.valuation.specs.Places.{Places}
+use Rattle.valuation.proofs.Families.{Sat, sat-CD}
 use Rattle.valuation.proofs.Entries.{sameNumber-iff, named-places}
 use Rattle.calls.specs.Questions.{question14, question15, question23, question24}
 use Rattle.calls.specs.Calls.{instanceQuestions, instanceAnswer, instanceChecked, decodeAnswer, decodeSlice}

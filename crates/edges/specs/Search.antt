@@ -5,8 +5,7 @@ use mathlib.Core.Bool.{Bool, _&&_, _||_}
 use Prim.Native.Nat.{ℕ, _+_, _≤_}
 use lib.ListN.{length}
 use lib.Dec.{ltb, eqb}
-use Rattle.instance.specs.Instance.{instance, edges, lowEnd, highEnd}
-use Rattle.instance.proofs.Graph.{Edges}
+use Rattle.instance.specs.Instance.{instance, edges, lowEnd, highEnd, Edges}
 
 -- the bytes hold e edges, each proper, in rising order
 pub record Searchable (b : List ℕ) (e : ℕ) : Type 0 where

@@ -14,7 +14,8 @@ use Rattle.lists.proofs.Loops.{for-length}
 use Rattle.lists.proofs.Blocks.{for1-length, place-lt}
 use Rattle.instance.specs.declared.Sizes.{Sizes}
 use Rattle.formula.specs.Variables.{variableCount}
-use Rattle.formula.proofs.Limits.{Limits, variables-most}
+use Rattle.formula.specs.Limits.{Limits}
+use Rattle.formula.proofs.Limits.{variables-most}
 
 module _ {A : Type 0} where
   pub filled-next : (f : ℕ → A) (z l : List A) (v : ℕ) (x : A) → z ≡ filled (for v λ u. f u ∷ []) l → v < length l → x ≡ f v

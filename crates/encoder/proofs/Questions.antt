@@ -12,8 +12,8 @@ use Rattle.lists.specs.Slice.{filled}
 use Rattle.lists.proofs.Tests.{and-iff, eqb-iff, leb-iff}
 use Rattle.lists.proofs.Loops.{unless-nil, unless-all}
 use Rattle.answers.specs.declared.Answer.{Answer}
-use Rattle.answers.specs.Answers.{Question, refuse, accept, decide, lent}
-use Rattle.answers.proofs.Laws.{clear, numbered, clear-iff, numbered-second, decide-iff, decide-count, decide-after, ask-yes, ask-no, lent-accepted, lent-refused}
+use Rattle.answers.specs.Answers.{Question, refuse, accept, decide, lent, clear}
+use Rattle.answers.proofs.Laws.{numbered, clear-iff, numbered-second, decide-iff, decide-count, decide-after, ask-yes, ask-no, lent-accepted, lent-refused}
 use Rattle.instance.specs.declared.Sizes.{Sizes}
 use Rattle.instance.specs.declared.Checked.{Checked}
 use Rattle.instance.specs.Instance.{Instance, instance}

@@ -16,7 +16,7 @@ ghost use lib.IntN.{pos, negℤ};
 ghost use Rattle.lists.specs.Loop.{for};
 ghost use Rattle.lists.specs.Slice.{filled};
 ghost use Rattle.formula.specs.Variables.{X, ¬X, variableCount};
-ghost use Rattle.formula.proofs.Limits.{Limits};
+ghost use Rattle.formula.specs.Limits.{Limits};
 ghost use Rattle.answers.specs.Answers.{decide};
 ghost use Rattle.plan.specs.Plan.{planBytes};
 ghost use Rattle.valuation.specs.Valuation.{entryFor, planValuation};

@@ -13,7 +13,7 @@ use mir.Syntax.{w32}
 use mir.Val.{SFits, toZ, ofZ}
 use mir.Facts.{toZ-pos, toZ-ofZ}
 use Rattle.instance.specs.declared.Sizes.{Sizes}
-use Rattle.formula.proofs.Limits.{Limits}
+use Rattle.formula.specs.Limits.{Limits}
 use Rattle.valuation.specs.Valuation.{sameNumber}
 
 -- the products in X's number

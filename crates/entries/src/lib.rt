@@ -5,7 +5,7 @@ ghost use mathlib.Core.Bool.{_||_};
 ghost use Prim.Native.Nat.{suc, _≤_, _<_};
 ghost use lib.IntN.{pos, negℤ};
 ghost use Rattle.formula.specs.Variables.{index};
-ghost use Rattle.formula.proofs.Limits.{Limits};
+ghost use Rattle.formula.specs.Limits.{Limits};
 ghost use Rattle.valuation.specs.Valuation.{sameNumber};
 
 pub struct Vertex(pub usize);

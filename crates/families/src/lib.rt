@@ -8,7 +8,7 @@ ghost use mathlib.Core.Path.{_≡_};
 ghost use Prim.Native.Nat.{ℕ, _+_, _*_, _-_, _≤_, _<_};
 ghost use lib.ListN.{length, getD};
 ghost use Rattle.lists.specs.Slice.{filled};
-ghost use Rattle.formula.proofs.Limits.{Limits};
+ghost use Rattle.formula.specs.Limits.{Limits};
 ghost use Rattle.families.specs.Rows.{units, stepC, wordsC, vertexD, agentD, stepD, wordsD, agentE, vertexE, stepE, wordsE, agentF, stepF, wordsF, pairG, otherG, agentG, stepG, wordsG};
 
 // A byte as a vertex.

@@ -11,8 +11,8 @@ use Rattle.lists.proofs.Loops.{for-length, each-for, each-append, each-when}
 use Rattle.lists.proofs.Blocks.{for1-length}
 use Rattle.lists.proofs.Sums.{for-sum, sum-ext, sum-const, sum-add, above-length, others-length, when-count}
 use Rattle.instance.specs.declared.Sizes.{Sizes}
-use Rattle.instance.specs.Instance.{Instance, adjacent}
-use Rattle.instance.proofs.Graph.{Edges, degree, handshake}
+use Rattle.instance.specs.Instance.{Instance, adjacent, Edges}
+use Rattle.instance.proofs.Graph.{degree, handshake}
 use Rattle.formula.specs.Variables.{X}
 use Rattle.formula.specs.Formula.{Clause, A, B, C, D, E, F, G, clauses, line, words}
 use Rattle.formula.specs.Counts.{pairs, clausesBy, wordsBy, clauseCount, wordCount}

@@ -14,20 +14,12 @@ use Rattle.lists.proofs.Loops.{for-all, when-all, one-all, all-append, all-mem}
 use Rattle.lists.proofs.Blocks.{for1-length}
 use Rattle.lists.proofs.Sums.{ind, when-count}
 use Rattle.instance.specs.declared.Sizes.{Sizes}
-use Rattle.instance.specs.Instance.{Instance, adjacent}
-use Rattle.instance.proofs.Graph.{Edges, adjacent-iff, degree}
+use Rattle.instance.specs.Instance.{Instance, adjacent, Edges}
+use Rattle.instance.proofs.Graph.{adjacent-iff, degree}
 use Rattle.formula.specs.Variables.{X, variableCount}
 use Rattle.formula.specs.Formula.{Clause, A, B, C, D, E, F, G, clauses, line}
+use Rattle.formula.specs.Limits.{Limits}
 use Rattle.formula.specs.Counts.{pairs, clausesBy, clauseCount, wordCount}
-
--- the sizes of an accepted instance and horizon
-pub record Limits (s : Sizes) : Type 0 where
-  pub n-least : 1 ≤ s .n
-  pub n-most : s .n ≤ 64
-  pub k-least : 1 ≤ s .k
-  pub k-most : s .k ≤ 16
-  pub e-most : s .e ≤ 2016
-  pub m-most : s .m ≤ 32
 
 module _ (s : Sizes) (w : Limits s) where
   open Sizes s using (n, k, e, m)

@@ -1,3 +1,4 @@
 pub mod Variables
 pub mod Formula
 pub mod Counts
+pub mod Limits

@@ -15,7 +15,8 @@ use Rattle.instance.specs.declared.Sizes.{Sizes}
 use Rattle.formula.specs.Variables.{X, ¬X}
 use Rattle.formula.specs.Formula.{line}
 use Rattle.formula.specs.Counts.{pairs}
-use Rattle.formula.proofs.Limits.{Limits, pairs-most}
+use Rattle.formula.specs.Limits.{Limits}
+use Rattle.formula.proofs.Limits.{pairs-most}
 use Rattle.clauses.specs.Lines.{somewhere, nearby, onward}
 use Rattle.clauses.proofs.Laws.{somewhere-length}
 use Rattle.families.specs.Rows.{beside, units, stepC, vertexD, agentD, agentE, vertexE, agentF, pairG, otherG, agentG}

@@ -6,7 +6,7 @@ use instance::Checked;
 use instance::Sizes;
 ghost use Prim.Native.Nat.{ℕ, _*_, _≤_, _<_};
 ghost use lib.ListN.{length, getD};
-ghost use Rattle.formula.proofs.Limits.{Limits};
+ghost use Rattle.formula.specs.Limits.{Limits};
 ghost use Rattle.calls.specs.Accepted.{Accepted};
 ghost use Rattle.formula_program.specs.Room.{Room};
 

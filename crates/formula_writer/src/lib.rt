@@ -9,7 +9,7 @@ ghost use Prim.Native.Nat.{ℕ, _+_, _≤_, _<_};
 ghost use lib.ListN.{length, getD};
 ghost use Rattle.lists.specs.Slice.{filled};
 ghost use Rattle.formula.specs.Formula.{words};
-ghost use Rattle.formula.proofs.Limits.{Limits};
+ghost use Rattle.formula.specs.Limits.{Limits};
 ghost use Rattle.families.specs.Rows.{units, wordsC, wordsD, wordsE, wordsF, wordsG};
 ghost use Rattle.calls.specs.Accepted.{Accepted, instanceOf};
 ghost use Rattle.calls.specs.Calls.{writeAnswer, writeSlice};

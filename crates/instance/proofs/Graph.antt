@@ -11,7 +11,7 @@ use Rattle.lists.specs.Loop.{sum}
 use Rattle.lists.proofs.Tests.{and-iff, or-iff, eqb-iff, some-iff}
 use Rattle.lists.proofs.Sums.{ind, ind-and, ind-or, sum-ext, sum-const, sum-mul, sum-add, sum-swap, sum-one, some-count}
 use Rattle.instance.specs.declared.Sizes.{Sizes}
-use Rattle.instance.specs.Instance.{Instance, joins, adjacent, Edge}
+use Rattle.instance.specs.Instance.{Instance, joins, adjacent, Edge, Edges}
 
 lt-irrefl′ : {a b : ℕ} → a ≡ b → a < b → ⊥
 lt-irrefl′ p h = omega arith
@@ -19,11 +19,6 @@ lt-irrefl′ p h = omega arith
 module _ (I : Instance) where
   open Instance I using (sizes, low, high)
   open Sizes sizes using (n, e)
-
-  -- what questions 6 and 7 say of the edges
-  pub record Edges : Type 0 where
-    pub ends : (j : ℕ) → j < e → (low j < high j) × (high j < n)
-    pub order : (i : ℕ) → suc i < e → (low i < low (suc i)) ⊎ ((low i ≡ low (suc i)) × (high i < high (suc i)))
 
   -- how many neighbours v has
   abbrev pub degree : ℕ → ℕ
@@ -48,7 +43,7 @@ module _ (I : Instance) where
         (j, l, or-iff (ends? v w j) _ .1 (⊎-elim (λ x. inl (ends?-iff v w j .1 x)) (λ x. inr (ends?-iff w v j .1 x)) t))),
   )
 
-  module _ (g : Edges) where
+  module _ (g : Edges I) where
     rising : (i j : ℕ) → i < j → j < e → (low i < low j) ⊎ ((low i ≡ low j) × (high i < high j))
     rising i zero l r = absurd (not-suc-le-zero l)
     rising i (suc j) l r =

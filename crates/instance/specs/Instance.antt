@@ -3,7 +3,7 @@ use mathlib.Core.Path.{_≡_}
 use mathlib.Core.Logic.{_⊎_}
 use mathlib.Core.List.{List}
 use mathlib.Core.Bool.{Bool, _&&_, _||_}
-use Prim.Native.Nat.{ℕ, _+_, _*_, _<_}
+use Prim.Native.Nat.{ℕ, suc, _+_, _*_, _<_}
 use lib.ListN.{getD, take, drop, replicate}
 use lib.Dec.{eqb}
 use Rattle.lists.specs.Loop.{some}
@@ -81,7 +81,7 @@ unchecked = record { sizes = record { n = 0; k = 0; e = 0; m = 0 }; starts = rep
 
 module _ (I : Instance) where
   open Instance I using (sizes, low, high)
-  open Sizes sizes using (e)
+  open Sizes sizes using (n, e)
 
   -- edge j has the ends v and w, in this order or the other
   abbrev pub joins : ℕ → ℕ → ℕ → Bool
@@ -94,3 +94,8 @@ module _ (I : Instance) where
   -- the same as a proposition
   abbrev pub Edge : ℕ → ℕ → Type 0
   Edge v w = (j : ℕ) × (j < e) × (((low j ≡ v) × (high j ≡ w)) ⊎ ((low j ≡ w) × (high j ≡ v)))
+
+  -- what questions 6 and 7 say of the edges
+  pub record Edges : Type 0 where
+    pub ends : (j : ℕ) → j < e → (low j < high j) × (high j < n)
+    pub order : (i : ℕ) → suc i < e → (low i < low (suc i)) ⊎ ((low i ≡ low (suc i)) × (high i < high (suc i)))

@@ -16,9 +16,9 @@ use Rattle.lists.proofs.Tests.{and-iff, eqb-iff, leb-iff}
 use Rattle.lists.proofs.Loops.{unless-nil, unless-all}
 use Rattle.lists.proofs.Slices.{filled-set}
 use Rattle.answers.specs.declared.Answer.{Answer}
-use Rattle.answers.specs.Answers.{Question, refuse, accept, decide}
+use Rattle.answers.specs.Answers.{Question, refuse, accept, decide, clear}
 use Rattle.answers.specs.Fault.{FirstFault}
-use Rattle.answers.proofs.Laws.{clear, clear-iff, decide-iff, decide-front, decide-after, ask-no, fault-pass, fault-stop, byNumber-accepted, byNumber-refused}
+use Rattle.answers.proofs.Laws.{clear-iff, decide-iff, decide-front, decide-after, ask-no, fault-pass, fault-stop, byNumber-accepted, byNumber-refused}
 use Rattle.instance.specs.Instance.{agents, edges, startOf, goalOf, instance, checked, unchecked}
 use Rattle.calls.specs.Questions.{question1, question2, question3, question4, question5, question6, question7, question8, question9, question10, properEdge, laterEdge, newVertex}
 use Rattle.calls.specs.Calls.{instanceQuestions, instanceAnswer, instanceChecked}

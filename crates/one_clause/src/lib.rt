@@ -17,7 +17,7 @@ ghost use Rattle.instance.specs.Instance.{Instance};
 ghost use Rattle.formula.specs.Variables.{X};
 ghost use Rattle.formula.specs.Formula.{A, B, C, D, E, F, G, clauses, line};
 ghost use Rattle.formula.specs.Counts.{pairs, clausesBy, clauseCount};
-ghost use Rattle.formula.proofs.Limits.{Limits};
+ghost use Rattle.formula.specs.Limits.{Limits};
 ghost use Rattle.calls.specs.Accepted.{Accepted, instanceOf};
 ghost use Rattle.calls.specs.Calls.{clauseAnswer, clauseSlice};
 ghost use Rattle.one_clause.specs.Spot.{family, Stands, PairAt, Puts};

@@ -13,9 +13,9 @@ use Rattle.lists.specs.Loop.{for, unless, all}
 use Rattle.lists.proofs.Tests.{and-iff, eqb-iff}
 use Rattle.lists.proofs.Loops.{for-all, for-split, all-append, unless-all}
 use Rattle.answers.specs.declared.Answer.{Answer}
-use Rattle.answers.specs.Answers.{Question, refuse, accept, decide}
+use Rattle.answers.specs.Answers.{Question, refuse, accept, decide, clear}
 use Rattle.answers.specs.Fault.{FirstFault}
-use Rattle.answers.proofs.Laws.{clear, numbered, decide-iff, decide-count, decide-after, decide-front, fault-pass, fault-stop, ask-yes, ask-no}
+use Rattle.answers.proofs.Laws.{numbered, decide-iff, decide-count, decide-after, decide-front, fault-pass, fault-stop, ask-yes, ask-no}
 use Rattle.instance.specs.declared.Sizes.{Sizes}
 use Rattle.instance.specs.declared.Checked.{Checked}
 use Rattle.instance.specs.Instance.{Instance, instance}

@@ -3,7 +3,7 @@ use Prim.Native.Nat.{ℕ, _+_, _*_, _-_, _/_, _≤_, _<_}
 use native.Mathlib.Nat.{mul-le-mul}
 use native.Mathlib.Omega.{arith}
 use Rattle.instance.specs.declared.Sizes.{Sizes}
-use Rattle.formula.proofs.Limits.{Limits}
+use Rattle.formula.specs.Limits.{Limits}
 
 -- cells: times and agents; squares: times and vertices; moves: steps and agents
 pub record Products (s : Sizes) : Type 0 where

@@ -23,7 +23,7 @@ use Rattle.formula.specs.Variables.{Literal, X, ¬X, index}
 use Rattle.formula.specs.Formula.{Clause}
 use Rattle.valuation.specs.Valuation.{sameNumber, true?, satisfied?, named}
 use Rattle.valuation.specs.Satisfying.{Valuation}
-use Rattle.valuation.proofs.Families.{Places}
+use Rattle.valuation.specs.Places.{Places}
 use Rattle.valuation.proofs.Entries.{sameNumber-iff, true-yes, true-no}
 use Rattle.satisfaction.specs.Blocks.{Fault, Found, units, anyVertex, someVertex, vertexPairs, agentPairs, follows, others, crossings}
 use Rattle.satisfaction.proofs.Laws.{fault-all, for-stop, singles, pairs-none, pairs-one, pairs-two}

@@ -19,7 +19,8 @@ use Rattle.formula.specs.Variables.{X}
 use Rattle.formula.specs.Formula.{Clause, A, B, C, D, E, F, G, clauses}
 use Rattle.valuation.specs.Valuation.{true?, satisfied?, named}
 use Rattle.valuation.specs.Satisfying.{Valuation}
-use Rattle.valuation.proofs.Families.{Places, Sat}
+use Rattle.valuation.specs.Places.{Places}
+use Rattle.valuation.proofs.Families.{Sat}
 use Rattle.valuation.proofs.Entries.{named-places}
 use Rattle.calls.specs.Accepted.{Accepted, instanceOf}
 use Rattle.calls.proofs.Accepted.{sizes-same, start-at, goal-at, sound-known}

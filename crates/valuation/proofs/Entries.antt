@@ -21,7 +21,8 @@ use Rattle.formula.specs.Formula.{C, D}
 use Rattle.plan.specs.Plan.{place}
 use Rattle.valuation.specs.Valuation.{sameNumber, true?, named, namedPlan, entryFor, planValuation}
 use Rattle.valuation.specs.Satisfying.{Valuation}
-use Rattle.valuation.proofs.Families.{Places, Sat}
+use Rattle.valuation.specs.Places.{Places}
+use Rattle.valuation.proofs.Families.{Sat}
 use Rattle.formula.specs.Variables as variables
 
 pub sameNumber-iff : (x y : ℤ) → T (sameNumber x y) ↔ (x ≡ y)
@@ -94,7 +95,7 @@ module _ (s : Sizes) where
   module _ (es : List ℤ) where
     pub named-size : length (namedPlan s es) ≡ suc m * k
     unfolding namedPlan
-    named-size = for2-length (suc m) k (named s es)
+    named-size = for2-length (suc m) k _
 
     pub named-at : (t a : ℕ) → t < suc m → a < k → place s (namedPlan s es) t a ≡ named s es t a
     unfolding namedPlan

@@ -17,6 +17,7 @@ use Rattle.instance.specs.Instance.{Instance, adjacent, Edge}
 use Rattle.instance.proofs.Graph.{adjacent-iff}
 use Rattle.formula.specs.Variables.{Literal}
 use Rattle.formula.specs.Formula.{Clause, A, B, C, D, E, F, G, clauses}
+use Rattle.valuation.specs.Places.{Places}
 use Rattle.plan.specs.Passing.{Leads}
 use Rattle.formula.specs.Variables as variables
 
@@ -27,14 +28,8 @@ Sat h cs = T (all (any h) cs)
 module _ (s : Sizes) where
   open Sizes s using (n, k, m)
 
-  -- the truth h puts agent a at P t a at time t, and nowhere else
-  pub record Places (h : Literal → Bool) (P : ℕ → ℕ → ℕ) : Type 0 where
-    pub inside : (t a : ℕ) → t < suc m → a < k → P t a < n
-    pub here : (t a v : ℕ) → t < suc m → a < k → v < n → T (h (variables.X s t a v)) ↔ (v ≡ P t a)
-    pub elsewhere : (t a v : ℕ) → t < suc m → a < k → v < n → T (h (variables.¬X s t a v)) ↔ (v ≢ P t a)
-
-  module _ (h : Literal → Bool) (P Q : ℕ → ℕ → ℕ) (c : Places h P) where
-    pub places-cong : ((t a : ℕ) → t < suc m → a < k → P t a ≡ Q t a) → Places h Q
+  module _ (h : Literal → Bool) (P Q : ℕ → ℕ → ℕ) (c : Places s h P) where
+    pub places-cong : ((t a : ℕ) → t < suc m → a < k → P t a ≡ Q t a) → Places s h Q
     places-cong e =
         record {
           inside = λ t a p q. rw (e t a p q) at (c .inside t a p q);
@@ -42,7 +37,7 @@ module _ (s : Sizes) where
           elsewhere = λ t a v p q r. rw (e t a p q) at (c .elsewhere t a v p q r);
         }
 
-    pub places-unique : Places h Q → (t a : ℕ) → t < suc m → a < k → P t a ≡ Q t a
+    pub places-unique : Places s h Q → (t a : ℕ) → t < suc m → a < k → P t a ≡ Q t a
     places-unique d t a p q = d .here t a (P t a) p q (c .inside t a p q) .0 (c .here t a (P t a) p q (c .inside t a p q) .1 refl)
 
 module _ (I : Instance) where

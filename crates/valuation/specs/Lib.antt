@@ -1,2 +1,3 @@
 pub mod Valuation
 pub mod Satisfying
+pub mod Places

@@ -5,8 +5,8 @@ use native.Mathlib.Omega.{arith}
 use lib.Dec.{T}
 use borrow.Author.Needs.{needs}
 use Rattle.lists.specs.Loop.{for, all}
-use Rattle.answers.specs.Answers.{decide}
-use Rattle.answers.proofs.Laws.{clear, decide-count}
+use Rattle.answers.specs.Answers.{decide, clear}
+use Rattle.answers.proofs.Laws.{decide-count}
 use Rattle.calls.specs.Accepted.{instanceOf}
 use Rattle.plan_check.specs.Steps.{stepQuestions}
 use Rattle.plan_check.proofs.Laws.{step-stop, step-more, numbered-step}
