@@ -67,3 +67,38 @@ module _ {A : Type 0} where
     -- where there is room for all n turns, there is for turn i
     pub for-room : {i n : ℕ} → i < n → length (for i g) + length (g i) ≤ length (for n g)
     for-room {i} {n} h = omega (arith, for-grows (suc i) n h, length-append (for i g) (g i))
+
+-- ---- the invariant of such a loop, over a slice that held s: turn i is next, and it writes at `at`
+pub record Filling {A : Type 0} (g : ℕ → List A) (s : List A) (i at : ℕ) (f : List A) : Type 0 where
+  pub fits : at ≤ length s
+  pub same : length f ≡ length s
+  pub here : at ≡ length (for i g)
+  pub slice : f ≡ filled (for i g) s
+
+module _ {A : Type 0} {g : ℕ → List A} {s f : List A} {i at : ℕ} where
+  pub filling-none : i ≡ 0 → at ≡ 0 → f ≡ s → Filling g s i at f
+  filling-none ei ea ef =
+      rw (ei, ea, ef) (record { fits = omega arith; same = refl; here = refl; slice = sym (filled-nil s) })
+
+  module _ (w : Filling g s i at f) where
+    -- turn i has room behind what is written
+    pub filling-room : {n : ℕ} → i < n → length (for n g) ≤ length s → length (g i) ≤ length f - at
+    filling-room l h = omega (arith, for-room g l, w .here, w .same)
+
+    -- the turn: a call on `&mut f[at..]` left ys there and answered r
+    pub filling-turn : {n r : ℕ} {ys : List A} → i < n → length (for n g) ≤ length s → r ≡ length (g i)
+        → ys ≡ filled (g i) (take (length f - at) (drop at f)) → Filling g s (i + 1) (at + r) (putMid at (length f - at) f ys)
+    filling-turn {n} {r} {ys} l h er ey =
+        let e : putMid at (length f - at) f ys ≡ filled (for (i + 1) g) s = for-turn g f s ys i at (w .slice) (w .here) (w .fits) ey in
+        let q : at + r ≡ length (for (i + 1) g) = for-next g i at r (w .here) er in
+        let room : at + r ≤ length s = omega (arith, for-room g l, w .here) in
+        record {
+          fits = room;
+          same = ap length e ∙ filled-length (for (i + 1) g) s (omega arith);
+          here = q;
+          slice = e;
+        }
+
+    -- all n turns
+    pub filling-done : {n : ℕ} → i ≡ n → (at ≡ length (for n g)) × (f ≡ filled (for n g) s)
+    filling-done e = (w .here ∙ ap (λ (j : ℕ). length (for j g)) e, w .slice ∙ ap (λ (j : ℕ). filled (for j g) s) e)

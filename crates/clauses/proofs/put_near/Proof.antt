@@ -1,28 +1,27 @@
 -- `clauses::put_near` meets its contract. The invariant: the turns so far have written their blocks one behind another, and `at` is the number of their words. Assumes nothing.
+use mathlib.Core.Path.{_≡_, refl}
 use mathlib.Core.List.{List, [], _∷_}
-use mathlib.Core.Path.{_≡_, refl, sym, _∙_, ap}
-use Prim.Native.Nat.{ℕ, _-_, _≤_}
+use Prim.Native.Nat.{ℕ, _-_, _≤_, _<_}
 use native.Mathlib.Omega.{arith}
 use mir.Facts.{toZ-ofZ}
 use borrow.Author.Needs.{sfits-of, needs}
 use lib.ListN.{length, length-take, length-drop}
 use lib.IntN.{ℤ}
-use Rattle.lists.specs.Loop.{for, when}
-use Rattle.lists.proofs.Slices.{filled-nil, for-turn, for-next, for-room}
+use Rattle.lists.specs.Loop.{when}
+use Rattle.lists.proofs.Slices.{Filling, filling-none, filling-room, filling-turn, filling-done}
 use Rattle.formula.specs.Variables.{X}
-use Rattle.lists.specs.Slice.{filled}
 use Rattle.clauses.specs.Lines.{marked, nearby}
 use Rattle.clauses.proofs.put_near.Statement.{statement}
 use Rattle.clauses.proofs.put_near.Tie as tie
 
 abbrev Inv-loop : tie.InvT-loop
-Inv-loop f₀ s near t a n at₀ w₀ f at w = (w ≤ n) × ((at ≤ length f₀) × ((length f ≡ length f₀) × ((at ≡ length (for w (λ u. when (marked near u) (X s (t .0) (a .0) u ∷ [])))) × (f ≡ filled (for w (λ u. when (marked near u) (X s (t .0) (a .0) u ∷ []))) f₀))))
+Inv-loop f₀ s near t a n at₀ w₀ f at w = (w ≤ n) × Filling (λ u. when (marked near u) (X s (t .0) (a .0) u ∷ [])) f₀ w at f
 
 abbrev μ-loop : tie.MeasureT-loop
 μ-loop f₀ s near t a n at₀ w₀ f at w = n - w
 
 loop-holds : tie.Need-loop-holds Inv-loop μ-loop
-loop-holds c = (omega arith, (omega arith, (refl, (refl, sym (filled-nil _)))))
+loop-holds c = (omega arith, filling-none refl refl refl)
 
 shared-slice-read-test : tie.Need-shared-slice-read-test Inv-loop μ-loop
 shared-slice-read-test c = search needs
@@ -47,16 +46,16 @@ unfolding nearby
 put-when-requires c κs =
     simp (length-take, length-drop) (
     let g : ℕ → List ℤ = λ u. when (marked (c .before .before .before .before .before .before .args .near .now) u) (X (c .before .before .before .before .before .before .args .s) (c .before .before .before .before .before .before .args .t .0) (c .before .before .before .before .before .before .args .a .0) u ∷ []) in
-    let r = for-room g (c .before .before .before .loop-test .taken) in
-    let h = c .before .before .before .before .before .before .pre .1 .1 in
+    let lt : c .before .before .before .before .loop .w < c .before .before .before .before .before .before .args .s .n = omega arith in
+    let room = filling-room {g = g} (c .before .before .before .before .loop .inv .1) lt (c .before .before .before .before .before .before .pre .1 .1) in
     omega arith)
 
 add-at : tie.Need-add-at Inv-loop μ-loop
 unfolding nearby
 add-at c =
     let g : ℕ → List ℤ = λ u. when (marked (c .before .before .before .before .before .before .before .before .args .near .now) u) (X (c .before .before .before .before .before .before .before .before .args .s) (c .before .before .before .before .before .before .before .before .args .t .0) (c .before .before .before .before .before .before .before .before .args .a .0) u ∷ []) in
-    let r = for-room g (c .before .before .before .before .before .loop-test .taken) in
-    let h = c .before .before .before .before .before .before .before .before .pre .1 .1 in
+    let lt : c .before .before .before .before .before .before .loop .w < c .before .before .before .before .before .before .before .before .args .s .n = omega arith in
+    let room = filling-room {g = g} (c .before .before .before .before .before .before .loop .inv .1) lt (c .before .before .before .before .before .before .before .before .pre .1 .1) in
     let q : c .before .put-when .result ≡ length (g (c .before .before .before .before .before .before .loop .w)) = rw (toZ-ofZ (sfits-of (c .before .before .positive .ok)), c .before .before .positive .ensures) at (c .before .put-when .ensures .0) in omega arith
 
 add-w : tie.Need-add-w Inv-loop μ-loop
@@ -68,38 +67,15 @@ loop-less c = search needs
 loop-again : tie.Need-loop-again Inv-loop μ-loop
 unfolding nearby
 loop-again c =
-    let g : ℕ → List ℤ = λ u. when (marked (c .before .before .before .before .before .before .before .before .args .near .now) u) (X (c .before .before .before .before .before .before .before .before .args .s) (c .before .before .before .before .before .before .before .before .args .t .0) (c .before .before .before .before .before .before .before .before .args .a .0) u ∷ []) in
-    let r = for-room g (c .before .before .before .before .before .loop-test .taken) in
-    let h = c .before .before .before .before .before .before .before .before .pre .1 .1 in
-    let l = c .before .before .before .before .before .before .loop in
-    let q : c .before .put-when .result ≡ length (g (l .w)) = rw (toZ-ofZ (sfits-of (c .before .before .positive .ok)), c .before .before .positive .ensures) at (c .before .put-when .ensures .0) in
-    (
-      omega arith,
-      (
-        omega arith,
-        (
-          c .f .given .1 ∙ l .inv .1 .1 .0,
-          (
-            for-next g (l .w) (l .at) (c .before .put-when .result) (l .inv .1 .1 .1 .0) q,
-            for-turn g (l .f) (c .before .before .before .before .before .before .before .before .args .f .now) (c .before .put-when .last .0) (l .w) (l .at) (l .inv .1 .1 .1 .1) (l .inv .1 .1 .1 .0) (omega arith) (rw (toZ-ofZ (sfits-of (c .before .before .positive .ok)), c .before .before .positive .ensures) at (c .before .put-when .ensures .1)),
-          ),
-        ),
-      ),
-    )
+    let lt : c .before .before .before .before .before .before .loop .w < c .before .before .before .before .before .before .before .before .args .s .n = omega arith in
+    (omega arith, filling-turn {g = λ u. when (marked (c .before .before .before .before .before .before .before .before .args .near .now) u) (X (c .before .before .before .before .before .before .before .before .args .s) (c .before .before .before .before .before .before .before .before .args .t .0) (c .before .before .before .before .before .before .before .before .args .a .0) u ∷ [])} (c .before .before .before .before .before .before .loop .inv .1) lt (c .before .before .before .before .before .before .before .before .pre .1 .1) (rw (toZ-ofZ (sfits-of (c .before .before .positive .ok)), c .before .before .positive .ensures) at (c .before .put-when .ensures .0)) (rw (toZ-ofZ (sfits-of (c .before .before .positive .ok)), c .before .before .positive .ensures) at (c .before .put-when .ensures .1)))
 
 same-length : tie.Need-same-length Inv-loop μ-loop
-same-length c = c .before .loop .inv .1 .1 .0
+same-length c = c .before .loop .inv .1 .same
 
 returns : tie.Need-returns Inv-loop μ-loop
 unfolding nearby
-returns c =
-    let g : ℕ → List ℤ = λ u. when (marked (c .before .before .before .args .near .now) u) (X (c .before .before .before .args .s) (c .before .before .before .args .t .0) (c .before .before .before .args .a .0) u ∷ []) in
-    let l = c .before .loop in
-    let e : l .w ≡ c .before .before .before .args .s .n = omega arith in
-    (
-      l .inv .1 .1 .1 .0 ∙ ap (λ (j : ℕ). length (for j g)) e,
-      l .inv .1 .1 .1 .1 ∙ ap (λ (j : ℕ). filled (for j g) (c .before .before .before .args .f .now)) e,
-    )
+returns c = filling-done {g = λ u. when (marked (c .before .before .before .args .near .now) u) (X (c .before .before .before .args .s) (c .before .before .before .args .t .0) (c .before .before .before .args .a .0) u ∷ [])} (c .before .loop .inv .1) {n = c .before .before .before .args .s .n} (omega arith)
 
 pub put-near-spec : {M : Type 1} → statement M
 put-near-spec =

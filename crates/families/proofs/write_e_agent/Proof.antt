@@ -1,5 +1,5 @@
 -- `families::write_e_agent` meets its contract. The invariant: the turns so far have written their blocks one behind another, and `at` is the number of their words. Assumes nothing.
-use mathlib.Core.Path.{_≡_, refl, sym, _∙_, ap}
+use mathlib.Core.Path.{_≡_, refl}
 use mathlib.Core.List.{List, [], _∷_}
 use Prim.Native.Nat.{ℕ, _+_, _-_, _≤_, _<_}
 use native.Mathlib.Omega.{arith}
@@ -7,9 +7,7 @@ use mir.Facts.{toZ-ofZ}
 use borrow.Author.Needs.{sfits-of, needs}
 use lib.ListN.{length, length-take, length-drop}
 use lib.IntN.{ℤ}
-use Rattle.lists.specs.Loop.{for}
-use Rattle.lists.specs.Slice.{filled}
-use Rattle.lists.proofs.Slices.{filled-nil, for-turn, for-next, for-room}
+use Rattle.lists.proofs.Slices.{Filling, filling-none, filling-room, filling-turn, filling-done}
 use Rattle.formula.specs.Variables.{¬X}
 use Rattle.formula.specs.Formula.{line}
 use Rattle.families.specs.Rows.{agentE}
@@ -17,7 +15,7 @@ use Rattle.families.proofs.write_e_agent.Statement.{statement}
 use Rattle.families.proofs.write_e_agent.Tie as tie
 
 abbrev Inv-loop : tie.InvT-loop
-Inv-loop f₀ s t v end low x at₀ i₀ f at i = (i ≤ end) × ((at ≤ length f₀) × ((length f ≡ length f₀) × ((at ≡ length (for i (λ j. line (¬X s (t .0) low (v .0) ∷ ¬X s (t .0) (low + 1 + j) (v .0) ∷ [])))) × (f ≡ filled (for i (λ j. line (¬X s (t .0) low (v .0) ∷ ¬X s (t .0) (low + 1 + j) (v .0) ∷ []))) f₀))))
+Inv-loop f₀ s t v end low x at₀ i₀ f at i = (i ≤ end) × Filling (λ j. line (¬X s (t .0) low (v .0) ∷ ¬X s (t .0) (low + 1 + j) (v .0) ∷ [])) f₀ i at f
 
 abbrev μ-loop : tie.MeasureT-loop
 μ-loop f₀ s t v end low x at₀ i₀ f at i = end - i
@@ -32,7 +30,7 @@ negative-requires : tie.Need-negative-requires Inv-loop μ-loop
 negative-requires c κs = search needs
 
 loop-holds : tie.Need-loop-holds Inv-loop μ-loop
-loop-holds c = (omega arith, (omega arith, (refl, (refl, sym (filled-nil _)))))
+loop-holds c = (omega arith, filling-none refl refl refl)
 
 mul-put-pair : tie.Need-mul-put-pair Inv-loop μ-loop
 mul-put-pair c = search needs
@@ -61,8 +59,7 @@ put-pair-requires c κs =
     simp (length-take, length-drop) (
     let g : ℕ → List ℤ = λ i. line (¬X (c .before .before .before .before .before .before .before .args .s) (c .before .before .before .before .before .before .before .args .t .0) (c .before .before .before .before .before .before .before .args .a .0) (c .before .before .before .before .before .before .before .args .v .0) ∷ ¬X (c .before .before .before .before .before .before .before .args .s) (c .before .before .before .before .before .before .before .args .t .0) (c .before .before .before .before .before .before .before .args .a .0 + 1 + i) (c .before .before .before .before .before .before .before .args .v .0) ∷ []) in
     let lt : c .before .before .before .loop .i < c .before .before .before .before .before .before .before .args .s .k - c .before .before .before .before .before .before .before .args .a .0 - 1 = omega arith in
-    let r = for-room g lt in
-    let h = c .before .before .before .before .before .before .before .pre .1 .1 in
+    let room = filling-room {g = g} (c .before .before .before .loop .inv .1) lt (c .before .before .before .before .before .before .before .pre .1 .1) in
     search needs)
 
 add-at : tie.Need-add-at Inv-loop μ-loop
@@ -70,8 +67,7 @@ unfolding agentE
 add-at c =
     let g : ℕ → List ℤ = λ i. line (¬X (c .before .before .before .before .before .before .before .before .before .args .s) (c .before .before .before .before .before .before .before .before .before .args .t .0) (c .before .before .before .before .before .before .before .before .before .args .a .0) (c .before .before .before .before .before .before .before .before .before .args .v .0) ∷ ¬X (c .before .before .before .before .before .before .before .before .before .args .s) (c .before .before .before .before .before .before .before .before .before .args .t .0) (c .before .before .before .before .before .before .before .before .before .args .a .0 + 1 + i) (c .before .before .before .before .before .before .before .before .before .args .v .0) ∷ []) in
     let lt : c .before .before .before .before .before .loop .i < c .before .before .before .before .before .before .before .before .before .args .s .k - c .before .before .before .before .before .before .before .before .before .args .a .0 - 1 = omega arith in
-    let r = for-room g lt in
-    let h = c .before .before .before .before .before .before .before .before .before .pre .1 .1 in
+    let room = filling-room {g = g} (c .before .before .before .before .before .loop .inv .1) lt (c .before .before .before .before .before .before .before .before .before .pre .1 .1) in
     let q : c .before .put-pair .result ≡ length (g (c .before .before .before .before .before .loop .i)) = c .before .put-pair .ensures .0 in omega arith
 
 add-i : tie.Need-add-i Inv-loop μ-loop
@@ -83,39 +79,15 @@ loop-less c = search needs
 loop-again : tie.Need-loop-again Inv-loop μ-loop
 unfolding agentE
 loop-again c =
-    let g : ℕ → List ℤ = λ i. line (¬X (c .before .before .before .before .before .before .before .before .before .args .s) (c .before .before .before .before .before .before .before .before .before .args .t .0) (c .before .before .before .before .before .before .before .before .before .args .a .0) (c .before .before .before .before .before .before .before .before .before .args .v .0) ∷ ¬X (c .before .before .before .before .before .before .before .before .before .args .s) (c .before .before .before .before .before .before .before .before .before .args .t .0) (c .before .before .before .before .before .before .before .before .before .args .a .0 + 1 + i) (c .before .before .before .before .before .before .before .before .before .args .v .0) ∷ []) in
     let lt : c .before .before .before .before .before .loop .i < c .before .before .before .before .before .before .before .before .before .args .s .k - c .before .before .before .before .before .before .before .before .before .args .a .0 - 1 = omega arith in
-    let r = for-room g lt in
-    let h = c .before .before .before .before .before .before .before .before .before .pre .1 .1 in
-    let l = c .before .before .before .before .before .loop in
-    let q : c .before .put-pair .result ≡ length (g (l .i)) = c .before .put-pair .ensures .0 in
-    (
-      omega arith,
-      (
-        omega arith,
-        (
-          c .f .given .1 ∙ l .inv .1 .1 .0,
-          (
-            for-next g (l .i) (l .at) (c .before .put-pair .result) (l .inv .1 .1 .1 .0) q,
-            for-turn g (l .f) (c .before .before .before .before .before .before .before .before .before .args .f .now) (c .before .put-pair .last .0) (l .i) (l .at) (l .inv .1 .1 .1 .1) (l .inv .1 .1 .1 .0) (omega arith) (rw (toZ-ofZ (sfits-of (c .before .before .before .before .before .before .negative .ok)), c .before .before .before .before .before .before .negative .ensures, toZ-ofZ (sfits-of (c .before .before .negative2 .ok)), c .before .before .negative2 .ensures) at (c .before .put-pair .ensures .1)),
-          ),
-        ),
-      ),
-    )
+    (omega arith, filling-turn {g = λ i. line (¬X (c .before .before .before .before .before .before .before .before .before .args .s) (c .before .before .before .before .before .before .before .before .before .args .t .0) (c .before .before .before .before .before .before .before .before .before .args .a .0) (c .before .before .before .before .before .before .before .before .before .args .v .0) ∷ ¬X (c .before .before .before .before .before .before .before .before .before .args .s) (c .before .before .before .before .before .before .before .before .before .args .t .0) (c .before .before .before .before .before .before .before .before .before .args .a .0 + 1 + i) (c .before .before .before .before .before .before .before .before .before .args .v .0) ∷ [])} (c .before .before .before .before .before .loop .inv .1) lt (c .before .before .before .before .before .before .before .before .before .pre .1 .1) (c .before .put-pair .ensures .0) (rw (toZ-ofZ (sfits-of (c .before .before .before .before .before .before .negative .ok)), c .before .before .before .before .before .before .negative .ensures, toZ-ofZ (sfits-of (c .before .before .negative2 .ok)), c .before .before .negative2 .ensures) at (c .before .put-pair .ensures .1)))
 
 same-length : tie.Need-same-length Inv-loop μ-loop
-same-length c = c .before .loop .inv .1 .1 .0
+same-length c = c .before .loop .inv .1 .same
 
 returns : tie.Need-returns Inv-loop μ-loop
 unfolding agentE
-returns c =
-    let g : ℕ → List ℤ = λ i. line (¬X (c .before .before .before .before .before .args .s) (c .before .before .before .before .before .args .t .0) (c .before .before .before .before .before .args .a .0) (c .before .before .before .before .before .args .v .0) ∷ ¬X (c .before .before .before .before .before .args .s) (c .before .before .before .before .before .args .t .0) (c .before .before .before .before .before .args .a .0 + 1 + i) (c .before .before .before .before .before .args .v .0) ∷ []) in
-    let l = c .before .loop in
-    let e : l .i ≡ c .before .before .before .before .before .args .s .k - c .before .before .before .before .before .args .a .0 - 1 = omega arith in
-    (
-      l .inv .1 .1 .1 .0 ∙ ap (λ (j : ℕ). length (for j g)) e,
-      l .inv .1 .1 .1 .1 ∙ ap (λ (j : ℕ). filled (for j g) (c .before .before .before .before .before .args .f .now)) e,
-    )
+returns c = filling-done {g = λ i. line (¬X (c .before .before .before .before .before .args .s) (c .before .before .before .before .before .args .t .0) (c .before .before .before .before .before .args .a .0) (c .before .before .before .before .before .args .v .0) ∷ ¬X (c .before .before .before .before .before .args .s) (c .before .before .before .before .before .args .t .0) (c .before .before .before .before .before .args .a .0 + 1 + i) (c .before .before .before .before .before .args .v .0) ∷ [])} (c .before .loop .inv .1) {n = c .before .before .before .before .before .args .s .k - c .before .before .before .before .before .args .a .0 - 1} (omega arith)
 
 pub write-e-agent-spec : {M : Type 1} → statement M
 write-e-agent-spec =

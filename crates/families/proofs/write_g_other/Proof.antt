@@ -1,4 +1,4 @@
--- `families::write_g_other` meets its contract. The invariant: the turns so far have written their blocks one behind another, and `at` is the number of their words. Assumes nothing.
+-- `families::write_g_other` meets its contract. It follows from the contracts of the functions called and the laws cited. Assumes nothing.
 use mathlib.Core.Path.{refl, sym}
 use borrow.Author.Tests.{eq-eqb, ne-eqb}
 use borrow.Author.Needs.{needs}

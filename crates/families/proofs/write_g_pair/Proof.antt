@@ -1,5 +1,5 @@
 -- `families::write_g_pair` meets its contract. The invariant: the turns so far have written their blocks one behind another, and `at` is the number of their words. Assumes nothing.
-use mathlib.Core.Path.{_≡_, refl, sym, _∙_, ap}
+use mathlib.Core.Path.{_≡_, refl}
 use mathlib.Core.List.{List, [], _∷_}
 use Prim.Native.Nat.{ℕ, _+_, _-_, _≤_, _<_}
 use native.Mathlib.Omega.{arith}
@@ -7,9 +7,7 @@ use mir.Facts.{toZ-ofZ}
 use borrow.Author.Needs.{sfits-of, needs}
 use lib.ListN.{length, length-take, length-drop}
 use lib.IntN.{ℤ}
-use Rattle.lists.specs.Loop.{for}
-use Rattle.lists.specs.Slice.{filled}
-use Rattle.lists.proofs.Slices.{filled-nil, for-turn, for-next, for-room}
+use Rattle.lists.proofs.Slices.{Filling, filling-none, filling-room, filling-turn, filling-done}
 use Rattle.formula.specs.Variables.{¬X}
 use Rattle.formula.specs.Formula.{line}
 use Rattle.families.specs.Rows.{pairG}
@@ -17,7 +15,7 @@ use Rattle.families.proofs.write_g_pair.Statement.{statement}
 use Rattle.families.proofs.write_g_pair.Tie as tie
 
 abbrev Inv-loop : tie.InvT-loop
-Inv-loop f₀ s t a b end next at₀ v₀ f at v = (v ≤ end) × ((at ≤ length f₀) × ((length f ≡ length f₀) × ((at ≡ length (for v (λ v. line (¬X s (t .0) (b .0) v ∷ ¬X s (t .0 + 1) (a .0) v ∷ [])))) × (f ≡ filled (for v (λ v. line (¬X s (t .0) (b .0) v ∷ ¬X s (t .0 + 1) (a .0) v ∷ []))) f₀))))
+Inv-loop f₀ s t a b end next at₀ v₀ f at v = (v ≤ end) × Filling (λ v. line (¬X s (t .0) (b .0) v ∷ ¬X s (t .0 + 1) (a .0) v ∷ [])) f₀ v at f
 
 abbrev μ-loop : tie.MeasureT-loop
 μ-loop f₀ s t a b end next at₀ v₀ f at v = end - v
@@ -26,7 +24,7 @@ add-t10 : tie.Need-add-t10 Inv-loop μ-loop
 add-t10 c = search needs
 
 loop-holds : tie.Need-loop-holds Inv-loop μ-loop
-loop-holds c = (omega arith, (omega arith, (refl, (refl, sym (filled-nil _)))))
+loop-holds c = (omega arith, filling-none refl refl refl)
 
 mul-put-pair : tie.Need-mul-put-pair Inv-loop μ-loop
 mul-put-pair c = search needs
@@ -52,8 +50,7 @@ put-pair-requires c κs =
     simp (length-take, length-drop) (
     let g : ℕ → List ℤ = λ v. line (¬X (c .before .before .before .before .before .before .args .s) (c .before .before .before .before .before .before .args .t .0) (c .before .before .before .before .before .before .args .b .0) v ∷ ¬X (c .before .before .before .before .before .before .args .s) (c .before .before .before .before .before .before .args .t .0 + 1) (c .before .before .before .before .before .before .args .a .0) v ∷ []) in
     let lt : c .before .before .before .before .loop .v < c .before .before .before .before .before .before .args .s .n = omega arith in
-    let r = for-room g lt in
-    let h = c .before .before .before .before .before .before .pre .1 .1 in
+    let room = filling-room {g = g} (c .before .before .before .before .loop .inv .1) lt (c .before .before .before .before .before .before .pre .1 .1) in
     search needs)
 
 add-at : tie.Need-add-at Inv-loop μ-loop
@@ -61,8 +58,7 @@ unfolding pairG
 add-at c =
     let g : ℕ → List ℤ = λ v. line (¬X (c .before .before .before .before .before .before .before .before .args .s) (c .before .before .before .before .before .before .before .before .args .t .0) (c .before .before .before .before .before .before .before .before .args .b .0) v ∷ ¬X (c .before .before .before .before .before .before .before .before .args .s) (c .before .before .before .before .before .before .before .before .args .t .0 + 1) (c .before .before .before .before .before .before .before .before .args .a .0) v ∷ []) in
     let lt : c .before .before .before .before .before .before .loop .v < c .before .before .before .before .before .before .before .before .args .s .n = omega arith in
-    let r = for-room g lt in
-    let h = c .before .before .before .before .before .before .before .before .pre .1 .1 in
+    let room = filling-room {g = g} (c .before .before .before .before .before .before .loop .inv .1) lt (c .before .before .before .before .before .before .before .before .pre .1 .1) in
     let q : c .before .put-pair .result ≡ length (g (c .before .before .before .before .before .before .loop .v)) = c .before .put-pair .ensures .0 in omega arith
 
 add-v : tie.Need-add-v Inv-loop μ-loop
@@ -74,39 +70,15 @@ loop-less c = search needs
 loop-again : tie.Need-loop-again Inv-loop μ-loop
 unfolding pairG
 loop-again c =
-    let g : ℕ → List ℤ = λ v. line (¬X (c .before .before .before .before .before .before .before .before .args .s) (c .before .before .before .before .before .before .before .before .args .t .0) (c .before .before .before .before .before .before .before .before .args .b .0) v ∷ ¬X (c .before .before .before .before .before .before .before .before .args .s) (c .before .before .before .before .before .before .before .before .args .t .0 + 1) (c .before .before .before .before .before .before .before .before .args .a .0) v ∷ []) in
     let lt : c .before .before .before .before .before .before .loop .v < c .before .before .before .before .before .before .before .before .args .s .n = omega arith in
-    let r = for-room g lt in
-    let h = c .before .before .before .before .before .before .before .before .pre .1 .1 in
-    let l = c .before .before .before .before .before .before .loop in
-    let q : c .before .put-pair .result ≡ length (g (l .v)) = c .before .put-pair .ensures .0 in
-    (
-      omega arith,
-      (
-        omega arith,
-        (
-          c .f .given .1 ∙ l .inv .1 .1 .0,
-          (
-            for-next g (l .v) (l .at) (c .before .put-pair .result) (l .inv .1 .1 .1 .0) q,
-            for-turn g (l .f) (c .before .before .before .before .before .before .before .before .args .f .now) (c .before .put-pair .last .0) (l .v) (l .at) (l .inv .1 .1 .1 .1) (l .inv .1 .1 .1 .0) (omega arith) (rw (toZ-ofZ (sfits-of (c .before .before .before .negative .ok)), c .before .before .before .negative .ensures, toZ-ofZ (sfits-of (c .before .before .negative2 .ok)), c .before .before .negative2 .ensures) at (c .before .put-pair .ensures .1)),
-          ),
-        ),
-      ),
-    )
+    (omega arith, filling-turn {g = λ v. line (¬X (c .before .before .before .before .before .before .before .before .args .s) (c .before .before .before .before .before .before .before .before .args .t .0) (c .before .before .before .before .before .before .before .before .args .b .0) v ∷ ¬X (c .before .before .before .before .before .before .before .before .args .s) (c .before .before .before .before .before .before .before .before .args .t .0 + 1) (c .before .before .before .before .before .before .before .before .args .a .0) v ∷ [])} (c .before .before .before .before .before .before .loop .inv .1) lt (c .before .before .before .before .before .before .before .before .pre .1 .1) (c .before .put-pair .ensures .0) (rw (toZ-ofZ (sfits-of (c .before .before .before .negative .ok)), c .before .before .before .negative .ensures, toZ-ofZ (sfits-of (c .before .before .negative2 .ok)), c .before .before .negative2 .ensures) at (c .before .put-pair .ensures .1)))
 
 same-length : tie.Need-same-length Inv-loop μ-loop
-same-length c = c .before .loop .inv .1 .1 .0
+same-length c = c .before .loop .inv .1 .same
 
 returns : tie.Need-returns Inv-loop μ-loop
 unfolding pairG
-returns c =
-    let g : ℕ → List ℤ = λ v. line (¬X (c .before .before .before .args .s) (c .before .before .before .args .t .0) (c .before .before .before .args .b .0) v ∷ ¬X (c .before .before .before .args .s) (c .before .before .before .args .t .0 + 1) (c .before .before .before .args .a .0) v ∷ []) in
-    let l = c .before .loop in
-    let e : l .v ≡ c .before .before .before .args .s .n = omega arith in
-    (
-      l .inv .1 .1 .1 .0 ∙ ap (λ (j : ℕ). length (for j g)) e,
-      l .inv .1 .1 .1 .1 ∙ ap (λ (j : ℕ). filled (for j g) (c .before .before .before .args .f .now)) e,
-    )
+returns c = filling-done {g = λ v. line (¬X (c .before .before .before .args .s) (c .before .before .before .args .t .0) (c .before .before .before .args .b .0) v ∷ ¬X (c .before .before .before .args .s) (c .before .before .before .args .t .0 + 1) (c .before .before .before .args .a .0) v ∷ [])} (c .before .loop .inv .1) {n = c .before .before .before .args .s .n} (omega arith)
 
 pub write-g-pair-spec : {M : Type 1} → statement M
 write-g-pair-spec =

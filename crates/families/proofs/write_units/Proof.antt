@@ -1,5 +1,5 @@
 -- `families::write_units` meets its contract. The invariant: the turns so far have written their blocks one behind another, and `at` is the number of their words. Assumes nothing.
-use mathlib.Core.Path.{_≡_, refl, sym, _∙_, ap}
+use mathlib.Core.Path.{_≡_, refl}
 use mathlib.Core.List.{List, [], _∷_}
 use Prim.Native.Nat.{ℕ, _-_, _≤_, _<_}
 use native.Mathlib.Omega.{arith}
@@ -7,9 +7,7 @@ use mir.Facts.{toZ-ofZ}
 use borrow.Author.Needs.{sfits-of, needs}
 use lib.ListN.{length, length-take, length-drop, getD}
 use lib.IntN.{ℤ}
-use Rattle.lists.specs.Loop.{for}
-use Rattle.lists.specs.Slice.{filled}
-use Rattle.lists.proofs.Slices.{filled-nil, for-turn, for-next, for-room}
+use Rattle.lists.proofs.Slices.{Filling, filling-none, filling-room, filling-turn, filling-done}
 use Rattle.formula.specs.Variables.{X}
 use Rattle.formula.specs.Formula.{line}
 use Rattle.families.specs.Rows.{units}
@@ -17,13 +15,13 @@ use Rattle.families.proofs.write_units.Statement.{statement}
 use Rattle.families.proofs.write_units.Tie as tie
 
 abbrev Inv-loop : tie.InvT-loop
-Inv-loop f₀ s t row end at₀ a₀ f at a = (a ≤ end) × ((at ≤ length f₀) × ((length f ≡ length f₀) × ((at ≡ length (for a (λ a. line (X s (t .0) a (getD row a 0) ∷ [])))) × (f ≡ filled (for a (λ a. line (X s (t .0) a (getD row a 0) ∷ []))) f₀))))
+Inv-loop f₀ s t row end at₀ a₀ f at a = (a ≤ end) × Filling (λ a. line (X s (t .0) a (getD row a 0) ∷ [])) f₀ a at f
 
 abbrev μ-loop : tie.MeasureT-loop
 μ-loop f₀ s t row end at₀ a₀ f at a = end - a
 
 loop-holds : tie.Need-loop-holds Inv-loop μ-loop
-loop-holds c = (omega arith, (omega arith, (refl, (refl, sym (filled-nil _)))))
+loop-holds c = (omega arith, filling-none refl refl refl)
 
 mul-put-unit : tie.Need-mul-put-unit Inv-loop μ-loop
 mul-put-unit c = search needs
@@ -52,8 +50,7 @@ put-unit-requires c κs =
     simp (length-take, length-drop) (
     let g : ℕ → List ℤ = λ a. line (X (c .before .before .before .before .before .args .s) (c .before .before .before .before .before .args .t .0) a (getD (c .before .before .before .before .before .args .t4) a 0) ∷ []) in
     let lt : c .before .before .before .before .loop .a < c .before .before .before .before .before .args .s .k = omega arith in
-    let r = for-room g lt in
-    let h = c .before .before .before .before .before .pre .1 .1 .1 in
+    let room = filling-room {g = g} (c .before .before .before .before .loop .inv .1) lt (c .before .before .before .before .before .pre .1 .1 .1) in
     search needs)
 
 add-at : tie.Need-add-at Inv-loop μ-loop
@@ -61,8 +58,7 @@ unfolding units
 add-at c =
     let g : ℕ → List ℤ = λ a. line (X (c .before .before .before .before .before .before .before .args .s) (c .before .before .before .before .before .before .before .args .t .0) a (getD (c .before .before .before .before .before .before .before .args .t4) a 0) ∷ []) in
     let lt : c .before .before .before .before .before .before .loop .a < c .before .before .before .before .before .before .before .args .s .k = omega arith in
-    let r = for-room g lt in
-    let h = c .before .before .before .before .before .before .before .pre .1 .1 .1 in
+    let room = filling-room {g = g} (c .before .before .before .before .before .before .loop .inv .1) lt (c .before .before .before .before .before .before .before .pre .1 .1 .1) in
     let q : c .before .put-unit .result ≡ length (g (c .before .before .before .before .before .before .loop .a)) = c .before .put-unit .ensures .0 in omega arith
 
 add-a : tie.Need-add-a Inv-loop μ-loop
@@ -74,39 +70,15 @@ loop-less c = search needs
 loop-again : tie.Need-loop-again Inv-loop μ-loop
 unfolding units
 loop-again c =
-    let g : ℕ → List ℤ = λ a. line (X (c .before .before .before .before .before .before .before .args .s) (c .before .before .before .before .before .before .before .args .t .0) a (getD (c .before .before .before .before .before .before .before .args .t4) a 0) ∷ []) in
     let lt : c .before .before .before .before .before .before .loop .a < c .before .before .before .before .before .before .before .args .s .k = omega arith in
-    let r = for-room g lt in
-    let h = c .before .before .before .before .before .before .before .pre .1 .1 .1 in
-    let l = c .before .before .before .before .before .before .loop in
-    let q : c .before .put-unit .result ≡ length (g (l .a)) = c .before .put-unit .ensures .0 in
-    (
-      omega arith,
-      (
-        omega arith,
-        (
-          c .f .given .1 ∙ l .inv .1 .1 .0,
-          (
-            for-next g (l .a) (l .at) (c .before .put-unit .result) (l .inv .1 .1 .1 .0) q,
-            for-turn g (l .f) (c .before .before .before .before .before .before .before .args .f .now) (c .before .put-unit .last .0) (l .a) (l .at) (l .inv .1 .1 .1 .1) (l .inv .1 .1 .1 .0) (omega arith) (rw (toZ-ofZ (sfits-of (c .before .before .positive .ok)), c .before .before .positive .ensures, c .before .before .before .vertex .ensures) at (c .before .put-unit .ensures .1)),
-          ),
-        ),
-      ),
-    )
+    (omega arith, filling-turn {g = λ a. line (X (c .before .before .before .before .before .before .before .args .s) (c .before .before .before .before .before .before .before .args .t .0) a (getD (c .before .before .before .before .before .before .before .args .t4) a 0) ∷ [])} (c .before .before .before .before .before .before .loop .inv .1) lt (c .before .before .before .before .before .before .before .pre .1 .1 .1) (c .before .put-unit .ensures .0) (rw (toZ-ofZ (sfits-of (c .before .before .positive .ok)), c .before .before .positive .ensures, c .before .before .before .vertex .ensures) at (c .before .put-unit .ensures .1)))
 
 same-length : tie.Need-same-length Inv-loop μ-loop
-same-length c = c .before .loop .inv .1 .1 .0
+same-length c = c .before .loop .inv .1 .same
 
 returns : tie.Need-returns Inv-loop μ-loop
 unfolding units
-returns c =
-    let g : ℕ → List ℤ = λ a. line (X (c .before .before .args .s) (c .before .before .args .t .0) a (getD (c .before .before .args .t4) a 0) ∷ []) in
-    let l = c .before .loop in
-    let e : l .a ≡ c .before .before .args .s .k = omega arith in
-    (
-      l .inv .1 .1 .1 .0 ∙ ap (λ (j : ℕ). length (for j g)) e,
-      l .inv .1 .1 .1 .1 ∙ ap (λ (j : ℕ). filled (for j g) (c .before .before .args .f .now)) e,
-    )
+returns c = filling-done {g = λ a. line (X (c .before .before .args .s) (c .before .before .args .t .0) a (getD (c .before .before .args .t4) a 0) ∷ [])} (c .before .loop .inv .1) {n = c .before .before .args .s .k} (omega arith)
 
 pub write-units-spec : {M : Type 1} → statement M
 write-units-spec =
