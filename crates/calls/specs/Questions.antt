@@ -70,18 +70,28 @@ module _ (b : List ℕ) where
 abbrev pub question10 : ℕ → Question
 question10 m = unless (leb m 32) (refuse 10 0)
 
--- Does what is to be written fit the lent slice?
+-- of an accepted instance with its horizon, and of what is given or lent beside it: a clause number c, the size of a lent slice,
+-- the bytes p of a plan, a list of entries
+module _ (I : Instance) where
+  -- Is the clause number below the clause count?
+  abbrev pub question11 : ℕ → Question
+  question11 c = unless (ltb c (length (clauses I))) (refuse 11 (length (clauses I)))
+
+-- Does the formula, or the one clause with its 0, fit the lent slice?
 abbrev pub question12 : ℕ → ℕ → Question
 question12 needed size = unless (leb needed size) (refuse 12 needed)
 
--- of an accepted instance with its horizon
 module _ (I : Instance) where
   open Instance I using (sizes, start, goal)
   open Sizes sizes using (n, k, m)
 
-  -- Is the clause number below the clause count?
-  abbrev pub question11 : ℕ → Question
-  question11 c = unless (ltb c (length (clauses I))) (refuse 11 (length (clauses I)))
+  -- Has the plan exactly (m+1)·k bytes?
+  abbrev pub question13 : List ℕ → Question
+  question13 p = unless (eqb (length p) (planBytes sizes)) (refuse 13 (length p))
+
+  -- Has the valuation exactly N entries?
+  abbrev pub question14 : List ℤ → Question
+  question14 entries = unless (eqb (length entries) (variableCount sizes)) (refuse 14 (length entries))
 
   -- Has the slice for a decoded plan (m+1)·k bytes or more?
   abbrev pub question15 : ℕ → Question
@@ -91,46 +101,34 @@ module _ (I : Instance) where
   abbrev pub question16 : ℕ → Question
   question16 size = unless (leb (variableCount sizes) size) (refuse 16 (variableCount sizes))
 
-  -- of the plan p
-  module _ (p : List ℕ) where
-    -- Has the plan exactly (m+1)·k bytes?
-    abbrev pub question13 : Question
-    question13 = unless (eqb (length p) (planBytes sizes)) (refuse 13 (length p))
+  -- Is each plan byte below n?
+  abbrev pub question17 : List ℕ → Question
+  question17 p = for (planBytes sizes) λ i. unless (ltb (getD p i 0) n) (refuse 17 i)
 
-    -- Is each plan byte below n?
-    abbrev pub question17 : Question
-    question17 = for (planBytes sizes) λ i. unless (ltb (getD p i 0) n) (refuse 17 i)
+  -- Is row 0 the starts?
+  abbrev pub question18 : List ℕ → Question
+  question18 p = for k λ a. unless (eqb (place sizes p 0 a) (start a)) (refuse 18 (cell sizes 0 a))
 
-    -- Is row 0 the starts?
-    abbrev pub question18 : Question
-    question18 = for k λ a. unless (eqb (place sizes p 0 a) (start a)) (refuse 18 (cell sizes 0 a))
+  -- Does step t obey condition 1?
+  abbrev pub question19 : List ℕ → ℕ → Question
+  question19 p t = for k λ a. unless (condition1 I p t a) (refuse 19 (cell sizes (suc t) a))
 
-    -- Does step t obey condition 1?
-    abbrev pub question19 : ℕ → Question
-    question19 t = for k λ a. unless (condition1 I p t a) (refuse 19 (cell sizes (suc t) a))
+  -- Condition 2?
+  abbrev pub question20 : List ℕ → ℕ → Question
+  question20 p t = for k λ a. unless (condition2 I p t a) (refuse 20 (cell sizes (suc t) a))
 
-    -- Condition 2?
-    abbrev pub question20 : ℕ → Question
-    question20 t = for k λ a. unless (condition2 I p t a) (refuse 20 (cell sizes (suc t) a))
+  -- Condition 3?
+  abbrev pub question21 : List ℕ → ℕ → Question
+  question21 p t = for k λ a. unless (condition3 I p t a) (refuse 21 (cell sizes (suc t) a))
 
-    -- Condition 3?
-    abbrev pub question21 : ℕ → Question
-    question21 t = for k λ a. unless (condition3 I p t a) (refuse 21 (cell sizes (suc t) a))
+  -- Is row m the goals?
+  abbrev pub question22 : List ℕ → Question
+  question22 p = for k λ a. unless (eqb (place sizes p m a) (goal a)) (refuse 22 (cell sizes m a))
 
-    -- Is row m the goals?
-    abbrev pub question22 : Question
-    question22 = for k λ a. unless (eqb (place sizes p m a) (goal a)) (refuse 22 (cell sizes m a))
+  -- Is entry i the number i+1 or its negative?
+  abbrev pub question23 : List ℤ → Question
+  question23 entries = for (variableCount sizes) λ i. unless (rightEntry entries i) (refuse 23 i)
 
-  -- of the list of entries
-  module _ (entries : List ℤ) where
-    -- Has the valuation exactly N entries?
-    abbrev pub question14 : Question
-    question14 = unless (eqb (length entries) (variableCount sizes)) (refuse 14 (length entries))
-
-    -- Is entry i the number i+1 or its negative?
-    abbrev pub question23 : Question
-    question23 = for (variableCount sizes) λ i. unless (rightEntry entries i) (refuse 23 i)
-
-    -- Has every clause a true literal?
-    abbrev pub question24 : Question
-    question24 = for (length (clauses I)) λ c. unless (satisfied? entries (getD (clauses I) c [])) (refuse 24 c)
+  -- Has every clause a true literal?
+  abbrev pub question24 : List ℤ → Question
+  question24 entries = for (length (clauses I)) λ c. unless (satisfied? entries (getD (clauses I) c [])) (refuse 24 c)

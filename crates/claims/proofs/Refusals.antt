@@ -62,7 +62,7 @@ module _ (b : List ℕ) (m : ℕ) where
   numbered-clause : (c size : ℕ) → T (all numbered (clauseQuestions b m c size))
   numbered-clause c size = numbered-more b m _ (simp (and-iff, unless-all) ((λ f. tt), ((λ f. tt), tt)))
 
-  numbered-check : (p : List ℕ) → T (all numbered (checkQuestions b m p))
+  pub numbered-check : (p : List ℕ) → T (all numbered (checkQuestions b m p))
   numbered-check p = numbered-more b m _ (numbered-plan I p)
 
   numbered-decode : (entries : List ℤ) (size : ℕ) → T (all numbered (decodeQuestions b m entries size))

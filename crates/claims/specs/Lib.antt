@@ -1,3 +1,4 @@
 pub mod Correspondence
 pub mod Examples
+pub mod Formula
 pub mod Refusals

@@ -1,4 +1,4 @@
--- `clauses::put_near` meets its contract. The invariant: the turns so far have written their blocks one behind another, and `at` is the number of their words. Assumes nothing.
+-- `clauses::put_near` meets its contract. The invariant says what the turns so far have done. Assumes nothing.
 use mathlib.Core.Path.{_≡_, refl}
 use mathlib.Core.List.{List, [], _∷_}
 use Prim.Native.Nat.{ℕ, _-_, _≤_, _<_}
@@ -8,7 +8,7 @@ use borrow.Author.Needs.{sfits-of, needs}
 use lib.ListN.{length, length-take, length-drop}
 use lib.IntN.{ℤ}
 use Rattle.lists.specs.Loop.{when}
-use Rattle.lists.proofs.Slices.{Filling, filling-none, filling-room, filling-turn, filling-done}
+use Rattle.lists.proofs.Slices.{for-room, Filling, filling-none, filling-room, filling-turn, filling-done}
 use Rattle.formula.specs.Variables.{X}
 use Rattle.clauses.specs.Lines.{marked, nearby}
 use Rattle.clauses.proofs.put_near.Statement.{statement}
@@ -47,15 +47,15 @@ put-when-requires c κs =
     simp (length-take, length-drop) (
     let g : ℕ → List ℤ = λ u. when (marked (c .before .before .before .before .before .before .args .near .now) u) (X (c .before .before .before .before .before .before .args .s) (c .before .before .before .before .before .before .args .t .0) (c .before .before .before .before .before .before .args .a .0) u ∷ []) in
     let lt : c .before .before .before .before .loop .w < c .before .before .before .before .before .before .args .s .n = omega arith in
-    let room = filling-room {g = g} (c .before .before .before .before .loop .inv .1) lt (c .before .before .before .before .before .before .pre .1 .1) in
-    omega arith)
+    let room = filling-room {g = g} (c .before .before .before .before .loop .inv .1) lt (omega (arith, c .before .before .before .before .before .before .pre .1 .1)) in
+    let r = for-room g lt in omega (arith, c .before .before .before .before .before .before .pre .1 .1, c .before .before .before .before .loop .inv .1 .here, c .before .before .before .before .loop .inv .1 .same))
 
 add-at : tie.Need-add-at Inv-loop μ-loop
 unfolding nearby
 add-at c =
     let g : ℕ → List ℤ = λ u. when (marked (c .before .before .before .before .before .before .before .before .args .near .now) u) (X (c .before .before .before .before .before .before .before .before .args .s) (c .before .before .before .before .before .before .before .before .args .t .0) (c .before .before .before .before .before .before .before .before .args .a .0) u ∷ []) in
     let lt : c .before .before .before .before .before .before .loop .w < c .before .before .before .before .before .before .before .before .args .s .n = omega arith in
-    let room = filling-room {g = g} (c .before .before .before .before .before .before .loop .inv .1) lt (c .before .before .before .before .before .before .before .before .pre .1 .1) in
+    let room = filling-room {g = g} (c .before .before .before .before .before .before .loop .inv .1) lt (omega (arith, c .before .before .before .before .before .before .before .before .pre .1 .1)) in
     let q : c .before .put-when .result ≡ length (g (c .before .before .before .before .before .before .loop .w)) = rw (toZ-ofZ (sfits-of (c .before .before .positive .ok)), c .before .before .positive .ensures) at (c .before .put-when .ensures .0) in omega arith
 
 add-w : tie.Need-add-w Inv-loop μ-loop
@@ -68,7 +68,7 @@ loop-again : tie.Need-loop-again Inv-loop μ-loop
 unfolding nearby
 loop-again c =
     let lt : c .before .before .before .before .before .before .loop .w < c .before .before .before .before .before .before .before .before .args .s .n = omega arith in
-    (omega arith, filling-turn {g = λ u. when (marked (c .before .before .before .before .before .before .before .before .args .near .now) u) (X (c .before .before .before .before .before .before .before .before .args .s) (c .before .before .before .before .before .before .before .before .args .t .0) (c .before .before .before .before .before .before .before .before .args .a .0) u ∷ [])} (c .before .before .before .before .before .before .loop .inv .1) lt (c .before .before .before .before .before .before .before .before .pre .1 .1) (rw (toZ-ofZ (sfits-of (c .before .before .positive .ok)), c .before .before .positive .ensures) at (c .before .put-when .ensures .0)) (rw (toZ-ofZ (sfits-of (c .before .before .positive .ok)), c .before .before .positive .ensures) at (c .before .put-when .ensures .1)))
+    (omega arith, filling-turn {g = λ u. when (marked (c .before .before .before .before .before .before .before .before .args .near .now) u) (X (c .before .before .before .before .before .before .before .before .args .s) (c .before .before .before .before .before .before .before .before .args .t .0) (c .before .before .before .before .before .before .before .before .args .a .0) u ∷ [])} (c .before .before .before .before .before .before .loop .inv .1) lt (omega (arith, c .before .before .before .before .before .before .before .before .pre .1 .1)) (rw (toZ-ofZ (sfits-of (c .before .before .positive .ok)), c .before .before .positive .ensures) at (c .before .put-when .ensures .0)) (rw (toZ-ofZ (sfits-of (c .before .before .positive .ok)), c .before .before .positive .ensures) at (c .before .put-when .ensures .1)))
 
 same-length : tie.Need-same-length Inv-loop μ-loop
 same-length c = c .before .loop .inv .1 .same

@@ -1,0 +1,52 @@
+-- What is claimed of the formula, its counts, and the plan check.
+use mathlib.Core.Path.{_≡_}
+use mathlib.Core.Logic.{_↔_}
+use mathlib.Core.List.{List, List·Memᴰ}
+use Prim.Native.Nat.{ℕ, _≤_}
+use lib.ListN.{length}
+use Rattle.lists.specs.Loop.{each}
+use Rattle.instance.specs.Instance.{Instance, instance}
+use Rattle.formula.specs.Formula.{Clause, A, B, C, D, E, F, G, clauses, line, words}
+use Rattle.formula.specs.Counts.{Families, clausesBy, wordsBy, clauseCount, wordCount}
+use Rattle.plan.specs.Plan.{cost}
+use Rattle.plan.specs.Passing.{Passes}
+use Rattle.calls.specs.Calls.{instanceAnswer, checkAnswer}
+
+-- the closed numbers are the lengths of the families
+pub record Lengths (numbers : Families) (length′ : List Clause → ℕ) (I : Instance) : Type 0 where
+  pub inA : length′ (A I) ≡ numbers .A
+  pub inB : length′ (B I) ≡ numbers .B
+  pub inC : length′ (C I) ≡ numbers .C
+  pub inD : length′ (D I) ≡ numbers .D
+  pub inE : length′ (E I) ≡ numbers .E
+  pub inF : length′ (F I) ≡ numbers .F
+  pub inG : length′ (G I) ≡ numbers .G
+
+-- for the instance bytes b and the horizon m
+module _ (b : List ℕ) (m : ℕ) where
+  abbrev I : Instance
+  I = instance b m
+
+  pub record Sizes : Type 0 where
+    -- the clause counts and the word counts of the table, by family and in all
+    pub clausesByFamily : Lengths (clausesBy (I .sizes)) length I
+    pub wordsByFamily : Lengths (wordsBy (I .sizes)) (λ cs. length (each line cs)) I
+    pub clauseTotal : length (clauses I) ≡ clauseCount (I .sizes)
+    pub wordTotal : length (words I) ≡ wordCount (I .sizes)
+    -- no formula has more words than the largest
+    pub mostWords : length (words I) ≤ 7_625_296
+    -- a clause with its 0 has at most 66 words
+    pub longest : (c : Clause) → List·Memᴰ c (clauses I) → length (line c) ≤ 66
+
+  pub record Check : Type 0 where
+    -- the plan check passes a plan exactly when it leads from the starts to the goals and every step obeys the three conditions
+    pub passes : (p : List ℕ) → (checkAnswer b m p .number ≡ 0) ↔ Passes I p
+    -- and then answers its cost
+    pub costs : (p : List ℕ) → checkAnswer b m p .number ≡ 0 → checkAnswer b m p .second ≡ cost I p
+
+-- for every accepted instance and horizon
+pub record Claim : Type 0 where
+  pub sizes : (b : List ℕ) (m : ℕ) → instanceAnswer b m .number ≡ 0 → Sizes b m
+  pub check : (b : List ℕ) (m : ℕ) → instanceAnswer b m .number ≡ 0 → Check b m
+  -- the largest formula by the table: 64 vertices, 16 agents, 2,016 edges, horizon 32
+  pub largest : wordCount (record { n = 64; k = 16; e = 2016; m = 32 }) ≡ 7_625_296
