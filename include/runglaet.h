@@ -3,7 +3,10 @@
  * Every call takes any bytes and any numbers, checks all of them itself, keeps no pointer and allocates nothing.
  * An answer's number is 0 for accepted, or the number of the first question that was answered no; `second` is then the
  * place of the refusal, and the count of an acceptance. A refusal changes nothing that was lent. An accepted call fills
- * the first places of its slice and touches none beyond. A pointer of a slice of length 0 may be anything but NULL.
+ * the first places of its slice and touches none beyond.
+ *
+ * As anywhere in C, a pointer must be valid and aligned for the elements that its length says, and a slice that is
+ * written must overlap no other slice of the call. The pointer of an empty slice may be any aligned one but NULL.
  *
  * Questions are numbered as in README.md. Words and entries are signed 32-bit numbers.
  */

@@ -1,1 +1,2 @@
 pub mod Room
+pub mod Output

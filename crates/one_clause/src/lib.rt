@@ -40,7 +40,7 @@ pub struct Cell {
 }
 
 // The family whose range of clause numbers holds the number.
-pub fn spot_of(s: Sizes, number: usize) -> Spot
+fn spot_of(s: Sizes, number: usize) -> Spot
     requires { ⌜ Limits s ⌝ }
     requires { ⌜ number < clauseCount s ⌝ }
     ensures { λ r. ⌜ ((I : Instance) → I .sizes ≡ s → Stands I number (r .family) (r .place)) ⌝ }
