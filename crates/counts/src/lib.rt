@@ -65,5 +65,11 @@ pub fn word_count(s: Sizes) -> usize
 {
     let c = clauses_by(s);
     let units = 2 * s.k;
-    units + units + (s.m + 1) * s.k * (s.n + 1) + 3 * c.d + 3 * c.e + s.m * s.k * (3 * s.n + 2 * s.e) + 3 * c.g
+    units
+        + units
+        + (s.m + 1) * s.k * (s.n + 1)
+        + 3 * c.d
+        + 3 * c.e
+        + s.m * s.k * (3 * s.n + 2 * s.e)
+        + 3 * c.g
 }

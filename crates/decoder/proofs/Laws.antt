@@ -197,6 +197,6 @@ module _ (b : List ℕ) (m : ℕ) (es : List ℤ) (p : List ℕ) (a : Answer) (c
         then-yes y ey = (
           answered,
           ey
-          ∙ ap (λ (x : Sizes). filled (namedPlan x es) p) (sizes-same b c passed ∙ ap (λ (x : ℕ). instance b x .sizes) horizon-same)
-          ∙ sym (lent-accepted (decodeAnswer b m es (length p)) _ p (subst (λ (x : Answer). x .number ≡ 0) answered o)),
+              ∙ ap (λ (x : Sizes). filled (namedPlan x es) p) (sizes-same b c passed ∙ ap (λ (x : ℕ). instance b x .sizes) horizon-same)
+              ∙ sym (lent-accepted (decodeAnswer b m es (length p)) _ p (subst (λ (x : Answer). x .number ≡ 0) answered o)),
         )

@@ -1,10 +1,10 @@
 // The decoder: from a list of entries, of any length and with any numbers, to the plan that it names.
 use answers::Answer;
-use instance::Checked;
-use instance::Sizes;
 use entries::Agent;
 use entries::Step;
 use entries::Variable;
+use instance::Checked;
+use instance::Sizes;
 ghost use mathlib.Core.Path.{_≡_};
 ghost use mathlib.Core.List.{[], _∷_};
 ghost use Prim.Native.Nat.{_*_, _≤_};
@@ -48,21 +48,36 @@ fn ask_entries(b: &[u8], c: Checked, entries: &[i32], size: usize) -> Answer
     let bytes = (m + 1) * k;
     let len = entries.len();
     if len != count {
-        return Answer { number: 14, second: len };
+        return Answer {
+            number: 14,
+            second: len,
+        };
     }
     if size < bytes {
-        return Answer { number: 15, second: bytes };
+        return Answer {
+            number: 15,
+            second: bytes,
+        };
     }
     let i = entry_fault(entries);
     if i < count {
-        return Answer { number: 23, second: i };
+        return Answer {
+            number: 23,
+            second: i,
+        };
     }
     let f = satisfaction::clause_fault(b, c, entries);
     let clauses = counts::clause_count(s);
     if f < clauses {
-        return Answer { number: 24, second: f };
+        return Answer {
+            number: 24,
+            second: f,
+        };
     }
-    Answer { number: 0, second: bytes }
+    Answer {
+        number: 0,
+        second: bytes,
+    }
 }
 
 // The plan named, first in the slice.

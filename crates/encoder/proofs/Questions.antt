@@ -139,6 +139,6 @@ module _ (b : List ℕ) (m : ℕ) (p : List ℕ) (z : List ℤ) (a : Answer) (c 
         then-yes y ey = (
           answered,
           ey
-          ∙ ap (λ (x : Sizes). filled (planValuation x p) z) (sizes-same b c passed ∙ ap (λ (x : ℕ). instance b x .sizes) horizon-same)
-          ∙ sym (lent-accepted (encodeAnswer b m p (length z)) _ z (subst (λ (x : Answer). x .number ≡ 0) answered o′)),
+              ∙ ap (λ (x : Sizes). filled (planValuation x p) z) (sizes-same b c passed ∙ ap (λ (x : ℕ). instance b x .sizes) horizon-same)
+              ∙ sym (lent-accepted (encodeAnswer b m p (length z)) _ z (subst (λ (x : Answer). x .number ≡ 0) answered o′)),
         )

@@ -1,11 +1,11 @@
 // The encoder: the valuation of a plan.
 use answers::Answer;
-use instance::Checked;
-use instance::Sizes;
 use entries::Agent;
 use entries::Step;
 use entries::Variable;
 use entries::Vertex;
+use instance::Checked;
+use instance::Sizes;
 ghost use mathlib.Core.Path.{_≡_};
 ghost use mathlib.Core.Bool.{cond};
 ghost use mathlib.Core.List.{[], _∷_};
@@ -97,17 +97,26 @@ fn ask_encoding(b: &[u8], c: Checked, p: &[u8], size: usize) -> Answer
     let m = s.m;
     let len = p.len();
     if len != (m + 1) * k {
-        return Answer { number: 13, second: len };
+        return Answer {
+            number: 13,
+            second: len,
+        };
     }
     let count = n * k * (m + 1);
     if size < count {
-        return Answer { number: 16, second: count };
+        return Answer {
+            number: 16,
+            second: count,
+        };
     }
     let answer = plan_check::ask_plan(b, c, p);
     if answer.number != 0 {
         return answer;
     }
-    Answer { number: 0, second: count }
+    Answer {
+        number: 0,
+        second: count,
+    }
 }
 
 // The call, for every byte string, every number, all bytes given as a plan and every slice.

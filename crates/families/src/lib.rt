@@ -29,7 +29,10 @@ pub fn write_units(f: &mut [i32], s: Sizes, t: Step, row: [u8; 16]) -> usize
     let end = s.k;
     let mut at: usize = 0;
     for a in 0..end {
-        at += clauses::put_unit(&mut f[at..], clauses::positive(s, t, Agent(a), vertex(row[a])));
+        at += clauses::put_unit(
+            &mut f[at..],
+            clauses::positive(s, t, Agent(a), vertex(row[a])),
+        );
     }
     at
 }
@@ -75,7 +78,11 @@ fn write_d_vertex(f: &mut [i32], s: Sizes, t: Step, a: Agent, v: Vertex) -> usiz
     let x = clauses::negative(s, t, a, v);
     let mut at: usize = 0;
     for i in 0..end {
-        at += clauses::put_pair(&mut f[at..], x, clauses::negative(s, t, a, Vertex(low + 1 + i)));
+        at += clauses::put_pair(
+            &mut f[at..],
+            x,
+            clauses::negative(s, t, a, Vertex(low + 1 + i)),
+        );
     }
     at
 }
@@ -136,7 +143,11 @@ fn write_e_agent(f: &mut [i32], s: Sizes, t: Step, v: Vertex, a: Agent) -> usize
     let x = clauses::negative(s, t, a, v);
     let mut at: usize = 0;
     for i in 0..end {
-        at += clauses::put_pair(&mut f[at..], x, clauses::negative(s, t, Agent(low + 1 + i), v));
+        at += clauses::put_pair(
+            &mut f[at..],
+            x,
+            clauses::negative(s, t, Agent(low + 1 + i), v),
+        );
     }
     at
 }
@@ -245,7 +256,11 @@ fn write_g_pair(f: &mut [i32], s: Sizes, t: Step, a: Agent, b: Agent) -> usize
     let next = Step(t.0 + 1);
     let mut at: usize = 0;
     for v in 0..end {
-        at += clauses::put_pair(&mut f[at..], clauses::negative(s, t, b, Vertex(v)), clauses::negative(s, next, a, Vertex(v)));
+        at += clauses::put_pair(
+            &mut f[at..],
+            clauses::negative(s, t, b, Vertex(v)),
+            clauses::negative(s, next, a, Vertex(v)),
+        );
     }
     at
 }

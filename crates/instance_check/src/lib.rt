@@ -42,33 +42,60 @@ fn ask_sizes(b: &[u8]) -> Answer
 {
     let len = b.len();
     if len < 4 {
-        return Answer { number: 1, second: len };
+        return Answer {
+            number: 1,
+            second: len,
+        };
     }
     let n = wide(b[0]);
     let k = wide(b[1]);
     let e = edge_count(b);
     if n < 1 {
-        return Answer { number: 2, second: 0 };
+        return Answer {
+            number: 2,
+            second: 0,
+        };
     }
     if 64 < n {
-        return Answer { number: 2, second: 0 };
+        return Answer {
+            number: 2,
+            second: 0,
+        };
     }
     if k < 1 {
-        return Answer { number: 3, second: 1 };
+        return Answer {
+            number: 3,
+            second: 1,
+        };
     }
     if 16 < k {
-        return Answer { number: 3, second: 1 };
+        return Answer {
+            number: 3,
+            second: 1,
+        };
     }
     if n < k {
-        return Answer { number: 3, second: 1 };
+        return Answer {
+            number: 3,
+            second: 1,
+        };
     }
     if n * (n - 1) / 2 < e {
-        return Answer { number: 4, second: 2 };
+        return Answer {
+            number: 4,
+            second: 2,
+        };
     }
     if len != 4 + 2 * e + 2 * k {
-        return Answer { number: 5, second: len };
+        return Answer {
+            number: 5,
+            second: len,
+        };
     }
-    Answer { number: 0, second: 0 }
+    Answer {
+        number: 0,
+        second: 0,
+    }
 }
 
 // Edge j: low end < high end < n?
@@ -176,26 +203,44 @@ fn ask_instance(b: &[u8], m: usize) -> Answer
     let e = edge_count(b);
     let j = edge_fault(b, n, e);
     if j < e {
-        return Answer { number: 6, second: 4 + j };
+        return Answer {
+            number: 6,
+            second: 4 + j,
+        };
     }
     let i = order_fault(b, e);
     if i + 1 < e {
-        return Answer { number: 7, second: 4 + i + 1 };
+        return Answer {
+            number: 7,
+            second: 4 + i + 1,
+        };
     }
     let starts = 4 + 2 * e;
     let s = vertex_fault(b, starts, n, k);
     if s < k {
-        return Answer { number: 8, second: starts + s };
+        return Answer {
+            number: 8,
+            second: starts + s,
+        };
     }
     let goals = starts + k;
     let g = vertex_fault(b, goals, n, k);
     if g < k {
-        return Answer { number: 9, second: goals + g };
+        return Answer {
+            number: 9,
+            second: goals + g,
+        };
     }
     if 32 < m {
-        return Answer { number: 10, second: 0 };
+        return Answer {
+            number: 10,
+            second: 0,
+        };
     }
-    Answer { number: 0, second: 0 }
+    Answer {
+        number: 0,
+        second: 0,
+    }
 }
 
 // k bytes from an offset on, 0 beyond them.
@@ -220,7 +265,12 @@ pub fn check_instance(b: &[u8], m: usize) -> Inspection
         return Inspection {
             answer,
             checked: Checked {
-                sizes: Sizes { n: 0, k: 0, e: 0, m: 0 },
+                sizes: Sizes {
+                    n: 0,
+                    k: 0,
+                    e: 0,
+                    m: 0,
+                },
                 starts: none,
                 goals: none,
             },

@@ -98,11 +98,10 @@ module _ (b : List ℕ) (m : ℕ) (a : Answer) (ea : a ≡ instanceAnswer b m) (
           ap (take r) (p .slice)
           ∙ ap (λ (x : ℕ). take x (filled (line (getD (clauses (instanceOf b c)) number [])) k)) (p .count)
           ∙ take-filled (line (getD (clauses (instanceOf b c)) number [])) k
-          ∙ ap (λ (J : Instance). line (getD (clauses J) number [])) same-instance in
-          (
+          ∙ ap (λ (J : Instance). line (getD (clauses J) number [])) same-instance in (
             answer,
             ef ∙ ap (λ (l : List ℤ). filled l f) taken
-            ∙ sym (lent-accepted (clauseAnswer b m number (length f)) (clauseLine b m number) f (sym (ap (λ (x : Answer). x .number) answer))),
+                ∙ sym (lent-accepted (clauseAnswer b m number (length f)) (clauseLine b m number) f (sym (ap (λ (x : Answer). x .number) answer))),
           )
 
 -- the clause is part of what the slice then holds

@@ -48,29 +48,50 @@ fn spot_of(s: Sizes, number: usize) -> Spot
     let ends = counts::clauses_by(s);
     let a = ends.a;
     if number < a {
-        return Spot { family: 0, place: number };
+        return Spot {
+            family: 0,
+            place: number,
+        };
     }
     let b = a + ends.b;
     if number < b {
-        return Spot { family: 1, place: number - a };
+        return Spot {
+            family: 1,
+            place: number - a,
+        };
     }
     let c = b + ends.c;
     if number < c {
-        return Spot { family: 2, place: number - b };
+        return Spot {
+            family: 2,
+            place: number - b,
+        };
     }
     let d = c + ends.d;
     if number < d {
-        return Spot { family: 3, place: number - c };
+        return Spot {
+            family: 3,
+            place: number - c,
+        };
     }
     let e = d + ends.e;
     if number < e {
-        return Spot { family: 4, place: number - d };
+        return Spot {
+            family: 4,
+            place: number - d,
+        };
     }
     let f = e + ends.f;
     if number < f {
-        return Spot { family: 5, place: number - e };
+        return Spot {
+            family: 5,
+            place: number - e,
+        };
     }
-    Spot { family: 6, place: number - f }
+    Spot {
+        family: 6,
+        place: number - f,
+    }
 }
 
 // A number below rows·width as a row and a place in it.
@@ -81,7 +102,10 @@ fn cell_of(i: usize, rows: usize, width: usize) -> Cell
     if width == 0 {
         return Cell { row: 0, place: 0 };
     }
-    Cell { row: i / width, place: i % width }
+    Cell {
+        row: i / width,
+        place: i % width,
+    }
 }
 
 // Pair number p of the numbers below n.
@@ -95,7 +119,10 @@ fn pair_of(n: usize, p: usize) -> Pair
         left -= n - 1 - low;
         low += 1;
     }
-    Pair { low, high: low + 1 + left }
+    Pair {
+        low,
+        high: low + 1 + left,
+    }
 }
 
 // Family A: agent i at its start; family B: at its goal. Byte a of the row names its vertex.
@@ -135,7 +162,11 @@ fn put_d(f: &mut [i32], s: Sizes, i: usize) -> usize
     let pair = pair_of(n, cell.place);
     let t = Step(place.row);
     let a = Agent(place.place);
-    clauses::put_pair(f, clauses::negative(s, t, a, Vertex(pair.low)), clauses::negative(s, t, a, Vertex(pair.high)))
+    clauses::put_pair(
+        f,
+        clauses::negative(s, t, a, Vertex(pair.low)),
+        clauses::negative(s, t, a, Vertex(pair.high)),
+    )
 }
 
 // Clause i of family E.
@@ -153,7 +184,11 @@ fn put_e(f: &mut [i32], s: Sizes, i: usize) -> usize
     let pair = pair_of(k, cell.place);
     let t = Step(place.row);
     let v = Vertex(place.place);
-    clauses::put_pair(f, clauses::negative(s, t, Agent(pair.low), v), clauses::negative(s, t, Agent(pair.high), v))
+    clauses::put_pair(
+        f,
+        clauses::negative(s, t, Agent(pair.low), v),
+        clauses::negative(s, t, Agent(pair.high), v),
+    )
 }
 
 // Clause i of family F.
@@ -203,7 +238,11 @@ fn put_g(f: &mut [i32], s: Sizes, i: usize) -> usize
     let b = other(a, place.place);
     let v = Vertex(cell.place);
     let t = first.row;
-    clauses::put_pair(f, clauses::negative(s, Step(t), Agent(b), v), clauses::negative(s, Step(t + 1), Agent(a), v))
+    clauses::put_pair(
+        f,
+        clauses::negative(s, Step(t), Agent(b), v),
+        clauses::negative(s, Step(t + 1), Agent(a), v),
+    )
 }
 
 // The clause at a place of the family with a number.
@@ -265,13 +304,22 @@ pub fn clause(b: &[u8], m: usize, number: usize, f: &mut [i32]) -> Answer
     let s = c.sizes;
     let count = counts::clause_count(s);
     if count <= number {
-        return Answer { number: 11, second: count };
+        return Answer {
+            number: 11,
+            second: count,
+        };
     }
     let mut line = [0i32; 66];
     let words = put_number(&mut line, b, c, number);
     if f.len() < words {
-        return Answer { number: 12, second: words };
+        return Answer {
+            number: 12,
+            second: words,
+        };
     }
     copy_words(f, &line, words);
-    Answer { number: 0, second: words }
+    Answer {
+        number: 0,
+        second: words,
+    }
 }

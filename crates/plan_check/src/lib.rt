@@ -35,15 +35,27 @@ fn ask_step(b: &[u8], c: Checked, p: &[u8], t: usize) -> Answer
     let entering = conditions::fault_2(s, p, t);
     let sharing = conditions::fault_3(s, p, t);
     if crossing < k {
-        return Answer { number: 19, second: next + crossing };
+        return Answer {
+            number: 19,
+            second: next + crossing,
+        };
     }
     if entering < k {
-        return Answer { number: 20, second: next + entering };
+        return Answer {
+            number: 20,
+            second: next + entering,
+        };
     }
     if sharing < k {
-        return Answer { number: 21, second: next + sharing };
+        return Answer {
+            number: 21,
+            second: next + sharing,
+        };
     }
-    Answer { number: 0, second: 0 }
+    Answer {
+        number: 0,
+        second: 0,
+    }
 }
 
 // Questions 19 to 21 of each step between the first `rows` rows, step by step.
@@ -60,7 +72,10 @@ fn ask_steps(b: &[u8], c: Checked, p: &[u8], rows: usize) -> Answer
         }
         t += 1;
     }
-    Answer { number: 0, second: 0 }
+    Answer {
+        number: 0,
+        second: 0,
+    }
 }
 
 // The first byte of the plan that is no vertex, or its length.
@@ -99,12 +114,18 @@ pub fn ask_plan(b: &[u8], c: Checked, p: &[u8]) -> Answer
     let k = s.k;
     let i = byte_fault(p, n);
     if i < p.len() {
-        return Answer { number: 17, second: i };
+        return Answer {
+            number: 17,
+            second: i,
+        };
     }
     let starts = c.starts;
     let start = row_fault(p, 0, k, starts);
     if start < k {
-        return Answer { number: 18, second: start };
+        return Answer {
+            number: 18,
+            second: start,
+        };
     }
     let m = s.m;
     let rows = m + 1;
@@ -116,9 +137,15 @@ pub fn ask_plan(b: &[u8], c: Checked, p: &[u8]) -> Answer
     let last = m * k;
     let goal = row_fault(p, last, k, goals);
     if goal < k {
-        return Answer { number: 22, second: last + goal };
+        return Answer {
+            number: 22,
+            second: last + goal,
+        };
     }
-    Answer { number: 0, second: 0 }
+    Answer {
+        number: 0,
+        second: 0,
+    }
 }
 
 // How many agents change vertex in step t.
@@ -164,11 +191,17 @@ pub fn check_plan(b: &[u8], m: usize, p: &[u8]) -> Answer
     let s = c.sizes;
     let len = p.len();
     if len != (m + 1) * s.k {
-        return Answer { number: 13, second: len };
+        return Answer {
+            number: 13,
+            second: len,
+        };
     }
     let answer = ask_plan(b, c, p);
     if answer.number != 0 {
         return answer;
     }
-    Answer { number: 0, second: plan_cost(s, p) }
+    Answer {
+        number: 0,
+        second: plan_cost(s, p),
+    }
 }

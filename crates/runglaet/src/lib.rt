@@ -6,7 +6,11 @@ ghost use lib.ListN.{length};
 ghost use Rattle.calls.specs.Calls.{writeAnswer, writeSlice, clauseAnswer, clauseSlice, checkAnswer, decodeAnswer, decodeSlice, encodeAnswer, encodeSlice};
 
 #[no_mangle]
-pub extern "C" fn runglaet_write_formula(instance: &[u8], horizon: u64, words: &mut [i32]) -> Written
+pub extern "C" fn runglaet_write_formula(
+    instance: &[u8],
+    horizon: u64,
+    words: &mut [i32],
+) -> Written
     ensures { λ r. ⌜ r ≡ writeAnswer (now (instance .entry)) horizon (length (now (words .entry))) ⌝ }
     ensures { λ _. ⌜ now (words .exit) ≡ writeSlice (now (instance .entry)) horizon (now (words .entry)) ⌝ }
 {
@@ -14,7 +18,12 @@ pub extern "C" fn runglaet_write_formula(instance: &[u8], horizon: u64, words: &
 }
 
 #[no_mangle]
-pub extern "C" fn runglaet_clause(instance: &[u8], horizon: u64, clause_number: u64, words: &mut [i32]) -> Answer
+pub extern "C" fn runglaet_clause(
+    instance: &[u8],
+    horizon: u64,
+    clause_number: u64,
+    words: &mut [i32],
+) -> Answer
     ensures { λ r. ⌜ r ≡ clauseAnswer (now (instance .entry)) horizon «clause_number» (length (now (words .entry))) ⌝ }
     ensures { λ _. ⌜ now (words .exit) ≡ clauseSlice (now (instance .entry)) horizon «clause_number» (now (words .entry)) ⌝ }
 {
@@ -29,7 +38,12 @@ pub extern "C" fn runglaet_check_plan(instance: &[u8], horizon: u64, plan: &[u8]
 }
 
 #[no_mangle]
-pub extern "C" fn runglaet_decode(instance: &[u8], horizon: u64, entries: &[i32], plan: &mut [u8]) -> Answer
+pub extern "C" fn runglaet_decode(
+    instance: &[u8],
+    horizon: u64,
+    entries: &[i32],
+    plan: &mut [u8],
+) -> Answer
     ensures { λ r. ⌜ r ≡ decodeAnswer (now (instance .entry)) horizon (now (entries .entry)) (length (now (plan .entry))) ⌝ }
     ensures { λ _. ⌜ now (plan .exit) ≡ decodeSlice (now (instance .entry)) horizon (now (entries .entry)) (now (plan .entry)) ⌝ }
 {
@@ -37,7 +51,12 @@ pub extern "C" fn runglaet_decode(instance: &[u8], horizon: u64, entries: &[i32]
 }
 
 #[no_mangle]
-pub extern "C" fn runglaet_encode(instance: &[u8], horizon: u64, plan: &[u8], entries: &mut [i32]) -> Answer
+pub extern "C" fn runglaet_encode(
+    instance: &[u8],
+    horizon: u64,
+    plan: &[u8],
+    entries: &mut [i32],
+) -> Answer
     ensures { λ r. ⌜ r ≡ encodeAnswer (now (instance .entry)) horizon (now (plan .entry)) (length (now (entries .entry))) ⌝ }
     ensures { λ _. ⌜ now (entries .exit) ≡ encodeSlice (now (instance .entry)) horizon (now (plan .entry)) (now (entries .entry)) ⌝ }
 {

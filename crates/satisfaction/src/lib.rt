@@ -1,11 +1,11 @@
 // Question 24: the first clause without a true literal. The clauses are those of the definitions; none is written out.
 // Under a valuation a clause of two negations fails where both its variables are true, so each family is followed from one
 // true variable to the next. Once C and D hold there is one vertex for each agent and step, and F and G ask only of it.
-use instance::Checked;
-use instance::Sizes;
 use entries::Agent;
 use entries::Step;
 use entries::Vertex;
+use instance::Checked;
+use instance::Sizes;
 ghost use mathlib.Core.Path.{_≡_};
 ghost use Prim.Native.Nat.{ℕ, suc, _+_, _*_, _<_, _≤_};
 ghost use lib.ListN.{length, getD};

@@ -110,8 +110,7 @@ returns c =
     let e1 = filled-part l l [] two (c .before .before .before .before .before .before .before .put-two .last .0) 0 (sym (filled-nil l)) refl (omega arith)
     (rw (toZ-ofZ (sfits-of (c .before .before .before .before .before .before .before .before .before .negative .ok)), c .before .before .before .before .before .before .before .before .before .negative .ensures, toZ-ofZ (sfits-of (c .before .before .before .before .before .before .before .before .positive .ok)), c .before .before .before .before .before .before .before .before .positive .ensures) at (c .before .before .before .before .before .before .before .put-two .ensures)) in
     let e2 = filled-part _ l two ns (c .before .before .before .before .put-near .last .0) 2 e1 refl (omega arith) (c .before .before .before .before .put-near .ensures .1) in
-    let n : length (two ++ ns) ≡ 2 + c .before .before .before .before .put-near .result = omega (arith, c .before .before .before .before .put-near .ensures .0) in
-    (
+    let n : length (two ++ ns) ≡ 2 + c .before .before .before .before .put-near .result = omega (arith, c .before .before .before .before .put-near .ensures .0) in (
       omega (arith, c .before .before .before .before .put-near .ensures .0, length-append ns (pos 0 ∷ [])),
       filled-part _ l (two ++ ns) (pos 0 ∷ []) (c .before .put-end .last .0) (2 + c .before .before .before .before .put-near .result) e2 n (omega (arith, c .before .before .before .before .put-near .ensures .0)) (c .before .put-end .ensures),
     )

@@ -51,13 +51,12 @@ loop-again : tie.Need-loop-again Inv-loop μ-loop
 loop-again c =
     let n : length (line (somewhere (c .before .before .before .args .s) (c .before .before .before .args .t .0) (c .before .before .before .args .a .0))) ≡ c .before .before .before .args .s .n + 1 = somewhere-length (c .before .before .before .args .s) (c .before .before .before .args .t .0) (c .before .before .before .args .a .0) in
     let l = c .before .before .loop in
-    let g : ℕ → List ℤ = λ v. X (c .before .before .before .args .s) (c .before .before .before .args .t .0) (c .before .before .before .args .a .0) v ∷ [] in
-    (
+    let g : ℕ → List ℤ = λ v. X (c .before .before .before .args .s) (c .before .before .before .args .t .0) (c .before .before .before .args .a .0) v ∷ [] in (
       omega arith,
       (
         simp length-set (l .inv .1 .0),
         rw (toZ-ofZ (sfits-of (c .positive .ok)), c .positive .ensures, l .inv .1 .1, add-one)
-        (filled-set (for (l .v) g) (c .before .before .before .args .f .now) (l .v) _ (pos 0) (for1-length (l .v) (X (c .before .before .before .args .s) (c .before .before .before .args .t .0) (c .before .before .before .args .a .0))) (omega arith)),
+            (filled-set (for (l .v) g) (c .before .before .before .args .f .now) (l .v) _ (pos 0) (for1-length (l .v) (X (c .before .before .before .args .s) (c .before .before .before .args .t .0) (c .before .before .before .args .a .0))) (omega arith)),
       ),
     )
 
@@ -85,11 +84,10 @@ returns c =
     let n : length (line (somewhere (c .before .before .args .s) (c .before .before .args .t .0) (c .before .before .args .a .0))) ≡ c .before .before .args .s .n + 1 = somewhere-length (c .before .before .args .s) (c .before .before .args .t .0) (c .before .before .args .a .0) in
     let s = c .before .before .args in
     let g : ℕ → List ℤ = λ v. X (s .s) (s .t .0) (s .a .0) v ∷ [] in
-    let e : c .before .loop .v ≡ s .s .n = omega arith in
-    (
+    let e : c .before .loop .v ≡ s .s .n = omega arith in (
       sym n,
       rw (c .before .loop .inv .1 .1, e)
-      (filled-set (for (s .s .n) g) (s .f .now) (s .s .n) (pos 0) (pos 0) (for1-length (s .s .n) (X (s .s) (s .t .0) (s .a .0))) (omega arith)),
+          (filled-set (for (s .s .n) g) (s .f .now) (s .s .n) (pos 0) (pos 0) (for1-length (s .s .n) (X (s .s) (s .t .0) (s .a .0))) (omega arith)),
     )
 
 pub put-somewhere-spec : {M : Type 1} → statement M

@@ -1,6 +1,5 @@
 -- `encoder::write_agent` meets its contract: before turn v the entries below v stand in the slice. Assumes nothing.
 use Rattle.encoder.proofs.Laws.{filled-next}
-
 use mathlib.Core.Path.{_≡_, refl, sym, _∙_, ap}
 use mathlib.Core.List.{[], _∷_}
 use mathlib.Core.Bool.{cond}
@@ -51,10 +50,12 @@ loop-less c = search needs
 loop-again : tie.Need-loop-again Inv-loop μ-loop
 loop-again c =
     let start = c .before .before .before .before in
-    let turn = c .before .before .before .loop in
-    (omega arith, simp length-set (turn .inv .1),
-     filled-next (λ v. cond (eqb (start .args .at .0) v) (X (start .args .s) (start .args .t .0) (start .args .a .0) v) (¬X (start .args .s) (start .args .t .0) (start .args .a .0) v)) _ _ (turn .v) _ (turn .inv .2) (let e = turn .inv .1 in let r = start .pre .1 .2 in omega arith)
-     (toZ-ofZ (sfits-of (c .entry-for .ok)) ∙ c .entry-for .ensures ∙ ap (λ (i : ℕ). cond (eqb (start .args .at .0) (turn .v)) (pos i) (negℤ (pos i))) (c .before .variable-of .ensures .0)))
+    let turn = c .before .before .before .loop in (
+      omega arith,
+      simp length-set (turn .inv .1),
+      filled-next (λ v. cond (eqb (start .args .at .0) v) (X (start .args .s) (start .args .t .0) (start .args .a .0) v) (¬X (start .args .s) (start .args .t .0) (start .args .a .0) v)) _ _ (turn .v) _ (turn .inv .2) (let e = turn .inv .1 in let r = start .pre .1 .2 in omega arith)
+          (toZ-ofZ (sfits-of (c .entry-for .ok)) ∙ c .entry-for .ensures ∙ ap (λ (i : ℕ). cond (eqb (start .args .at .0) (turn .v)) (pos i) (negℤ (pos i))) (c .before .variable-of .ensures .0)),
+    )
 
 same-length : tie.Need-same-length Inv-loop μ-loop
 same-length c = c .before .loop .inv .1

@@ -68,10 +68,12 @@ loop-less c = search needs
 loop-again : tie.Need-loop-again Inv-loop μ-loop
 loop-again c =
     let start = c .before .before .before .before .before .before .before .before in
-    let turn = c .before .before .before .before .loop in
-    (omega arith, c .z .given .1 ∙ turn .inv .1,
-    filled-block (λ t. for (start .args .s .k) λ a. for (start .args .s .n) λ v. entryFor (start .args .s) (start .args .p .now) t a v ∷ []) (start .args .s .k * start .args .s .n) (turn .t) (λ j l. for2-length (start .args .s .k) (start .args .s .n) _) (turn .z) (start .args .z .now) (c .before .write-row .last .0) (turn .inv .2)
-    (omega (arith, block (c .before .before .before), turn .inv .1, start .pre .1 .1)) (c .before .write-row .ensures))
+    let turn = c .before .before .before .before .loop in (
+      omega arith,
+      c .z .given .1 ∙ turn .inv .1,
+      filled-block (λ t. for (start .args .s .k) λ a. for (start .args .s .n) λ v. entryFor (start .args .s) (start .args .p .now) t a v ∷ []) (start .args .s .k * start .args .s .n) (turn .t) (λ j l. for2-length (start .args .s .k) (start .args .s .n) _) (turn .z) (start .args .z .now) (c .before .write-row .last .0) (turn .inv .2)
+          (omega (arith, block (c .before .before .before), turn .inv .1, start .pre .1 .1)) (c .before .write-row .ensures),
+    )
 
 same-length : tie.Need-same-length Inv-loop μ-loop
 same-length c = c .before .loop .inv .1

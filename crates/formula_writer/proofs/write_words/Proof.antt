@@ -106,10 +106,9 @@ returns c =
     let split : words (instanceOf (c .before .before .before .before .before .before .before .before .before .before .before .before .args .b .now) (c .before .before .before .before .before .before .before .before .before .before .before .before .args .c)) ≡ F ++ R = words-split (c .before .before .before .before .before .before .before .before .before .before .before .before .args .b .now) (c .before .before .before .before .before .before .before .before .before .before .before .before .args .c) (c .before .before .before .before .before .before .before .before .before .before .before .before .pre .0) (c .before .before .before .before .before .before .before .table-of .result) (c .before .before .before .before .before .before .before .table-of .ensures .1) in
     let n : length (words (instanceOf (c .before .before .before .before .before .before .before .before .before .before .before .before .args .b .now) (c .before .before .before .before .before .before .before .before .before .before .before .before .args .c))) ≡ length F + length R = ap length split ∙ length-append F R in
     let room : length F + length R ≤ length l = omega (arith, c .before .before .before .before .before .before .before .before .before .before .before .before .pre .1) in
-    let q : c .before .before .before .before .before .write-first .result ≡ length F = c .before .before .before .before .before .write-first .ensures .0 in 
+    let q : c .before .before .before .before .before .write-first .result ≡ length F = c .before .before .before .before .before .write-first .ensures .0 in
     let e1 = filled-part l l [] F (c .before .before .before .before .before .write-first .last .0) 0 (sym (filled-nil l)) refl (omega arith) (c .before .before .before .before .before .write-first .ensures .1) in
-    let e2 = filled-part _ l F R (c .before .write-rest .last .0) (c .before .before .before .before .before .write-first .result) e1 (sym q) (omega arith) (c .before .write-rest .ensures .1) in
-    (
+    let e2 = filled-part _ l F R (c .before .write-rest .last .0) (c .before .before .before .before .before .write-first .result) e1 (sym q) (omega arith) (c .before .write-rest .ensures .1) in (
       omega (arith, c .before .write-rest .ensures .0),
       e2 ∙ ap (λ (ws : List ℤ). filled ws l) (sym split),
     )

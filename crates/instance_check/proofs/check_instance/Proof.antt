@@ -50,12 +50,11 @@ for-agents-requires-2 c κs = let l = accepted-long (c .before .before .before .
 
 returns-2 : tie.Need-returns-2
 unfolding instance checked forAgents
-returns-2 c =
-    (
-      c .before .before .before .before .before .before .before .before .before .ask-instance .ensures,
-      rw (c .before .for-agents .ensures, c .for-agents2 .ensures, c .before .before .before .before .before .wide .ensures .0, c .before .before .before .wide2 .ensures .0, c .before .before .edge-count .ensures .0)
+returns-2 c = (
+  c .before .before .before .before .before .before .before .before .before .ask-instance .ensures,
+  rw (c .before .for-agents .ensures, c .for-agents2 .ensures, c .before .before .before .before .before .wide .ensures .0, c .before .before .before .wide2 .ensures .0, c .before .before .edge-count .ensures .0)
       (is-checked (c .before .before .before .before .before .before .before .before .before .before .before .args .b .now) (c .before .before .before .before .before .before .before .before .before .before .before .args .m) (c .before .before .before .before .before .before .before .before .before .ask-instance .result) (c .before .before .before .before .before .before .before .before .before .ask-instance .ensures) (c .before .before .before .before .before .before .before .if1 .left)),
-    )
+)
 
 pub check-instance-spec : {M : Type 1} → statement M
 check-instance-spec =

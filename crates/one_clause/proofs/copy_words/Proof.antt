@@ -41,15 +41,14 @@ loop-less : tie.Need-loop-less Inv-loop μ-loop
 loop-less c = search needs
 
 loop-again : tie.Need-loop-again Inv-loop μ-loop
-loop-again c =
-    (
-      omega arith,
-      (
-        simp length-set (c .before .before .loop .inv .1 .0),
-        rw (toZ-ofZ (sfits-of (c .f .given)), c .before .before .loop .inv .1 .1, add-one, take-suc (c .before .before .before .args .from .now) (c .before .before .loop .i) (pos 0) (omega arith))
+loop-again c = (
+  omega arith,
+  (
+    simp length-set (c .before .before .loop .inv .1 .0),
+    rw (toZ-ofZ (sfits-of (c .f .given)), c .before .before .loop .inv .1 .1, add-one, take-suc (c .before .before .before .args .from .now) (c .before .before .loop .i) (pos 0) (omega arith))
         (filled-set (take (c .before .before .loop .i) (c .before .before .before .args .from .now)) (c .before .before .before .args .f .now) (c .before .before .loop .i) _ (pos 0) (length-take-le (c .before .before .loop .i) (c .before .before .before .args .from .now) (omega arith)) (omega arith)),
-      ),
-    )
+  ),
+)
 
 same-length : tie.Need-same-length Inv-loop μ-loop
 same-length c = c .before .loop .inv .1 .0

@@ -51,7 +51,7 @@ same-length c = search needs
 returns : tie.Need-returns
 returns c =
     λ I e.
-    let q = c .before .before .before .before .before .before .cell-of3 .ensures in let p = c .before .before .before .before .before .before .before .cell-of2 .ensures in 
+    let q = c .before .before .before .before .before .before .cell-of3 .ensures in let p = c .before .before .before .before .before .before .before .cell-of2 .ensures in
     puts
     (clause-G I (c .before .before .before .before .before .before .before .before .before .args .s) e (c .before .before .before .before .before .before .before .before .before .args .i) (c .before .before .before .before .before .before .before .before .cell-of .result .row) (c .before .before .before .before .before .before .before .cell-of2 .result .row) (c .before .before .before .before .before .before .cell-of3 .result .row) (c .before .before .before .before .before .before .cell-of3 .result .place) (c .before .before .before .before .before .before .before .cell-of2 .result .place) (c .before .before .before .before .before .before .before .before .cell-of .result .place) (q .0) (q .1) (p .1) (c .before .before .before .before .before .before .before .before .cell-of .ensures .1) (c .before .before .before .before .before .before .before .before .cell-of .ensures .2) (p .2) (q .2))
     (c .before .put-pair .ensures .0)

@@ -55,7 +55,7 @@ add-early-3 c =
 fault-ad-requires : tie.Need-fault-ad-requires
 fault-ad-requires c κs =
     let start = c .before .before .before .before .before in
-    ((limits-known (start .args .b .now) (start .args .c) (start .pre .0)), ((start .pre .1), ((starts-length (start .args .b .now) (start .args .c) (start .pre .0), whole.starts-inside (start .args .b .now) (start .args .c) (start .pre .0) (start .args .entries .now) ), (goals-length (start .args .b .now) (start .args .c) (start .pre .0), whole.goals-inside (start .args .b .now) (start .args .c) (start .pre .0) (start .args .entries .now) ))))
+    ((limits-known (start .args .b .now) (start .args .c) (start .pre .0)), ((start .pre .1), ((starts-length (start .args .b .now) (start .args .c) (start .pre .0), whole.starts-inside (start .args .b .now) (start .args .c) (start .pre .0) (start .args .entries .now)), (goals-length (start .args .b .now) (start .args .c) (start .pre .0), whole.goals-inside (start .args .b .now) (start .args .c) (start .pre .0) (start .args .entries .now)))))
 
 returns : tie.Need-returns
 returns c =

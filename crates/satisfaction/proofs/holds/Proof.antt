@@ -1,6 +1,5 @@
 -- `satisfaction::holds` meets its contract: the entry at the variable's place tells, since it is the variable or its negative. Assumes nothing.
 use mir.Syntax.{w32}
-
 use mathlib.Core.Path.{_∙_, ap}
 use Prim.Native.Nat.{_-_}
 use native.Mathlib.Omega.{arith}
