@@ -1,0 +1,699 @@
+//! Makes cases for the program `comparison` and the lines that it must print.
+//!
+//! `cases gate DIR` writes DIR/stdin and DIR/stdout, the stored set.
+//! `cases random SEED COUNT DIR` does the same for longer runs, and so do
+//! `small`, `clauses`, `plans` and `valuations`, which take all of some small
+//! set. Each prints a line "kind number times" for each answer that occurs.
+
+#![forbid(unsafe_code)]
+
+use independent::sample::{all_edges, instance_bytes, largest_instance, Generator};
+use independent::{check_plan, clause, decode, encode, plain, write_formula};
+use std::fmt::Write;
+use std::{env, fs, process};
+
+const WRITER: u8 = 1;
+const CLAUSE: u8 = 2;
+const PLAN: u8 = 3;
+const DECODER: u8 = 4;
+const ENCODER: u8 = 5;
+
+/// What the program's arrays hold.
+const WORDS: usize = 65_536;
+const PLAN_BYTES: usize = 1_024;
+const ENTRIES: usize = 40_000;
+
+/// The answers each kind can give, 0 and 1 to 10 apart.
+const ANSWERS: [(u8, &[usize]); 5] = [
+    (WRITER, &[12]),
+    (CLAUSE, &[11, 12]),
+    (PLAN, &[13, 17, 18, 19, 20, 21, 22]),
+    (DECODER, &[14, 15, 23, 24]),
+    (ENCODER, &[13, 16, 17, 18, 19, 20, 21, 22]),
+];
+
+fn before(i: usize) -> u8 {
+    (7 * (i % 32) + 3) as u8
+}
+
+fn hash(values: impl Iterator<Item = u64>) -> u64 {
+    values.fold(1, |h, y| (h * 131 + y) % 2_147_483_647)
+}
+
+fn hash_words(words: &[i32]) -> u64 {
+    hash(words.iter().map(|&x| (i64::from(x) + (1 << 31)) as u64))
+}
+
+fn lent_words(length: usize) -> Vec<i32> {
+    (0..length).map(|i| i32::from(before(i))).collect()
+}
+
+/// An instance with its horizon; accepted unless said otherwise.
+struct Given {
+    instance: Vec<u8>,
+    m: u64,
+}
+
+impl Given {
+    fn n(&self) -> usize {
+        usize::from(self.instance[0])
+    }
+    fn k(&self) -> usize {
+        usize::from(self.instance[1])
+    }
+    fn plan_length(&self) -> usize {
+        (self.m as usize + 1) * self.k()
+    }
+    fn variables(&self) -> usize {
+        self.n() * self.plan_length()
+    }
+    fn words(&self) -> usize {
+        write_formula(&self.instance, self.m, &mut []).second as usize
+    }
+    fn clauses(&self) -> u64 {
+        clause(&self.instance, self.m, u64::MAX, &mut []).second
+    }
+    fn starts(&self) -> &[u8] {
+        let from = self.instance.len() - 2 * self.k();
+        &self.instance[from..from + self.k()]
+    }
+}
+
+struct Cases {
+    random: Generator,
+    input: Vec<u8>,
+    output: String,
+    times: [[usize; 25]; 6],
+}
+
+impl Cases {
+    fn put(&mut self, kind: u8, given: &Given, number: u64, payload: &[u8], lent: usize) {
+        self.input.push(kind);
+        self.input.extend(given.m.to_le_bytes());
+        self.input.extend(number.to_le_bytes());
+        self.input
+            .extend((given.instance.len() as u16).to_le_bytes());
+        self.input.extend((payload.len() as u32).to_le_bytes());
+        self.input.extend((lent as u32).to_le_bytes());
+        self.input.extend(&given.instance);
+        self.input.extend(payload);
+        let room = match kind {
+            WRITER | CLAUSE => lent <= WORDS,
+            PLAN => true,
+            DECODER => lent <= PLAN_BYTES && payload.len() / 4 <= ENTRIES,
+            _ => lent <= ENTRIES,
+        };
+        if !room {
+            self.output.push_str("skip\n");
+            return;
+        }
+        let (b, m) = (&given.instance[..], given.m);
+        let mut words = lent_words(if kind == DECODER { 0 } else { lent });
+        let mut clauses = 0;
+        let mut hashed = None;
+        let (no, second) = match kind {
+            WRITER => {
+                let r = write_formula(b, m, &mut words);
+                clauses = r.clauses;
+                (r.number, r.second)
+            }
+            CLAUSE => {
+                let r = clause(b, m, number, &mut words);
+                (r.number, r.second)
+            }
+            PLAN => {
+                hashed = Some(1);
+                let r = check_plan(b, m, payload);
+                (r.number, r.second)
+            }
+            DECODER => {
+                let entries: Vec<i32> = payload
+                    .chunks_exact(4)
+                    .map(|c| i32::from_le_bytes([c[0], c[1], c[2], c[3]]))
+                    .collect();
+                let mut plan: Vec<u8> = (0..lent).map(before).collect();
+                let r = decode(b, m, &entries, &mut plan);
+                hashed = Some(hash(plan.iter().map(|&x| u64::from(x))));
+                (r.number, r.second)
+            }
+            _ => {
+                let r = encode(b, m, payload, &mut words);
+                (r.number, r.second)
+            }
+        };
+        let hashed = hashed.unwrap_or_else(|| hash_words(&words));
+        writeln!(self.output, "{no} {second} {clauses} {hashed}").expect("a string takes all");
+        self.times[usize::from(kind)][no as usize] += 1;
+    }
+
+    fn writer(&mut self, given: &Given, lent: usize) {
+        self.put(WRITER, given, 0, &[], lent);
+    }
+
+    fn clause(&mut self, given: &Given, number: u64, lent: usize) {
+        self.put(CLAUSE, given, number, &[], lent);
+    }
+
+    fn plan(&mut self, given: &Given, plan: &[u8]) {
+        self.put(PLAN, given, 0, plan, 0);
+    }
+
+    fn decoder(&mut self, given: &Given, entries: &[i32], lent: usize) {
+        let payload: Vec<u8> = entries.iter().flat_map(|x| x.to_le_bytes()).collect();
+        self.put(DECODER, given, 0, &payload, lent);
+    }
+
+    fn encoder(&mut self, given: &Given, plan: &[u8], lent: usize) {
+        self.put(ENCODER, given, 0, plan, lent);
+    }
+
+    /// A plan for the plan check and, with a slice that turns, for the encoder.
+    fn both(&mut self, given: &Given, plan: &[u8]) {
+        self.plan(given, plan);
+        let n = given.variables();
+        let lent = match self.random.below(8) {
+            0 => n - 1,
+            1 => n + 1,
+            2 => 0,
+            _ => n,
+        };
+        self.encoder(given, plan, lent);
+    }
+
+    /// The writer and one clause, with slices that fit, are short and are longer.
+    fn formula(&mut self, given: &Given) {
+        let words = given.words();
+        let lent = match self.random.below(6) {
+            0 => words - 1,
+            1 => words + 2,
+            2 => self.random.below(words),
+            _ => words,
+        };
+        self.writer(given, if lent <= WORDS { lent } else { WORDS });
+        let count = given.clauses();
+        let number = match self.random.below(12) {
+            0 => count - 1,
+            1 => count,
+            2 => count + 1,
+            3 => u64::MAX,
+            4 => (1 << 32) + self.random.below(count as usize) as u64,
+            _ => self.random.below(count as usize) as u64,
+        };
+        let needed = clause(&given.instance, given.m, number, &mut []).second as usize;
+        let lent = match self.random.below(5) {
+            0 => needed - 1,
+            1 => needed + 1,
+            2 => needed,
+            3 => 66,
+            _ => self.random.below(70),
+        };
+        self.clause(given, number, lent.min(200));
+    }
+
+    /// A passing plan and its valuation, whole and damaged.
+    fn walked(&mut self, given: &Given, plan: &[u8]) {
+        let n = given.n();
+        self.both(given, plan);
+        let mut damaged = plan.to_vec();
+        self.random.damage(&mut damaged);
+        self.both(given, &damaged);
+        let mut damaged = plan.to_vec();
+        let at = self.random.below(plan.len());
+        damaged[at] = self.random.below(n) as u8;
+        self.both(given, &damaged);
+        let mut damaged = plan.to_vec();
+        let (at, from) = (self.random.below(plan.len()), self.random.below(plan.len()));
+        damaged[at] = plan[from];
+        self.both(given, &damaged);
+        let mut damaged = plan.to_vec();
+        damaged.swap(at, from);
+        self.both(given, &damaged);
+        // One agent beside another in the same row.
+        let k = given.k();
+        let row = self.random.below(plan.len() / k) * k;
+        let mut damaged = plan.to_vec();
+        damaged[row + self.random.below(k)] = plan[row + self.random.below(k)];
+        self.both(given, &damaged);
+        let mut damaged = plan.to_vec();
+        if self.random.chance(50) {
+            damaged.pop();
+        } else {
+            damaged.push(0);
+        }
+        self.both(given, &damaged);
+        let bytes = self.random.bytes(plan.len());
+        self.both(given, &bytes);
+        let mut bytes: Vec<u8> = (0..plan.len())
+            .map(|_| self.random.below(n) as u8)
+            .collect();
+        bytes[..given.k()].copy_from_slice(given.starts());
+        self.both(given, &bytes);
+        self.valuations(given, plan);
+    }
+
+    /// The valuation of a passing plan, whole and damaged.
+    fn valuations(&mut self, given: &Given, plan: &[u8]) {
+        let (n, k, length) = (given.n(), given.k(), plan.len());
+        let entries = plain::valuation(n, plan);
+        let count = entries.len();
+        for lent in [length, length + 1, length - 1] {
+            self.decoder(given, &entries, lent);
+        }
+        let mut damaged = entries.clone();
+        let at = self.random.below(count);
+        damaged[at] = -damaged[at];
+        self.decoder(given, &damaged, length);
+        // A true entry is false, and another one of its row is true.
+        let (row, v) = (self.random.below(length), self.random.below(n));
+        let mut damaged = entries.clone();
+        let (out, into) = (row * n + usize::from(plan[row]), row * n + v);
+        damaged[out] = -(out as i32 + 1);
+        damaged[into] = into as i32 + 1;
+        self.decoder(given, &damaged, length + 2);
+        // Two agents exchanged in one row, or in all.
+        let (a, b) = (self.random.below(k), self.random.below(k));
+        let t = self.random.below(length / k);
+        for rows in [t..t + 1, 0..length / k] {
+            let mut other = plan.to_vec();
+            for t in rows {
+                other.swap(t * k + a, t * k + b);
+            }
+            self.decoder(given, &plain::valuation(n, &other), length);
+        }
+        // One row repeated.
+        let from = self.random.below(length / k);
+        let mut other = plan.to_vec();
+        other.copy_within(from * k..(from + 1) * k, t * k);
+        self.decoder(given, &plain::valuation(n, &other), length);
+        // An entry out of place, two of them exchanged, an extreme number.
+        let (at, from) = (self.random.below(count), self.random.below(count));
+        let mut damaged = entries.clone();
+        damaged[at] = entries[from];
+        self.decoder(given, &damaged, length);
+        let mut damaged = entries.clone();
+        damaged.swap(at, from);
+        self.decoder(given, &damaged, length);
+        let mut damaged = entries.clone();
+        let extremes = [i32::MIN, i32::MAX, i32::MIN + 1, 0, count as i32 + 1];
+        damaged[at] = extremes[self.random.below(5)];
+        self.decoder(given, &damaged, length);
+        // Lengths off by one, and random signs.
+        self.decoder(given, &entries[..count - 1], length);
+        let mut longer = entries.clone();
+        longer.push(count as i32 + 1);
+        self.decoder(given, &longer, length);
+        let mut signs = entries;
+        for _ in 0..1 + self.random.below(4) {
+            let at = self.random.below(count);
+            signs[at] = -signs[at];
+        }
+        self.decoder(given, &signs, length);
+    }
+
+    /// Every call on bytes that are most likely refused.
+    fn refused(&mut self, instance: Vec<u8>, m: u64) {
+        let given = Given { instance, m };
+        self.writer(&given, 5);
+        self.clause(&given, 0, 3);
+        let plan = self.random.bytes(3);
+        self.plan(&given, &plan);
+        self.decoder(&given, &[1, -2], 4);
+        self.encoder(&given, &plan, 4);
+    }
+
+    /// Malformed instances for the questions 1 to 10.
+    fn malformed(&mut self) {
+        let n = 3 + self.random.below(6);
+        let k = 2 + self.random.below(2);
+        let edges = loop {
+            let edges = self.random.edges(n, 60);
+            if edges.len() > 1 {
+                break edges;
+            }
+        };
+        let (starts, goals) = (self.random.vertices(n, k), self.random.vertices(n, k));
+        let good = instance_bytes(n, &edges, &starts, &goals);
+        let e = edges.len();
+        let m = self.random.below(33) as u64;
+        let cut = self.random.below(4);
+        self.refused(good[..cut].to_vec(), m);
+        for n in [0, 65, 64 + self.random.below(192)] {
+            let mut bad = good.clone();
+            bad[0] = n as u8;
+            self.refused(bad, m);
+        }
+        for k in [0, 17, n + 1, self.random.below(256)] {
+            let mut bad = good.clone();
+            bad[1] = k as u8;
+            self.refused(bad, m);
+        }
+        for e in [n * (n - 1) / 2 + 1, 256 + e, e + 1, e - 1] {
+            let mut bad = good.clone();
+            bad[2..4].copy_from_slice(&(e as u16).to_le_bytes());
+            self.refused(bad, m);
+        }
+        let mut bad = good.clone();
+        bad.push(0);
+        self.refused(bad, m);
+        self.refused(good[..good.len() - 1].to_vec(), m);
+        let j = self.random.below(e);
+        let mut bad = edges.clone();
+        bad[j] = [(bad[j].1, bad[j].0), (bad[j].0, bad[j].0), (0, n as u8)][self.random.below(3)];
+        self.refused(instance_bytes(n, &bad, &starts, &goals), m);
+        let mut bad = edges.clone();
+        let j = 1 + self.random.below(e - 1);
+        if self.random.chance(50) {
+            bad[j] = bad[j - 1];
+        } else {
+            bad.swap(j, j - 1);
+        }
+        self.refused(instance_bytes(n, &bad, &starts, &goals), m);
+        for at in [0, 1] {
+            let mut ends = [starts.clone(), goals.clone()];
+            let a = 1 + self.random.below(k - 1);
+            ends[at][a] = [ends[at][0], n as u8, 255][self.random.below(3)];
+            self.refused(instance_bytes(n, &edges, &ends[0], &ends[1]), m);
+        }
+        for m in [33, 255, 1 << 32, 1 << 63, u64::MAX] {
+            self.refused(good.clone(), m);
+        }
+        let mut bad = good;
+        self.random.damage(&mut bad);
+        self.refused(bad, m);
+        let length = self.random.below(20);
+        let mut bytes = self.random.bytes(length);
+        bytes.iter_mut().for_each(|b| *b %= 5);
+        self.refused(bytes, m);
+    }
+
+    /// An accepted instance at random, with a walk through it.
+    fn larger(&mut self, most: usize) {
+        let n = 1 + self.random.below(most);
+        let k = 1 + self.random.below(n.min(1 + most / 4));
+        let m = self.random.below(1 + most / 3);
+        let percent = [10, 30, 60, 100][self.random.below(4)];
+        let (instance, plan) = self.random.walk(n, k, percent, m);
+        let given = Given {
+            instance,
+            m: m as u64,
+        };
+        self.formula(&given);
+        self.walked(&given, &plan);
+        // Wrong goals: the last row fails.
+        let goals = self.random.vertices(n, k);
+        let mut other = given.instance.clone();
+        let from = other.len() - k;
+        other[from..].copy_from_slice(&goals);
+        let given = Given {
+            instance: other,
+            m: m as u64,
+        };
+        self.both(&given, &plan);
+        let entries = plain::valuation(n, &plan);
+        self.decoder(&given, &entries, plan.len());
+    }
+
+    /// One instance of up to 20 vertices, for the writer and the clauses alone.
+    fn formulas(&mut self) {
+        let n = 1 + self.random.below(20);
+        let k = 1 + self.random.below(n.min(16));
+        let m = self.random.below(9) as u64;
+        let percent = self.random.below(101);
+        let instance = self.random.instance(n, k, percent);
+        let given = Given { instance, m };
+        self.formula(&given);
+        self.formula(&given);
+    }
+
+    /// The largest sizes.
+    fn largest(&mut self, decoder: bool) {
+        let given = Given {
+            instance: largest_instance(),
+            m: 32,
+        };
+        let plan: Vec<u8> = (0..33).flat_map(|_| 0..16).collect();
+        self.writer(&given, WORDS);
+        self.writer(&given, WORDS + 1);
+        let count = given.clauses();
+        for number in [0, 15, 16, 32, 560, count / 2, count - 1, count] {
+            self.clause(&given, number, 66);
+        }
+        // The longest clause, of family F: the middle families end where F begins.
+        let f = 16 + 16 + 33 * 16 + 33 * 16 * 2016 + 33 * 64 * 120;
+        for lent in [65, 66, 67] {
+            self.clause(&given, f + 32 * 16 * 64 - 1, lent);
+        }
+        self.plan(&given, &plan);
+        self.encoder(&given, &plan, 33 * 16 * 64);
+        self.encoder(&given, &plan, ENTRIES);
+        self.encoder(&given, &plan, ENTRIES + 1);
+        if decoder {
+            self.decoder(&given, &plain::valuation(64, &plan), 528);
+        }
+    }
+
+    /// What is asked of one small instance.
+    fn small(&mut self, given: &Given) {
+        self.formula(given);
+        let (n, k) = (given.n(), given.k());
+        let mut plan: Vec<u8> = (0..given.plan_length())
+            .map(|_| self.random.below(n) as u8)
+            .collect();
+        plan[..k].copy_from_slice(given.starts());
+        let from = plan.len() - k;
+        plan[from..].copy_from_slice(&given.instance[given.instance.len() - k..]);
+        if self.random.chance(50) {
+            self.plan(given, &plan);
+        } else {
+            self.encoder(given, &plan, given.variables());
+        }
+        self.decoder(given, &plain::valuation(n, &plan), plan.len());
+    }
+
+    /// All bytes up to `n` as a plan, one more than the vertices.
+    fn all_plans(&mut self, given: &Given) {
+        let (n, length) = (given.n() + 1, given.plan_length());
+        for index in 0..n.pow(length as u32) {
+            let mut rest = index;
+            let mut plan = vec![0; length];
+            for byte in plan.iter_mut().rev() {
+                *byte = (rest % n) as u8;
+                rest /= n;
+            }
+            if index % 4 == 3 {
+                self.encoder(given, &plan, given.variables());
+            } else {
+                self.plan(given, &plan);
+            }
+        }
+    }
+
+    /// All clauses by number, and the first number past them.
+    fn all_clauses(&mut self, given: &Given) {
+        for number in 0..=given.clauses() {
+            let lent = 3 + self.random.below(6);
+            self.clause(given, number, lent);
+        }
+    }
+
+    /// All sign patterns.
+    fn all_valuations(&mut self, given: &Given) {
+        let count = given.variables();
+        for signs in 0..1u32 << count {
+            let entries: Vec<i32> = (0..count)
+                .map(|i| {
+                    let x = i as i32 + 1;
+                    if signs >> i & 1 == 1 {
+                        x
+                    } else {
+                        -x
+                    }
+                })
+                .collect();
+            self.decoder(given, &entries, given.plan_length());
+        }
+    }
+}
+
+/// Starts or goals: k different vertices below n, k at most 2.
+fn ends(n: u8, k: usize) -> Vec<Vec<u8>> {
+    if k == 1 {
+        return (0..n).map(|v| vec![v]).collect();
+    }
+    (0..n)
+        .flat_map(|v| (0..n).filter(move |&w| w != v).map(move |w| vec![v, w]))
+        .collect()
+}
+
+/// All instances on n vertices with k agents, k at most 2, at the horizon m.
+fn instances(n: usize, k: usize, m: u64) -> Vec<Given> {
+    let edges = all_edges(n);
+    let mut all = Vec::new();
+    for graph in 0..1usize << edges.len() {
+        let mut index = 0..edges.len();
+        let mut chosen = edges.clone();
+        chosen.retain(|_| graph >> index.next().unwrap_or(0) & 1 == 1);
+        for starts in ends(n as u8, k) {
+            for goals in ends(n as u8, k) {
+                let instance = instance_bytes(n, &chosen, &starts, &goals);
+                all.push(Given { instance, m });
+            }
+        }
+    }
+    all
+}
+
+/// All instances on up to 4 vertices with up to 2 agents and m up to 2.
+fn small_instances() -> Vec<Given> {
+    let mut all = Vec::new();
+    for n in 1..=4 {
+        for k in 1..=n.min(2) {
+            for m in 0..=2 {
+                all.extend(instances(n, k, m));
+            }
+        }
+    }
+    all
+}
+
+/// The stored set: all of the above, thinned so that it stays small.
+fn gate(cases: &mut Cases) {
+    for (index, given) in small_instances().iter().enumerate() {
+        // The first 1,131 have up to 3 vertices.
+        if index % if index < 1131 { 2 } else { 41 } == 0 {
+            cases.small(given);
+        }
+    }
+    for given in small_instances().iter().step_by(3001) {
+        cases.all_clauses(given);
+    }
+    for _ in 0..6 {
+        cases.malformed();
+    }
+    for (n, k, m, step) in [
+        (1, 1, 2, 1),
+        (2, 1, 1, 1),
+        (2, 2, 1, 2),
+        (3, 1, 1, 7),
+        (3, 2, 1, 71),
+    ] {
+        for given in instances(n, k, m).iter().step_by(step) {
+            cases.all_plans(given);
+        }
+    }
+    for (n, k, m, step) in [
+        (1, 1, 2, 1),
+        (2, 1, 1, 1),
+        (2, 2, 0, 2),
+        (2, 2, 1, 5),
+        (3, 1, 1, 13),
+    ] {
+        for given in instances(n, k, m).iter().step_by(step) {
+            cases.all_valuations(given);
+        }
+    }
+    for _ in 0..60 {
+        cases.larger(5);
+    }
+    for _ in 0..12 {
+        cases.larger(10);
+    }
+    for _ in 0..60 {
+        cases.formulas();
+    }
+    cases.largest(true);
+}
+
+/// Fails where a kind never gives an answer that it can give.
+fn require_all(cases: &Cases) {
+    for (kind, numbers) in ANSWERS {
+        for number in (0..=10).chain(numbers.iter().copied()) {
+            if cases.times[usize::from(kind)][number] == 0 {
+                eprintln!("kind {kind} never gives {number}");
+                process::exit(1);
+            }
+        }
+    }
+}
+
+fn main() {
+    let words: Vec<String> = env::args().skip(1).collect();
+    let number = |i: usize| words.get(i).and_then(|w| w.parse().ok()).unwrap_or(1u64);
+    let mode = words.first().map_or("", |w| w);
+    let seed = if mode == "gate" {
+        20_261_115
+    } else {
+        number(1)
+    };
+    let mut cases = Cases {
+        random: Generator::new(seed.wrapping_mul(0x9E37_79B9_7F4A_7C15) | 1),
+        input: Vec::new(),
+        output: String::new(),
+        times: [[0; 25]; 6],
+    };
+    match mode {
+        "gate" => {
+            gate(&mut cases);
+            require_all(&cases);
+        }
+        "random" => {
+            for i in 0..number(2) {
+                match i % 8 {
+                    0 => cases.malformed(),
+                    1 => cases.formulas(),
+                    2 | 3 => cases.larger(20),
+                    4 | 5 => cases.larger(10),
+                    _ => cases.larger(5),
+                }
+            }
+            cases.largest(false);
+        }
+        "small" => small_instances().iter().for_each(|g| cases.small(g)),
+        "clauses" => {
+            let from = cases.random.below(11);
+            for given in small_instances().iter().skip(from).step_by(11) {
+                cases.all_clauses(given);
+            }
+        }
+        "plans" => {
+            for (n, k, m) in [(2, 1, 2), (2, 2, 1), (3, 1, 2), (3, 2, 1)] {
+                instances(n, k, m).iter().for_each(|g| cases.all_plans(g));
+            }
+            let all = instances(3, 2, 2);
+            let at = cases.random.below(all.len());
+            cases.all_plans(&all[at]);
+        }
+        "valuations" => {
+            for (n, k, m) in [(2, 1, 3), (2, 2, 1), (3, 1, 2), (4, 1, 1), (4, 2, 0)] {
+                let all = instances(n, k, m);
+                let from = cases.random.below(7);
+                for given in all.iter().skip(from).step_by(7) {
+                    cases.all_valuations(given);
+                }
+            }
+            for (n, k, m) in [(2, 2, 2), (2, 2, 3), (4, 2, 1), (4, 1, 3)] {
+                let all = instances(n, k, m);
+                let at = cases.random.below(all.len());
+                cases.all_valuations(&all[at]);
+            }
+        }
+        _ => {
+            eprintln!(
+                "cases gate DIR, or cases random|small|clauses|plans|valuations SEED COUNT DIR"
+            );
+            process::exit(2);
+        }
+    }
+    let dir = words.last().map_or(".", |w| w);
+    let written = fs::write(format!("{dir}/stdin"), &cases.input)
+        .and_then(|()| fs::write(format!("{dir}/stdout"), &cases.output));
+    if let Err(error) = written {
+        eprintln!("{dir}: {error}");
+        process::exit(1);
+    }
+    for (kind, times) in cases.times.iter().enumerate() {
+        for (number, &times) in times.iter().enumerate().filter(|(_, &t)| t > 0) {
+            println!("{kind} {number} {times}");
+        }
+    }
+}
