@@ -1,0 +1,80 @@
+/* Each call once or more on the examples of document 01, from C. */
+#include "runglaet.h"
+
+#include <stdio.h>
+#include <string.h>
+
+static int failures = 0;
+
+static void expect(const char *what, int holds) {
+    if (!holds) {
+        printf("c_check: wrong: %s\n", what);
+        failures++;
+    }
+}
+
+static int says(runglaet_answer answer, uint32_t number, uint64_t second) {
+    return answer.number == number && answer.second == second;
+}
+
+int main(void) {
+    static const uint8_t pair[8] = {2, 1, 1, 0, 0, 1, 0, 1};
+    static const int32_t formula[24] = {1,  0,  4, 0,  1,  2, 0,  3, 4, 0,  -1, -2,
+                                        0, -3, -4, 0, -1,  3, 4,  0, -2, 4,  3,  0};
+    int32_t words[25], before[25];
+    for (int i = 0; i < 25; i++) words[i] = before[i] = 1000 + i;
+
+    runglaet_written written = runglaet_write_formula(pair, sizeof pair, 1, words, 23);
+    expect("a slice of 23 gets 12, place 24", written.number == 12 && written.second == 24 && written.clauses == 0);
+    expect("a refusal changes nothing", memcmp(words, before, sizeof words) == 0);
+    written = runglaet_write_formula(pair, sizeof pair, 1, words, 25);
+    expect("24 words, 8 clauses", written.number == 0 && written.second == 24 && written.clauses == 8);
+    expect("the words", memcmp(words, formula, sizeof formula) == 0);
+    expect("nothing beyond", words[24] == 1024);
+
+    expect("clause 7", says(runglaet_clause(pair, sizeof pair, 1, 7, words, 25), 0, 4));
+    expect("its words", memcmp(words, formula + 20, 4 * sizeof *words) == 0);
+    expect("clause 8 gets 11", says(runglaet_clause(pair, sizeof pair, 1, 8, words, 25), 11, 8));
+
+    static const uint8_t moves[2] = {0, 1}, stays[1] = {0};
+    expect("plan 0 1, cost 1", says(runglaet_check_plan(pair, sizeof pair, 1, moves, 2), 0, 1));
+    expect("m 0, plan 0", says(runglaet_check_plan(pair, sizeof pair, 0, stays, 1), 22, 0));
+    expect("m 33", says(runglaet_check_plan(pair, sizeof pair, 33, moves, 2), 10, 0));
+
+    static const int32_t satisfying[4] = {1, -2, -3, 4}, twice[4] = {1, -2, 3, 4}, nowhere[4] = {-1, -2, -3, -4},
+                         displaced[4] = {1, -2, -4, 3}, lowest[4] = {INT32_MIN, -2, -3, 4};
+    uint8_t plan[3] = {200, 201, 202};
+    expect("24, place 5", says(runglaet_decode(pair, sizeof pair, 1, twice, 4, plan, 3), 24, 5));
+    expect("24, place 0", says(runglaet_decode(pair, sizeof pair, 1, nowhere, 4, plan, 3), 24, 0));
+    expect("23, place 2", says(runglaet_decode(pair, sizeof pair, 1, displaced, 4, plan, 3), 23, 2));
+    expect("23, place 0", says(runglaet_decode(pair, sizeof pair, 1, lowest, 4, plan, 3), 23, 0));
+    expect("the plan as it was", plan[0] == 200 && plan[1] == 201 && plan[2] == 202);
+    expect("decoded", says(runglaet_decode(pair, sizeof pair, 1, satisfying, 4, plan, 3), 0, 2));
+    expect("the plan 0 1", plan[0] == 0 && plan[1] == 1 && plan[2] == 202);
+
+    int32_t entries[4] = {7, 7, 7, 7};
+    expect("16, place 4", says(runglaet_encode(pair, sizeof pair, 1, moves, 2, entries, 3), 16, 4));
+    expect("the entries as they were", entries[0] == 7 && entries[1] == 7 && entries[2] == 7 && entries[3] == 7);
+    expect("encoded", says(runglaet_encode(pair, sizeof pair, 1, moves, 2, entries, 4), 0, 4));
+    expect("the entries 1 -2 -3 4", memcmp(entries, satisfying, sizeof entries) == 0);
+
+    /* Two agents on the pair's edge, and the path. */
+    static const uint8_t swap[10] = {2, 2, 1, 0, 0, 1, 0, 1, 1, 0}, swapped[4] = {0, 1, 1, 0};
+    expect("20, place 2", says(runglaet_check_plan(swap, sizeof swap, 1, swapped, 4), 20, 2));
+    written = runglaet_write_formula(swap, sizeof swap, 1, words, 25);
+    expect("72 words needed", written.number == 12 && written.second == 72);
+    expect("24 clauses", says(runglaet_clause(swap, sizeof swap, 1, 24, words, 25), 11, 24));
+    static const uint8_t path[12] = {3, 2, 2, 0, 0, 1, 1, 2, 0, 1, 1, 2}, follow[4] = {0, 1, 1, 2},
+                         wait[6] = {0, 1, 0, 2, 1, 2};
+    expect("path: 20, place 2", says(runglaet_check_plan(path, sizeof path, 1, follow, 4), 20, 2));
+    expect("path: cost 2", says(runglaet_check_plan(path, sizeof path, 2, wait, 6), 0, 2));
+    static const uint8_t meet[12] = {3, 2, 2, 0, 0, 1, 1, 2, 0, 2, 1, 2}, met[4] = {0, 2, 1, 1};
+    expect("path: 21, place 3", says(runglaet_check_plan(meet, sizeof meet, 1, met, 4), 21, 3));
+    static const uint8_t jump[10] = {3, 1, 2, 0, 0, 1, 1, 2, 0, 2}, jumped[2] = {0, 2};
+    expect("path: 19, place 1", says(runglaet_check_plan(jump, sizeof jump, 1, jumped, 2), 19, 1));
+    static const uint8_t repeated[12] = {3, 2, 2, 0, 0, 0, 1, 1, 0, 1, 1, 2};
+    expect("edge 0-1 twice: 7, place 5", says(runglaet_check_plan(repeated, sizeof repeated, 1, follow, 4), 7, 5));
+
+    if (failures == 0) printf("c_check: all examples hold\n");
+    return failures != 0;
+}

@@ -1,0 +1,732 @@
+//! Compares the library with the independent program, through the C interface.
+//!
+//! compare [SEED [COUNT [FIRST]]]: every small instance, the largest one and COUNT random cases; with FIRST only COUNT
+//! random cases from that one on.
+
+#![forbid(unsafe_code)]
+
+use independent::sample::{all_edges, instance_bytes, largest_instance, Generator};
+use interface::input::*;
+use interface::{Answer, Written};
+use std::fmt::Debug;
+use std::hint::black_box;
+use std::time::Instant;
+
+const NAMES: [&str; 5] = ["writer", "clause", "check", "decoder", "encoder"];
+const WRITER: usize = 0;
+const CLAUSE: usize = 1;
+const CHECK: usize = 2;
+const DECODER: usize = 3;
+const ENCODER: usize = 4;
+
+/// Can the call give this number? 0 is accepted.
+fn asks(call: usize, number: usize) -> bool {
+    number <= 10
+        || match call {
+            WRITER => number == 12,
+            CLAUSE => number == 11 || number == 12,
+            CHECK => number == 13 || (17..=22).contains(&number),
+            DECODER => [14, 15, 23, 24].contains(&number),
+            _ => number == 13 || (16..=22).contains(&number),
+        }
+}
+
+/// What lent slices hold before a call; no call writes such a value.
+trait Pattern: Copy + PartialEq + Debug {
+    fn pattern(index: usize) -> Self;
+}
+
+impl Pattern for i32 {
+    fn pattern(index: usize) -> i32 {
+        0x5A00_0000 + (index & 0xFF_FFFF) as i32
+    }
+}
+
+impl Pattern for u8 {
+    fn pattern(index: usize) -> u8 {
+        0x80 | (index as u8).wrapping_mul(37)
+    }
+}
+
+/// Kept before and after each lent slice.
+const AFTER: usize = 21;
+
+/// An input, away from the start of its allocation.
+struct Input<T> {
+    all: Vec<T>,
+    from: usize,
+}
+
+impl<T: Pattern> Input<T> {
+    fn new(from: usize, items: &[T]) -> Input<T> {
+        let mut all = Vec::with_capacity(from + items.len());
+        all.extend((0..from).map(T::pattern));
+        all.extend_from_slice(items);
+        Input { all, from }
+    }
+
+    fn items(&self) -> &[T] {
+        black_box(&self.all[self.from..])
+    }
+}
+
+/// The inputs of one call, for the report of a difference.
+struct Asked<'a> {
+    call: usize,
+    instance: &'a [u8],
+    horizon: u64,
+    clause: Option<u64>,
+    plan: Option<&'a [u8]>,
+    entries: Option<&'a [i32]>,
+}
+
+struct Run {
+    seed: u64,
+    part: &'static str,
+    case: u64,
+    /// Items kept before each lent slice in this case.
+    before: usize,
+    /// Calls that gave each number.
+    hits: [[u64; 25]; 5],
+    /// By family: clauses given, and clauses that refusal 24 named.
+    given: [u64; 7],
+    falsified: [u64; 7],
+    /// Accepted plans and valuations that came back as they were.
+    round_trips: u64,
+}
+
+impl Run {
+    fn fail(&self, asked: &Asked, what: &str) -> ! {
+        println!(
+            "DIFFERENCE in {}: {what}\nseed {}, {} case {}",
+            NAMES[asked.call], self.seed, self.part, self.case
+        );
+        match self.part {
+            "random" => println!("again: compare {} 1 {}", self.seed, self.case),
+            _ => println!("again: compare {} 0", self.seed),
+        }
+        println!("instance {:?}", asked.instance);
+        println!("horizon {}, clause {:?}", asked.horizon, asked.clause);
+        println!("plan {:?}", asked.plan);
+        println!("entries {:?}", asked.entries);
+        std::process::exit(1);
+    }
+
+    /// Runs both on slices of `length` items; gives the answer and the slice.
+    fn both<T: Pattern>(
+        &mut self,
+        asked: &Asked,
+        length: usize,
+        ours: impl FnOnce(&[u8], &mut [T]) -> Written,
+        theirs: impl FnOnce(&[u8], &mut [T]) -> Written,
+    ) -> (Written, Vec<T>) {
+        let lent = self.before..self.before + length;
+        let mut left: Vec<T> = (0..lent.end + AFTER).map(T::pattern).collect();
+        let mut right = left.clone();
+        let instance = Input::new(self.before, asked.instance);
+        let answer = ours(instance.items(), black_box(&mut left[lent.clone()]));
+        let expected = theirs(asked.instance, &mut right[lent.clone()]);
+        if answer != expected {
+            self.fail(
+                asked,
+                &format!("slice {length}: library {answer:?}, expected {expected:?}"),
+            );
+        }
+        if instance.items() != asked.instance {
+            self.fail(asked, "the instance was changed");
+        }
+        if left != right {
+            let at = left.iter().zip(&right).position(|(a, b)| a != b);
+            self.fail(
+                asked,
+                &format!(
+                    "slice {length}, {answer:?}: contents differ at {at:?} with {} before",
+                    lent.start
+                ),
+            );
+        }
+        let filled = match answer.number {
+            0 if asked.call != CHECK => answer.second as usize,
+            _ => 0,
+        };
+        if filled > length {
+            self.fail(asked, &format!("slice {length}: {answer:?} counts more"));
+        }
+        let kept = |i: usize| left[i] == T::pattern(i);
+        if !(0..lent.start).all(kept) || !(lent.start + filled..left.len()).all(kept) {
+            self.fail(
+                asked,
+                &format!("slice {length}, {answer:?}: touched beyond"),
+            );
+        }
+        let number = answer.number as usize;
+        if number > 24 || !asks(asked.call, number) {
+            self.fail(asked, &format!("{answer:?}: not a number of this call"));
+        }
+        self.hits[asked.call][number] += 1;
+        left.truncate(lent.end);
+        (answer, left.split_off(lent.start))
+    }
+
+    fn write(&mut self, instance: &[u8], horizon: u64, length: usize) -> (Written, Vec<i32>) {
+        let asked = Asked {
+            call: WRITER,
+            instance,
+            horizon,
+            clause: None,
+            plan: None,
+            entries: None,
+        };
+        let (answer, words) = self.both(
+            &asked,
+            length,
+            |instance, words| interface::write_formula(instance, horizon, words),
+            |instance, words| independent::write_formula(instance, horizon, words),
+        );
+        if answer.number != 0 && answer.clauses != 0 {
+            self.fail(&asked, "a refusal counts clauses");
+        }
+        (answer, words)
+    }
+
+    fn clause(
+        &mut self,
+        instance: &[u8],
+        horizon: u64,
+        clause: u64,
+        length: usize,
+    ) -> (Written, Vec<i32>) {
+        let asked = Asked {
+            call: CLAUSE,
+            instance,
+            horizon,
+            clause: Some(clause),
+            plan: None,
+            entries: None,
+        };
+        let result = self.both(
+            &asked,
+            length,
+            |instance, words| written(interface::clause(instance, horizon, clause, words)),
+            |instance, words| written(independent::clause(instance, horizon, clause, words)),
+        );
+        if result.0.number == 0 {
+            self.given[Parts::of(instance).family(horizon as usize, clause)] += 1;
+        }
+        result
+    }
+
+    fn check(&mut self, instance: &[u8], horizon: u64, plan: &[u8]) -> Written {
+        let asked = Asked {
+            call: CHECK,
+            instance,
+            horizon,
+            clause: None,
+            plan: Some(plan),
+            entries: None,
+        };
+        let input = Input::new(self.before, plan);
+        let (answer, _) = self.both::<u8>(
+            &asked,
+            0,
+            |instance, _| written(interface::check_plan(instance, horizon, input.items())),
+            |instance, _| written(independent::check_plan(instance, horizon, plan)),
+        );
+        if input.items() != plan {
+            self.fail(&asked, "the plan was changed");
+        }
+        answer
+    }
+
+    fn decode(
+        &mut self,
+        instance: &[u8],
+        horizon: u64,
+        entries: &[i32],
+        length: usize,
+    ) -> (Written, Vec<u8>) {
+        let asked = Asked {
+            call: DECODER,
+            instance,
+            horizon,
+            clause: None,
+            plan: None,
+            entries: Some(entries),
+        };
+        let input = Input::new(self.before, entries);
+        let result = self.both(
+            &asked,
+            length,
+            |instance, plan| written(interface::decode(instance, horizon, input.items(), plan)),
+            |instance, plan| written(independent::decode(instance, horizon, entries, plan)),
+        );
+        if input.items() != entries {
+            self.fail(&asked, "the entries were changed");
+        }
+        if result.0.number == 24 {
+            let parts = Parts::of(instance);
+            self.falsified[parts.family(horizon as usize, result.0.second)] += 1;
+        }
+        result
+    }
+
+    fn encode(
+        &mut self,
+        instance: &[u8],
+        horizon: u64,
+        plan: &[u8],
+        length: usize,
+    ) -> (Written, Vec<i32>) {
+        let asked = Asked {
+            call: ENCODER,
+            instance,
+            horizon,
+            clause: None,
+            plan: Some(plan),
+            entries: None,
+        };
+        let input = Input::new(self.before, plan);
+        let result = self.both(
+            &asked,
+            length,
+            |instance, entries| {
+                written(interface::encode(instance, horizon, input.items(), entries))
+            },
+            |instance, entries| written(independent::encode(instance, horizon, plan, entries)),
+        );
+        if input.items() != plan {
+            self.fail(&asked, "the plan was changed");
+        }
+        result
+    }
+
+    /// All calls that take a plan, and the way to a valuation and back.
+    fn plan(&mut self, instance: &[u8], horizon: u64, plan: &[u8], length: usize) {
+        let checked = self.check(instance, horizon, plan);
+        let (encoded, entries) = self.encode(instance, horizon, plan, length);
+        if encoded.number != 0 {
+            return;
+        }
+        let asked = Asked {
+            call: DECODER,
+            instance,
+            horizon,
+            clause: None,
+            plan: Some(plan),
+            entries: Some(&entries),
+        };
+        if checked.number != 0 {
+            self.fail(&asked, "the encoder takes a plan that the check refuses");
+        }
+        let count = encoded.second as usize;
+        let (decoded, back) = self.decode(instance, horizon, &entries[..count], plan.len());
+        if decoded.number != 0 || back != plan {
+            self.fail(&asked, &format!("the way back gives {decoded:?} {back:?}"));
+        }
+        self.round_trips += 1;
+    }
+
+    /// The decoder, and the way to a plan and back.
+    fn entries(&mut self, instance: &[u8], horizon: u64, entries: &[i32], length: usize) {
+        let (decoded, plan) = self.decode(instance, horizon, entries, length);
+        if decoded.number != 0 {
+            return;
+        }
+        let plan = &plan[..decoded.second as usize];
+        let asked = Asked {
+            call: ENCODER,
+            instance,
+            horizon,
+            clause: None,
+            plan: Some(plan),
+            entries: Some(entries),
+        };
+        let (encoded, back) = self.encode(instance, horizon, plan, entries.len());
+        if encoded.number != 0 || back != entries {
+            self.fail(&asked, &format!("the way back gives {encoded:?}"));
+        }
+        self.round_trips += 1;
+    }
+
+    /// The formula in an exact slice and every clause in its own, with `short` also in slices too short; the clauses
+    /// must make the formula.
+    fn formula(&mut self, instance: &[u8], m: u64, short: bool) {
+        let needed = self.write(instance, m, 0).0.second as usize;
+        self.write(instance, m, needed - 1);
+        let (answer, words) = self.write(instance, m, needed);
+        let mut at = 0;
+        for number in 0..answer.clauses {
+            let rest = &words[at..];
+            let length = rest
+                .iter()
+                .position(|&word| word == 0)
+                .map_or(0, |zero| zero + 1);
+            if short {
+                self.clause(instance, m, number, 0);
+                self.clause(instance, m, number, length.saturating_sub(1));
+            }
+            let (given, clause) = self.clause(instance, m, number, length);
+            let whole = given.number == 0 && clause[..] == rest[..length];
+            at += length;
+            if !whole || (number + 1 == answer.clauses && at != words.len()) {
+                let asked = Asked {
+                    call: CLAUSE,
+                    instance,
+                    horizon: m,
+                    clause: Some(number),
+                    plan: None,
+                    entries: None,
+                };
+                self.fail(&asked, "the clauses do not make the formula");
+            }
+        }
+        self.clause(instance, m, answer.clauses, 66);
+        self.clause(instance, m, u64::MAX, 66);
+    }
+
+    /// All graphs of up to 4 vertices, up to 2 agents, m up to 2.
+    fn small(&mut self) {
+        self.part = "small";
+        self.case = 0;
+        for n in 1..=4usize {
+            let possible = all_edges(n);
+            for graph in 0..1u32 << possible.len() {
+                let chosen = |j: &usize| graph >> j & 1 == 1;
+                let edges: Vec<(u8, u8)> = (0..possible.len())
+                    .filter(chosen)
+                    .map(|j| possible[j])
+                    .collect();
+                for k in 1..=n.min(2) {
+                    for starts in rows(n, k).iter().filter(|row| k == 1 || row[0] != row[1]) {
+                        for goals in rows(n, k).iter().filter(|row| k == 1 || row[0] != row[1]) {
+                            self.case += 1;
+                            self.before = 1 + self.case as usize % 16;
+                            self.small_instance(n, &edges, starts, goals);
+                        }
+                    }
+                }
+            }
+        }
+    }
+
+    fn small_instance(&mut self, n: usize, edges: &[(u8, u8)], starts: &[u8], goals: &[u8]) {
+        let k = starts.len();
+        let instance = instance_bytes(n, edges, starts, goals);
+        for m in 0..=2usize {
+            let horizon = m as u64;
+            self.formula(&instance, horizon, starts == goals);
+            // Every plan whose first row is the starts.
+            let mut plans = vec![starts.to_vec()];
+            for _ in 0..m {
+                let longer = |plan: &Vec<u8>| {
+                    let plan = plan.clone();
+                    rows(n, k)
+                        .into_iter()
+                        .map(move |row| [&plan[..], &row].concat())
+                };
+                plans = plans.iter().flat_map(longer).collect();
+            }
+            let count = n * k * (m + 1);
+            for plan in &plans {
+                self.plan(&instance, horizon, plan, count);
+                // Only families E to G can be at fault.
+                if plan[m * k..] == *goals {
+                    self.entries(&instance, horizon, &valuation(n, plan), k * (m + 1));
+                }
+            }
+            // Every valuation of up to 8 variables.
+            if count <= 8 {
+                for signs in 0..1u32 << count {
+                    let entry = |i: usize| (i as i32 + 1) * (1 - 2 * (signs >> i & 1) as i32);
+                    let entries: Vec<i32> = (0..count).map(entry).collect();
+                    self.entries(&instance, horizon, &entries, k * (m + 1));
+                }
+            }
+        }
+        self.write(&instance, 33, 4);
+    }
+
+    /// n 64, k 16, 2016 edges, m 32.
+    fn largest(&mut self, g: &mut Generator) {
+        self.part = "largest";
+        self.case = 0;
+        self.before = 3;
+        let m = 32;
+        let (instance, plan) = g.walk(64, 16, 100, m);
+        for instance in [&instance, &largest_instance()] {
+            self.case += 1;
+            let needed = self.write(instance, 32, 0).0.second as usize;
+            assert_eq!(needed, 7_625_296);
+            self.write(instance, 32, needed - 1);
+            let (answer, words) = self.write(instance, 32, needed + 5);
+            assert_eq!(answer.clauses, 1_842_736);
+            let mut ends = Vec::new();
+            let mut from = 0;
+            for count in Parts::of(instance).clause_counts(m) {
+                ends.extend([from, from + 1, from + count - 1]);
+                from += count;
+            }
+            ends.extend([from, from + 1, u64::MAX]);
+            ends.extend((0..3000).map(|_| g.below(from as usize) as u64));
+            // Where each clause begins among the words.
+            let mut begins = vec![0];
+            let zeros = words.iter().enumerate().filter(|word| *word.1 == 0);
+            begins.extend(zeros.map(|word| word.0 + 1));
+            for number in ends {
+                let (answer, clause) = self.clause(instance, 32, number, 66);
+                if answer.number == 0 {
+                    let at = begins[number as usize];
+                    let length = answer.second as usize;
+                    assert_eq!(clause[..length], words[at..at + length]);
+                    self.clause(instance, 32, number, length - 1);
+                    self.clause(instance, 32, number, length);
+                }
+            }
+        }
+        let count = 64 * 16 * 33;
+        let parts = Parts::of(&instance);
+        self.plan(&instance, 32, &plan, count);
+        self.plan(&instance, 32, &plan, count - 1);
+        self.plan(&instance, 32, &plan, count + 7);
+        for _ in 0..60 {
+            let damaged = some_plan(g, &parts, m, &plan);
+            self.plan(&instance, 32, &damaged, count);
+            let entries = some_entries(g, &parts, m, &plan);
+            self.entries(&instance, 32, &entries, 16 * 33 + g.below(3));
+        }
+    }
+
+    fn random(&mut self, first: u64, count: u64) {
+        self.part = "random";
+        for case in first..first + count {
+            self.case = case;
+            let mut g = Generator::new(mix(self.seed, case));
+            self.before = 1 + g.below(16);
+            self.random_case(&mut g);
+        }
+    }
+
+    fn random_case(&mut self, g: &mut Generator) {
+        let (n, k, m) = sizes(g);
+        let percent = [0, 20, 40, 60, 80, 100][g.below(6)];
+        let (mut instance, plan) = g.walk(n, k, percent, m);
+        if g.chance(10) {
+            // Goals that the walk misses.
+            let mut parts = Parts::of(&instance);
+            parts.goals = g.vertices(n, k);
+            instance = parts.bytes();
+        }
+        let parts = Parts::of(&instance);
+        let mut horizon = m as u64;
+        match g.below(20) {
+            0 => horizon = long_horizon(g),
+            1 => horizon = [0, 32, 33, u64::MAX][g.below(4)],
+            2..=6 => {
+                let kind = 1 + g.below(14);
+                instance = malform(g, kind, &instance);
+                if g.chance(20) && instance.len() >= 4 {
+                    // A second defect, if the first left the instance readable.
+                    g.damage(&mut instance);
+                }
+                if g.chance(20) {
+                    horizon = long_horizon(g);
+                }
+            }
+            _ => {}
+        }
+
+        let needed = independent::write_formula(&instance, horizon, &mut []);
+        let words = match needed.number {
+            12 => needed.second as usize,
+            _ => 24,
+        };
+        let small = words < 200_000 || g.chance(5);
+        for _ in 0..2 {
+            let length = some_length(g, words);
+            if small || length < words {
+                self.write(&instance, horizon, length);
+            }
+        }
+        let count = independent::clause(&instance, horizon, u64::MAX, &mut []).second;
+        for _ in 0..5 {
+            let number = match g.below(12) {
+                0 => 0,
+                1 => count.wrapping_sub(1),
+                2 => count,
+                3 => u64::MAX,
+                4 => (1 << 32) + g.below(count as usize + 1) as u64,
+                5 => count + g.below(300) as u64,
+                6 | 7 => {
+                    // Next to where a family begins.
+                    let counts = parts.clause_counts(m);
+                    let from: u64 = counts[..1 + g.below(6)].iter().sum();
+                    (from + g.below(3) as u64).wrapping_sub(1)
+                }
+                _ => g.below(count as usize + 1) as u64,
+            };
+            let needed = independent::clause(&instance, horizon, number, &mut []);
+            let words = match needed.number {
+                12 => needed.second as usize,
+                _ => 4,
+            };
+            let length = some_length(g, words);
+            self.clause(&instance, horizon, number, length);
+        }
+        for _ in 0..3 {
+            let plan = some_plan(g, &parts, m, &plan);
+            let length = some_length(g, n * k * (m + 1));
+            self.plan(&instance, horizon, &plan, length);
+            let entries = some_entries(g, &parts, m, &whole_plan(&parts, m, &plan));
+            let length = some_length(g, k * (m + 1));
+            self.entries(&instance, horizon, &entries, length);
+        }
+        let entries = some_entries(g, &parts, m, &plan);
+        self.entries(&instance, horizon, &entries, k * (m + 1));
+    }
+
+    /// The table of numbers; true when each call gave every number it can.
+    fn report(&self) -> bool {
+        let mut complete = true;
+        print!("{:>8}", "number");
+        NAMES.iter().for_each(|name| print!("{name:>12}"));
+        println!();
+        for number in 0..25 {
+            let row: Vec<String> = (0..5)
+                .map(|call| match self.hits[call][number] {
+                    _ if !asks(call, number) => "-".to_string(),
+                    0 => {
+                        complete = false;
+                        "NEVER".to_string()
+                    }
+                    hits => hits.to_string(),
+                })
+                .collect();
+            let name = if number == 0 {
+                "accepted".to_string()
+            } else {
+                number.to_string()
+            };
+            print!("{name:>8}");
+            row.iter().for_each(|hits| print!("{hits:>12}"));
+            println!();
+        }
+        print!("{:>8}", "calls");
+        (0..5).for_each(|call| print!("{:>12}", self.hits[call].iter().sum::<u64>()));
+        println!(
+            "\n\n{:>8}{:>14}{:>14}",
+            "family", "clause given", "24 names it"
+        );
+        for family in 0..7 {
+            let letter = char::from(b'A' + family as u8);
+            let (given, falsified) = (self.given[family], self.falsified[family]);
+            println!("{letter:>8}{given:>14}{falsified:>14}");
+            complete &= given > 0 && falsified > 0;
+        }
+        println!("\nround trips: {}", self.round_trips);
+        complete
+    }
+}
+
+/// The plan, if a valuation can name it; else one in which all agents stay.
+fn whole_plan(parts: &Parts, m: usize, plan: &[u8]) -> Vec<u8> {
+    let fits = plan.len() == parts.k() * (m + 1);
+    if fits && plan.iter().all(|&v| usize::from(v) < parts.n) {
+        plan.to_vec()
+    } else {
+        parts.starts.repeat(m + 1)
+    }
+}
+
+/// All rows of `k` vertices below `n`, k 1 or 2.
+fn rows(n: usize, k: usize) -> Vec<Vec<u8>> {
+    let n = n as u8;
+    if k == 1 {
+        (0..n).map(|v| vec![v]).collect()
+    } else {
+        (0..n)
+            .flat_map(|v| (0..n).map(move |w| vec![v, w]))
+            .collect()
+    }
+}
+
+/// n, k and m; most are small.
+fn sizes(g: &mut Generator) -> (usize, usize, usize) {
+    let n = match g.below(40) {
+        0 => 1,
+        1..=27 => 1 + g.below(7),
+        28..=37 => 1 + g.below(16),
+        38 => 1 + g.below(64),
+        _ => 63 + g.below(2),
+    };
+    let k = match g.below(10) {
+        0 => n.min(16),
+        1..=7 => 1 + g.below(n.min(4)),
+        _ => 1 + g.below(n.min(16)),
+    };
+    let m = match g.below(20) {
+        0 | 1 => 0,
+        2..=15 => g.below(5),
+        16 | 17 => g.below(12),
+        _ if n > 16 => g.below(3),
+        18 => 32,
+        _ => g.below(33),
+    };
+    (n, k, m)
+}
+
+/// One state for each seed and case.
+fn mix(seed: u64, case: u64) -> u64 {
+    let mut z = seed
+        .wrapping_mul(0xD134_2543_DE82_EF95)
+        .wrapping_add((case + 1).wrapping_mul(0x9E37_79B9_7F4A_7C15));
+    z = (z ^ z >> 30).wrapping_mul(0xBF58_476D_1CE4_E5B9);
+    z = (z ^ z >> 27).wrapping_mul(0x94D0_49BB_1331_11EB);
+    z ^ z >> 31
+}
+
+fn written(answer: Answer) -> Written {
+    Written {
+        number: answer.number,
+        second: answer.second,
+        clauses: 0,
+    }
+}
+
+fn main() {
+    let argument = |place: usize| -> Option<u64> {
+        let text = std::env::args().nth(place)?;
+        Some(text.parse().unwrap_or_else(|_| {
+            eprintln!("usage: compare [SEED [COUNT [FIRST]]], all numbers; not {text}");
+            std::process::exit(2);
+        }))
+    };
+    let seed = argument(1).unwrap_or(1);
+    let count = argument(2).unwrap_or(40_000);
+    let first = argument(3);
+    let mut run = Run {
+        seed,
+        part: "",
+        case: 0,
+        before: 1,
+        hits: [[0; 25]; 5],
+        given: [0; 7],
+        falsified: [0; 7],
+        round_trips: 0,
+    };
+    println!("seed {seed}, {count} random cases");
+    let clock = Instant::now();
+    if first.is_none() {
+        run.small();
+        println!("small instances: {} ({:.1?})", run.case, clock.elapsed());
+        run.largest(&mut Generator::new(mix(seed, u64::MAX - 1)));
+        println!("largest instance done ({:.1?})", clock.elapsed());
+    }
+    run.random(first.unwrap_or(0), count);
+    println!("random cases done ({:.1?})\n", clock.elapsed());
+    let complete = run.report();
+    if first.is_none() && !complete {
+        println!("FAILED: a number or a family was never hit");
+        std::process::exit(1);
+    }
+    println!("no difference");
+}

@@ -1,0 +1,434 @@
+//! Instances, plans and valuations, right and damaged.
+
+use independent::sample::{instance_bytes, Generator};
+
+/// The parts of an instance; nothing is checked.
+#[derive(Clone, Debug)]
+pub struct Parts {
+    pub n: usize,
+    pub edges: Vec<(u8, u8)>,
+    pub starts: Vec<u8>,
+    pub goals: Vec<u8>,
+}
+
+impl Parts {
+    /// The parts of an accepted instance.
+    pub fn of(bytes: &[u8]) -> Parts {
+        let (n, k) = (usize::from(bytes[0]), usize::from(bytes[1]));
+        let e = usize::from(u16::from_le_bytes([bytes[2], bytes[3]]));
+        let (low, rest) = bytes[4..].split_at(e);
+        let (high, rest) = rest.split_at(e);
+        let (starts, goals) = rest.split_at(k);
+        Parts {
+            n,
+            edges: low.iter().copied().zip(high.iter().copied()).collect(),
+            starts: starts.to_vec(),
+            goals: goals.to_vec(),
+        }
+    }
+
+    pub fn bytes(&self) -> Vec<u8> {
+        instance_bytes(self.n, &self.edges, &self.starts, &self.goals)
+    }
+
+    pub fn k(&self) -> usize {
+        self.starts.len()
+    }
+
+    pub fn has_edge(&self, v: u8, w: u8) -> bool {
+        self.edges.contains(&(v.min(w), v.max(w)))
+    }
+
+    /// Clause counts of the families A to G.
+    pub fn clause_counts(&self, m: usize) -> [u64; 7] {
+        let (n, k, m) = (self.n as u64, self.k() as u64, m as u64);
+        [
+            k,
+            k,
+            (m + 1) * k,
+            (m + 1) * k * n * (n - 1) / 2,
+            (m + 1) * n * k * (k - 1) / 2,
+            m * k * n,
+            m * k * (k - 1) * n,
+        ]
+    }
+
+    /// The family, from 0, that holds this clause number.
+    pub fn family(&self, m: usize, mut number: u64) -> usize {
+        let counts = self.clause_counts(m);
+        let mut family = 0;
+        while family < 6 && number >= counts[family] {
+            number -= counts[family];
+            family += 1;
+        }
+        family
+    }
+}
+
+/// A grid of `side` times `side` vertices, with `k` agents that walk `m` valid steps.
+pub fn grid_walk(g: &mut Generator, side: u8, k: usize, m: usize) -> (Vec<u8>, Vec<u8>) {
+    let n = side * side;
+    let mut edges = Vec::new();
+    for v in 0..n {
+        if v % side + 1 < side {
+            edges.push((v, v + 1));
+        }
+        if v + side < n {
+            edges.push((v, v + side));
+        }
+    }
+    let starts = g.vertices(usize::from(n), k);
+    let mut parts = Parts {
+        n: usize::from(n),
+        edges,
+        goals: starts.clone(),
+        starts,
+    };
+    let plan = walk(g, &parts, m);
+    parts.goals = plan[m * k..].to_vec();
+    (parts.bytes(), plan)
+}
+
+/// A walk of `m` valid steps from the starts.
+pub fn walk(g: &mut Generator, parts: &Parts, m: usize) -> Vec<u8> {
+    let mut row = parts.starts.clone();
+    let mut plan = row.clone();
+    for _ in 0..m {
+        let mut next = row.clone();
+        for a in 0..row.len() {
+            let free = |w: &u8| parts.has_edge(row[a], *w) && !row.contains(w) && !next.contains(w);
+            let choices: Vec<u8> = (0..parts.n as u8).filter(free).collect();
+            if !choices.is_empty() && g.chance(80) {
+                next[a] = choices[g.below(choices.len())];
+            }
+        }
+        plan.extend(&next);
+        row = next;
+    }
+    plan
+}
+
+/// A horizon above 32.
+pub fn long_horizon(g: &mut Generator) -> u64 {
+    match g.below(6) {
+        0 => 33,
+        1 => u64::MAX,
+        2 => 1 << 32,
+        3 => (1 << 32) + g.below(33) as u64,
+        4 => 33 + g.below(300) as u64,
+        _ => g.draw() | 1 << 63,
+    }
+}
+
+/// Damages an accepted instance so that question `kind`, 1 to 9, is a likely first no; kind 0 and those above 9
+/// damage bytes anywhere.
+pub fn malform(g: &mut Generator, kind: usize, bytes: &[u8]) -> Vec<u8> {
+    let mut parts = Parts::of(bytes);
+    let mut bytes = bytes.to_vec();
+    let (n, k) = (parts.n, parts.k());
+    match kind {
+        1 => bytes.truncate(g.below(4)),
+        2 => bytes[0] = [0, 65, 255, 128][g.below(4)],
+        3 => bytes[1] = [0, 17, (n + 1) as u8, 255][g.below(4)],
+        4 => {
+            let most = n * (n - 1) / 2;
+            let e = [most + 1, 65535, most + 256, most + 1 + g.below(3000)][g.below(4)];
+            bytes[2..4].copy_from_slice(&(e as u16).to_le_bytes());
+        }
+        5 => match g.below(4) {
+            0 => bytes.truncate(bytes.len() - 1),
+            1 => bytes.push(0),
+            2 => bytes.truncate(4 + g.below(bytes.len() - 3)),
+            _ => {
+                let more = 1 + g.below(300);
+                bytes.extend(g.bytes(more));
+            }
+        },
+        6 => {
+            if parts.edges.is_empty() {
+                parts.edges.push((0, 1));
+            }
+            let j = g.below(parts.edges.len());
+            let (low, high) = parts.edges[j];
+            parts.edges[j] = match g.below(5) {
+                0 => (high, low),
+                1 => (low, low),
+                2 => (low, n as u8),
+                3 => (low, 255),
+                _ => (255, high),
+            };
+            bytes = parts.bytes();
+        }
+        7 => {
+            let e = parts.edges.len();
+            if e < 2 {
+                parts.edges = vec![(0, 1), (0, 1)];
+            } else {
+                let j = 1 + g.below(e - 1);
+                match g.below(4) {
+                    0 => parts.edges[j] = parts.edges[j - 1],
+                    1 => parts.edges.swap(j - 1, j),
+                    2 => parts.edges.swap(0, j),
+                    _ => g.shuffle(&mut parts.edges),
+                }
+            }
+            bytes = parts.bytes();
+        }
+        8 | 9 => {
+            let ends = if kind == 8 {
+                &mut parts.starts
+            } else {
+                &mut parts.goals
+            };
+            let a = g.below(k);
+            ends[a] = match g.below(4) {
+                0 => n as u8,
+                1 => 255,
+                2 => ends[g.below(k)],
+                _ => ends[if a == 0 { k - 1 } else { a - 1 }],
+            };
+            bytes = parts.bytes();
+        }
+        10 => {
+            let length = g.below(100);
+            bytes = g.bytes(length);
+        }
+        11 => {
+            // Sizes that may stand, then anything.
+            let length = bytes.len() - 4;
+            bytes.truncate(4);
+            bytes.extend(g.bytes(length));
+        }
+        _ => {
+            for _ in 0..1 + g.below(3) {
+                g.damage(&mut bytes);
+            }
+        }
+    }
+    bytes
+}
+
+/// Changes a passing plan so that condition 1, 2 or 3 alone fails in one step; none where no step allows it.
+pub fn break_condition(
+    g: &mut Generator,
+    condition: usize,
+    parts: &Parts,
+    m: usize,
+    plan: &[u8],
+) -> Option<Vec<u8>> {
+    let k = parts.k();
+    if m == 0 {
+        return None;
+    }
+    for _ in 0..20 {
+        let t = g.below(m);
+        let row = &plan[t * k..(t + 1) * k];
+        let mut next = plan[(t + 1) * k..(t + 2) * k].to_vec();
+        let a = g.below(k);
+        let w = g.below(parts.n) as u8;
+        let others: Vec<usize> = (0..k).filter(|&b| b != a).collect();
+        let shared = others.iter().any(|&b| next[b] == w);
+        let crosses = w != row[a] && parts.has_edge(row[a], w);
+        let stood = row.contains(&w);
+        match condition {
+            1 if w != row[a] && !crosses && !stood && !shared => next[a] = w,
+            2 if crosses && stood => {
+                next[a] = w;
+                // The agent that stood there must leave to a vacant vertex, or condition 3 fails too.
+                for &b in others.iter().filter(|&&b| row[b] == w && shared) {
+                    let vacant = |x: &u8| {
+                        parts.has_edge(row[b], *x) && !row.contains(x) && !next.contains(x)
+                    };
+                    next[b] = (0..parts.n as u8).find(vacant).unwrap_or(w);
+                }
+                if (0..k).any(|b| b != a && next[b] == w) {
+                    continue;
+                }
+            }
+            3 if crosses && !stood && !others.is_empty() => {
+                let joins = |b: &&usize| parts.has_edge(row[**b], w);
+                let Some(&b) = others.iter().find(joins) else {
+                    continue;
+                };
+                next[a] = w;
+                next[b] = w;
+            }
+            _ => continue,
+        }
+        let mut damaged = plan.to_vec();
+        damaged[(t + 1) * k..(t + 2) * k].copy_from_slice(&next);
+        if g.chance(50) {
+            // Stay there to the end.
+            for s in t + 2..=m {
+                damaged[s * k..(s + 1) * k].copy_from_slice(&next);
+            }
+        }
+        return Some(damaged);
+    }
+    None
+}
+
+/// A plan: the passing one, or one damaged in some way.
+pub fn some_plan(g: &mut Generator, parts: &Parts, m: usize, passing: &[u8]) -> Vec<u8> {
+    let (n, k) = (parts.n, parts.k());
+    let mut plan = passing.to_vec();
+    match g.below(18) {
+        0..=2 => {}
+        3 => {
+            g.damage(&mut plan);
+        }
+        kind @ 4..=6 => {
+            if let Some(damaged) = break_condition(g, kind - 3, parts, m, passing) {
+                plan = damaged;
+            }
+        }
+        7 => plan = g.bytes(passing.len()),
+        8 => plan.iter_mut().for_each(|v| *v = g.below(n) as u8),
+        9 => plan.truncate(passing.len() - 1),
+        10 => plan.push(g.below(n) as u8),
+        11 => {
+            plan = match g.below(4) {
+                0 => Vec::new(),
+                1 => [passing, passing].concat(),
+                2 => [passing, &passing[..k]].concat(),
+                _ => passing[..g.below(passing.len())].to_vec(),
+            }
+        }
+        12 => {
+            // Two agents exchanged in one row.
+            let t = g.below(m + 1);
+            plan.swap(t * k + g.below(k), t * k + g.below(k));
+        }
+        13 => {
+            let a = g.below(k);
+            plan[a] = g.below(n) as u8;
+        }
+        14 => {
+            // One row repeated.
+            let (t, s) = (g.below(m + 1), g.below(m + 1));
+            plan[s * k..(s + 1) * k].copy_from_slice(&passing[t * k..(t + 1) * k]);
+        }
+        15 => {
+            // The last row as the one before: valid steps, goals missed where an agent moved.
+            if m > 0 {
+                let (before, last) = plan.split_at_mut(m * k);
+                last.copy_from_slice(&before[(m - 1) * k..]);
+            }
+        }
+        16 => {
+            let i = g.below(plan.len());
+            plan[i] = [n as u8, 255, 128, 64][g.below(4)];
+        }
+        _ => {
+            // One byte is another vertex.
+            let i = g.below(plan.len());
+            plan[i] = ((usize::from(plan[i]) + 1 + g.below(n)) % n) as u8;
+        }
+    }
+    plan
+}
+
+/// The entries in which X(t,a,v) is true for the plan's vertices and no others.
+pub fn valuation(n: usize, plan: &[u8]) -> Vec<i32> {
+    let mut entries = Vec::with_capacity(n * plan.len());
+    for &at in plan {
+        for v in 0..n {
+            let variable = entries.len() as i32 + 1;
+            entries.push(if v == usize::from(at) {
+                variable
+            } else {
+                -variable
+            });
+        }
+    }
+    entries
+}
+
+/// Entries: a satisfying valuation, or one damaged in some way.
+pub fn some_entries(g: &mut Generator, parts: &Parts, m: usize, passing: &[u8]) -> Vec<i32> {
+    let (n, k) = (parts.n, parts.k());
+    let mut entries = valuation(n, passing);
+    let count = entries.len();
+    let i = g.below(count);
+    let row = |r: usize| r * n..(r + 1) * n;
+    match g.below(22) {
+        0..=2 => {}
+        3 | 4 => entries[i] = -entries[i],
+        5 => {
+            for _ in 0..2 + g.below(3) {
+                let i = g.below(count);
+                entries[i] = -entries[i];
+            }
+        }
+        6 => {
+            // Two agents exchanged at one time, as a valuation.
+            let t = g.below(m + 1);
+            let mut plan = passing.to_vec();
+            plan.swap(t * k + g.below(k), t * k + g.below(k));
+            entries = valuation(n, &plan);
+        }
+        7 => {
+            // One row's signs repeated in another.
+            let mut plan = passing.to_vec();
+            plan[g.below(passing.len())] = passing[g.below(passing.len())];
+            entries = valuation(n, &plan);
+        }
+        8 => {
+            // One row's entries repeated as they are.
+            let copy = entries[row(g.below(passing.len()))].to_vec();
+            entries[row(g.below(passing.len()))].copy_from_slice(&copy);
+        }
+        9 => entries.swap(i, g.below(count)),
+        10 => entries[i] = [0, i32::MIN, i32::MAX, -1, 1, i32::MIN + 1][g.below(6)],
+        11 => {
+            entries[i] = match g.below(4) {
+                0 => entries[i] + 1,
+                1 => entries[i] - 1,
+                2 => g.draw() as i32,
+                _ => entries[i] ^ 1 << g.below(32),
+            }
+        }
+        12 => entries.truncate(count - 1),
+        13 => entries.push(count as i32 + 1),
+        14 => entries.truncate(g.below(count)),
+        15 => {
+            for entry in &mut entries {
+                *entry = if g.chance(50) { -*entry } else { *entry };
+            }
+        }
+        16 => entries
+            .iter_mut()
+            .for_each(|entry| *entry = g.draw() as i32),
+        17 => {
+            // An agent nowhere at one time.
+            for entry in &mut entries[row(g.below(passing.len()))] {
+                *entry = -entry.abs();
+            }
+        }
+        18 => {
+            // An agent everywhere at one time.
+            for entry in &mut entries[row(g.below(passing.len()))] {
+                *entry = entry.abs();
+            }
+        }
+        kind @ 19..=21 => {
+            if let Some(plan) = break_condition(g, kind - 18, parts, m, passing) {
+                entries = valuation(n, &plan);
+            }
+        }
+        _ => unreachable!(),
+    }
+    entries
+}
+
+/// A length for a slice that needs `needed`: none, one too short, exact, longer.
+pub fn some_length(g: &mut Generator, needed: usize) -> usize {
+    match g.below(10) {
+        0 => 0,
+        1 | 2 => needed.saturating_sub(1),
+        3..=6 => needed,
+        7 => needed + 1,
+        8 => g.below(needed + 1),
+        _ => needed + g.below(70),
+    }
+}
