@@ -1,20 +1,44 @@
-// Neighbours read off the edge arrays, as bytes: 1 for a neighbour, 0 for none.
+// Neighbours read off the edge arrays, as bytes: 1 for a neighbour, 0 for none. Each edge is read once.
 use instance::Checked;
 ghost use mathlib.Core.Path.{_≡_};
+ghost use mathlib.Core.Bool.{cond};
 ghost use Prim.Native.Nat.{ℕ, _+_, _*_, _<_};
-ghost use lib.ListN.{length, getD};
+ghost use lib.ListN.{length, getD, set, replicate};
 ghost use lib.Dec.{eqb};
 ghost use Rattle.instance.specs.Instance.{adjacent};
 ghost use Rattle.calls.specs.Accepted.{Accepted, instanceOf};
-ghost use Rattle.edges.specs.Search.{Searchable};
 
-fn mark(near: bool) -> u8
-    ensures { λ r. ⌜ eqb r 1 ≡ near ⌝ }
+// A byte as a number.
+fn wide(x: u8) -> usize
+    ensures { λ r. ⌜ r ≡ x ⌝ }
 {
-    if near {
-        return 1;
+    x as usize
+}
+
+// Marks w where a test holds.
+fn mark(row: &mut [u8], test: bool, w: usize)
+    requires { ⌜ w < length (now row) ⌝ }
+    ensures { λ _. ⌜ now (row .exit) ≡ cond test (set (now (row .entry)) w 1) (now (row .entry)) ⌝ }
+{
+    if test {
+        row[w] = 1;
     }
-    0
+}
+
+// Marks the neighbours of v in a row of zeros.
+fn mark_row(row: &mut [u8], b: &[u8], c: Checked, v: usize)
+    requires { ⌜ Accepted (now b) c ⌝ }
+    requires { ⌜ now row ≡ replicate 64 0 ⌝ }
+    ensures { λ _. ⌜ length (now (row .exit)) ≡ 64 ⌝ }
+    ensures { λ _. ⌜ ((w : ℕ) → w < c .sizes .n → eqb (getD (now (row .exit)) w 0) 1 ≡ adjacent (instanceOf (now (b .entry)) c) v w) ⌝ }
+{
+    let e = c.sizes.e;
+    for j in 0..e {
+        let low = wide(b[4 + j]);
+        let high = wide(b[4 + e + j]);
+        mark(row, low == v, high);
+        mark(row, high == v, low);
+    }
 }
 
 // The neighbours of v: byte w is 1 where w is one.
@@ -23,12 +47,8 @@ pub fn row_of(b: &[u8], c: Checked, v: usize) -> [u8; 64]
     ensures { λ r. ⌜ length r ≡ 64 ⌝ }
     ensures { λ r. ⌜ ((w : ℕ) → w < c .sizes .n → eqb (getD r w 0) 1 ≡ adjacent (instanceOf (now (b .entry)) c) v w) ⌝ }
 {
-    let n = c.sizes.n;
-    let e = c.sizes.e;
     let mut row = [0u8; 64];
-    for w in 0..n {
-        row[w] = mark(edges::is_edge(b, e, v, w));
-    }
+    mark_row(&mut row, b, c, v);
     row
 }
 
@@ -38,11 +58,15 @@ pub fn table_of(b: &[u8], c: Checked) -> [u8; 4096]
     ensures { λ r. ⌜ length r ≡ 4096 ⌝ }
     ensures { λ r. ⌜ ((v w : ℕ) → v < c .sizes .n → w < c .sizes .n → eqb (getD r (64 * v + w) 0) 1 ≡ adjacent (instanceOf (now (b .entry)) c) v w) ⌝ }
 {
-    let n = c.sizes.n;
     let e = c.sizes.e;
     let mut table = [0u8; 4096];
-    for i in 0..64 * n {
-        table[i] = mark(edges::is_edge(b, e, i / 64, i % 64));
+    for j in 0..e {
+        let low = wide(b[4 + j]);
+        let high = wide(b[4 + e + j]);
+        let there = 64 * low + high;
+        let back = 64 * high + low;
+        table[there] = 1;
+        table[back] = 1;
     }
     table
 }

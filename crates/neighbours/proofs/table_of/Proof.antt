@@ -1,63 +1,152 @@
 -- `neighbours::table_of` meets its contract. The invariant says what the turns so far have done. Assumes nothing.
-use mathlib.Core.Path.{_≡_, refl, _∙_}
-use Prim.Native.Nat.{ℕ, _+_, _-_, _*_, _/_, _%_, _≤_, _<_}
+use mathlib.Core.Path.{_≡_, refl, _∙_, ap, ap₂}
+use mathlib.Core.Bool.{_&&_, _||_}
+use Prim.Native.Nat.{ℕ, _+_, _-_, _*_, _≤_, _<_}
 use native.Mathlib.Omega.{arith}
-use borrow.Author.Count.{below-none}
+use native.Mathlib.Numerals.{add-one}
 use borrow.Author.Needs.{needs}
 use lib.Dec.{eqb}
 use lib.ListN.{length, getD, length-set}
-use Rattle.instance.specs.Instance.{instance, adjacent}
-use Rattle.edges.proofs.Laws.{searchable}
+use Rattle.neighbours.proofs.Laws.{table-more, joined, ends-below, high-at, all-joined, both-inside, zeros-none}
+use Rattle.lists.specs.Loop.{some}
+use Rattle.instance.specs.Instance.{lowEnd, highEnd}
 use Rattle.calls.proofs.Accepted.{limits-known}
-use Rattle.neighbours.proofs.Laws.{mark-more}
 use Rattle.neighbours.proofs.table_of.Statement.{statement}
 use Rattle.neighbours.proofs.table_of.Tie as tie
 
 abbrev Inv-loop : tie.InvT-loop
-Inv-loop b n e table₀ i₀ i-end table i = (i ≤ i-end) × ((length table ≡ 4096) × ((u : ℕ) → u < i → (m : ℕ) → eqb (getD table u 0) 1 ≡ adjacent (instance b m) (u / 64) (u % 64)))
+Inv-loop b e table₀ j₀ table j = (j ≤ e) × ((length table ≡ 4096) × ((v w : ℕ) → v < 64 → w < 64 → eqb (getD table (64 * v + w) 0) 1 ≡ some j (joined b v w)))
 
 abbrev μ-loop : tie.MeasureT-loop
-μ-loop b n e table₀ i₀ i-end table i = i-end - i
-
-mul-i-end : tie.Need-mul-i-end Inv-loop μ-loop
-mul-i-end c = let w = limits-known (c .before .args .b .now) (c .before .args .c) (c .before .pre) in omega arith
+μ-loop b e table₀ j₀ table j = e - j
 
 loop-holds : tie.Need-loop-holds Inv-loop μ-loop
-loop-holds c = (omega arith, (refl, below-none _))
+loop-holds c = (omega arith, (refl, λ v w p q. zeros-none {n = 4096} (64 * v + w) (omega arith)))
 
-is-edge-requires : tie.Need-is-edge-requires Inv-loop μ-loop
-is-edge-requires c κs = searchable (c .before .before .before .args .b .now) (c .before .before .before .args .c) (c .before .before .before .pre)
+add-wide : tie.Need-add-wide Inv-loop μ-loop
+add-wide c =
+    let i = both-inside (c .before .before .before .args .b .now) (c .before .before .before .args .c) (c .before .before .before .pre) (c .before .loop .j) (omega arith) in
+    omega arith
 
-mark-requires : tie.Need-mark-requires Inv-loop μ-loop
-mark-requires c κs = search needs
+shared-slice-read-wide : tie.Need-shared-slice-read-wide Inv-loop μ-loop
+shared-slice-read-wide c =
+    let i = both-inside (c .before .before .before .before .args .b .now) (c .before .before .before .before .args .c) (c .before .before .before .before .pre) (c .before .before .loop .j) (omega arith) in
+    omega arith
+
+wide-requires : tie.Need-wide-requires Inv-loop μ-loop
+wide-requires c κs = search needs
+
+add-wide-2 : tie.Need-add-wide-2 Inv-loop μ-loop
+add-wide-2 c =
+    let i = both-inside (c .before .before .before .before .before .args .b .now) (c .before .before .before .before .before .args .c) (c .before .before .before .before .before .pre) (c .before .before .before .loop .j) (omega arith) in
+    omega arith
+
+add-wide-3 : tie.Need-add-wide-3 Inv-loop μ-loop
+add-wide-3 c =
+    let i = both-inside (c .before .before .before .before .before .args .b .now) (c .before .before .before .before .before .args .c) (c .before .before .before .before .before .pre) (c .before .before .before .loop .j) (omega arith) in
+    omega arith
+
+shared-slice-read-wide-2 : tie.Need-shared-slice-read-wide-2 Inv-loop μ-loop
+shared-slice-read-wide-2 c =
+    let i = both-inside (c .before .before .before .before .before .before .args .b .now) (c .before .before .before .before .before .before .args .c) (c .before .before .before .before .before .before .pre) (c .before .before .before .before .loop .j) (omega arith) in
+    omega arith
+
+wide-requires-2 : tie.Need-wide-requires-2 Inv-loop μ-loop
+wide-requires-2 c κs = search needs
+
+mul-there : tie.Need-mul-there Inv-loop μ-loop
+mul-there c =
+    let i = both-inside (c .before .before .before .before .before .before .before .args .b .now) (c .before .before .before .before .before .before .before .args .c) (c .before .before .before .before .before .before .before .pre) (c .before .before .before .before .before .loop .j) (omega arith) in
+    let ex : c .before .before .wide .result ≡ lowEnd (c .before .before .before .before .before .before .before .args .b .now) (c .before .before .before .before .before .loop .j) = c .before .before .wide .ensures in
+    let ey : c .wide2 .result ≡ highEnd (c .before .before .before .before .before .before .before .args .b .now) (c .before .before .before .before .before .loop .j) = c .wide2 .ensures ∙ high-at (c .before .before .before .before .before .before .before .args .b .now) (c .before .before .before .before .before .before .before .args .c) (c .before .before .before .before .before .before .before .pre) (c .before .before .before .before .before .loop .j) in
+    let q = ends-below (c .before .before .before .before .before .before .before .args .b .now) (c .before .before .before .before .before .before .before .args .c) (c .before .before .before .before .before .before .before .pre) (c .before .before .before .before .before .loop .j) (omega arith) in
+    let hx : c .before .before .wide .result < 64 = omega arith in
+    let hy : c .wide2 .result < 64 = omega arith in
+    omega arith
+
+add-there : tie.Need-add-there Inv-loop μ-loop
+add-there c =
+    let i = both-inside (c .before .before .before .before .before .before .before .args .b .now) (c .before .before .before .before .before .before .before .args .c) (c .before .before .before .before .before .before .before .pre) (c .before .before .before .before .before .loop .j) (omega arith) in
+    let ex : c .before .before .wide .result ≡ lowEnd (c .before .before .before .before .before .before .before .args .b .now) (c .before .before .before .before .before .loop .j) = c .before .before .wide .ensures in
+    let ey : c .wide2 .result ≡ highEnd (c .before .before .before .before .before .before .before .args .b .now) (c .before .before .before .before .before .loop .j) = c .wide2 .ensures ∙ high-at (c .before .before .before .before .before .before .before .args .b .now) (c .before .before .before .before .before .before .before .args .c) (c .before .before .before .before .before .before .before .pre) (c .before .before .before .before .before .loop .j) in
+    let q = ends-below (c .before .before .before .before .before .before .before .args .b .now) (c .before .before .before .before .before .before .before .args .c) (c .before .before .before .before .before .before .before .pre) (c .before .before .before .before .before .loop .j) (omega arith) in
+    let hx : c .before .before .wide .result < 64 = omega arith in
+    let hy : c .wide2 .result < 64 = omega arith in
+    omega arith
+
+mul-back : tie.Need-mul-back Inv-loop μ-loop
+mul-back c =
+    let i = both-inside (c .before .before .before .before .before .before .before .args .b .now) (c .before .before .before .before .before .before .before .args .c) (c .before .before .before .before .before .before .before .pre) (c .before .before .before .before .before .loop .j) (omega arith) in
+    let ex : c .before .before .wide .result ≡ lowEnd (c .before .before .before .before .before .before .before .args .b .now) (c .before .before .before .before .before .loop .j) = c .before .before .wide .ensures in
+    let ey : c .wide2 .result ≡ highEnd (c .before .before .before .before .before .before .before .args .b .now) (c .before .before .before .before .before .loop .j) = c .wide2 .ensures ∙ high-at (c .before .before .before .before .before .before .before .args .b .now) (c .before .before .before .before .before .before .before .args .c) (c .before .before .before .before .before .before .before .pre) (c .before .before .before .before .before .loop .j) in
+    let q = ends-below (c .before .before .before .before .before .before .before .args .b .now) (c .before .before .before .before .before .before .before .args .c) (c .before .before .before .before .before .before .before .pre) (c .before .before .before .before .before .loop .j) (omega arith) in
+    let hx : c .before .before .wide .result < 64 = omega arith in
+    let hy : c .wide2 .result < 64 = omega arith in
+    omega arith
+
+add-back : tie.Need-add-back Inv-loop μ-loop
+add-back c =
+    let i = both-inside (c .before .before .before .before .before .before .before .args .b .now) (c .before .before .before .before .before .before .before .args .c) (c .before .before .before .before .before .before .before .pre) (c .before .before .before .before .before .loop .j) (omega arith) in
+    let ex : c .before .before .wide .result ≡ lowEnd (c .before .before .before .before .before .before .before .args .b .now) (c .before .before .before .before .before .loop .j) = c .before .before .wide .ensures in
+    let ey : c .wide2 .result ≡ highEnd (c .before .before .before .before .before .before .before .args .b .now) (c .before .before .before .before .before .loop .j) = c .wide2 .ensures ∙ high-at (c .before .before .before .before .before .before .before .args .b .now) (c .before .before .before .before .before .before .before .args .c) (c .before .before .before .before .before .before .before .pre) (c .before .before .before .before .before .loop .j) in
+    let q = ends-below (c .before .before .before .before .before .before .before .args .b .now) (c .before .before .before .before .before .before .before .args .c) (c .before .before .before .before .before .before .before .pre) (c .before .before .before .before .before .loop .j) (omega arith) in
+    let hx : c .before .before .wide .result < 64 = omega arith in
+    let hy : c .wide2 .result < 64 = omega arith in
+    omega arith
 
 array-write-table : tie.Need-array-write-table Inv-loop μ-loop
-array-write-table c = let w = limits-known (c .before .before .before .before .before .args .b .now) (c .before .before .before .before .before .args .c) (c .before .before .before .before .before .pre) in omega arith
+array-write-table c =
+    let i = both-inside (c .before .before .before .before .before .before .before .args .b .now) (c .before .before .before .before .before .before .before .args .c) (c .before .before .before .before .before .before .before .pre) (c .before .before .before .before .before .loop .j) (omega arith) in
+    let ex : c .before .before .wide .result ≡ lowEnd (c .before .before .before .before .before .before .before .args .b .now) (c .before .before .before .before .before .loop .j) = c .before .before .wide .ensures in
+    let ey : c .wide2 .result ≡ highEnd (c .before .before .before .before .before .before .before .args .b .now) (c .before .before .before .before .before .loop .j) = c .wide2 .ensures ∙ high-at (c .before .before .before .before .before .before .before .args .b .now) (c .before .before .before .before .before .before .before .args .c) (c .before .before .before .before .before .before .before .pre) (c .before .before .before .before .before .loop .j) in
+    let q = ends-below (c .before .before .before .before .before .before .before .args .b .now) (c .before .before .before .before .before .before .before .args .c) (c .before .before .before .before .before .before .before .pre) (c .before .before .before .before .before .loop .j) (omega arith) in
+    let hx : c .before .before .wide .result < 64 = omega arith in
+    let hy : c .wide2 .result < 64 = omega arith in
+    omega arith
 
-add-i : tie.Need-add-i Inv-loop μ-loop
-add-i c = let w = limits-known (c .before .before .before .before .before .args .b .now) (c .before .before .before .before .before .args .c) (c .before .before .before .before .before .pre) in omega arith
+array-write-table-2 : tie.Need-array-write-table-2 Inv-loop μ-loop
+array-write-table-2 c =
+    let i = both-inside (c .before .before .before .before .before .before .before .args .b .now) (c .before .before .before .before .before .before .before .args .c) (c .before .before .before .before .before .before .before .pre) (c .before .before .before .before .before .loop .j) (omega arith) in
+    let ex : c .before .before .wide .result ≡ lowEnd (c .before .before .before .before .before .before .before .args .b .now) (c .before .before .before .before .before .loop .j) = c .before .before .wide .ensures in
+    let ey : c .wide2 .result ≡ highEnd (c .before .before .before .before .before .before .before .args .b .now) (c .before .before .before .before .before .loop .j) = c .wide2 .ensures ∙ high-at (c .before .before .before .before .before .before .before .args .b .now) (c .before .before .before .before .before .before .before .args .c) (c .before .before .before .before .before .before .before .pre) (c .before .before .before .before .before .loop .j) in
+    let q = ends-below (c .before .before .before .before .before .before .before .args .b .now) (c .before .before .before .before .before .before .before .args .c) (c .before .before .before .before .before .before .before .pre) (c .before .before .before .before .before .loop .j) (omega arith) in
+    let hx : c .before .before .wide .result < 64 = omega arith in
+    let hy : c .wide2 .result < 64 = omega arith in
+    omega arith
+
+add-j : tie.Need-add-j Inv-loop μ-loop
+add-j c =
+    let i = both-inside (c .before .before .before .before .before .before .before .args .b .now) (c .before .before .before .before .before .before .before .args .c) (c .before .before .before .before .before .before .before .pre) (c .before .before .before .before .before .loop .j) (omega arith) in
+    omega arith
 
 loop-less : tie.Need-loop-less Inv-loop μ-loop
 loop-less c = search needs
 
 loop-again : tie.Need-loop-again Inv-loop μ-loop
 loop-again c =
-    let w = limits-known (c .before .before .before .before .before .args .b .now) (c .before .before .before .before .before .args .c) (c .before .before .before .before .before .pre) in (
+    let i = both-inside (c .before .before .before .before .before .before .before .args .b .now) (c .before .before .before .before .before .before .before .args .c) (c .before .before .before .before .before .before .before .pre) (c .before .before .before .before .before .loop .j) (omega arith) in
+    let ex : c .before .before .wide .result ≡ lowEnd (c .before .before .before .before .before .before .before .args .b .now) (c .before .before .before .before .before .loop .j) = c .before .before .wide .ensures in
+    let ey : c .wide2 .result ≡ highEnd (c .before .before .before .before .before .before .before .args .b .now) (c .before .before .before .before .before .loop .j) = c .wide2 .ensures ∙ high-at (c .before .before .before .before .before .before .before .args .b .now) (c .before .before .before .before .before .before .before .args .c) (c .before .before .before .before .before .before .before .pre) (c .before .before .before .before .before .loop .j) in
+    let q = ends-below (c .before .before .before .before .before .before .before .args .b .now) (c .before .before .before .before .before .before .before .args .c) (c .before .before .before .before .before .before .before .pre) (c .before .before .before .before .before .loop .j) (omega arith) in
+    let hx : c .before .before .wide .result < 64 = omega arith in
+    let hy : c .wide2 .result < 64 = omega arith in (
       omega arith,
       (
-        simp length-set (c .before .before .before .loop .inv .1 .0),
-        λ u l m. mark-more (c .before .before .before .loop .table) (c .before .before .before .loop .i) (c .mark .result) (λ j. adjacent (instance (c .before .before .before .before .before .args .b .now) m) (j / 64) (j % 64)) (omega arith) (λ u l. c .before .before .before .loop .inv .1 .1 u l m) (c .mark .ensures ∙ c .before .is-edge .ensures m) u l,
+        simp length-set (c .before .before .before .before .before .loop .inv .1 .0),
+        λ v w p r.
+            rw add-one
+            (table-more (c .before .before .before .before .before .loop .table) (c .before .before .wide .result) (c .wide2 .result) v w (some (c .before .before .before .before .before .loop .j) (joined (c .before .before .before .before .before .before .before .args .b .now) v w)) hx hy p r (c .before .before .before .before .before .loop .inv .1 .0) (c .before .before .before .before .before .loop .inv .1 .1 v w p r)
+            ∙ ap₂ (λ (x y : ℕ). some (c .before .before .before .before .before .loop .j) (joined (c .before .before .before .before .before .before .before .args .b .now) v w) || (eqb x v && eqb y w || eqb x w && eqb y v)) ex ey),
       ),
     )
 
 returns : tie.Need-returns Inv-loop μ-loop
 returns c =
-    let w = limits-known (c .before .before .before .args .b .now) (c .before .before .before .args .c) (c .before .before .before .pre) in (
+    let m = limits-known (c .before .before .before .args .b .now) (c .before .before .before .args .c) (c .before .before .before .pre) .n-most in
+    let e : c .before .loop .j ≡ c .before .before .before .args .c .sizes .e = omega arith in (
       c .before .loop .inv .1 .0,
-      λ v x p q.
-          let d : (64 * v + x) / 64 ≡ v = omega arith in
-          let r : (64 * v + x) % 64 ≡ x = omega arith in
-          rw (d, r) at (c .before .loop .inv .1 .1 (64 * v + x) (omega arith) (c .before .before .before .args .c .sizes .m)),
+      λ v w p q.
+          c .before .loop .inv .1 .1 v w (omega arith) (omega arith) ∙ ap (λ (j : ℕ). some j (joined (c .before .before .before .args .b .now) v w)) e ∙ all-joined (c .before .before .before .args .b .now) (c .before .before .before .args .c) (c .before .before .before .pre) v w,
     )
 
 pub table-of-spec : {M : Type 1} → statement M
@@ -66,12 +155,21 @@ table-of-spec =
     (tie.spec
     Inv-loop
     μ-loop
-    mul-i-end
     loop-holds
-    is-edge-requires
-    mark-requires
+    add-wide
+    shared-slice-read-wide
+    wide-requires
+    add-wide-2
+    add-wide-3
+    shared-slice-read-wide-2
+    wide-requires-2
+    mul-there
+    add-there
+    mul-back
+    add-back
     array-write-table
-    add-i
+    array-write-table-2
+    add-j
     loop-less
     loop-again
     returns)
