@@ -20,82 +20,63 @@ Inv-loop row₀ b v e j₀ row j = (j ≤ e) × ((length row ≡ 64) × ((w : �
 abbrev μ-loop : tie.MeasureT-loop
 μ-loop row₀ b v e j₀ row j = e - j
 
+-- both ends of the edge that is read are below 64
+ends : (c : tie.After-wide2 Inv-loop μ-loop) → (c .before .before .wide .result < 64) × (c .wide2 .result < 64)
+ends c =
+    let q = ends-below (c .before .before .before .before .before .before .before .before .args .b .now) (c .before .before .before .before .before .before .before .before .args .c) (c .before .before .before .before .before .before .before .before .pre .0) (c .before .before .before .before .before .loop .j) (omega arith) in
+    let x = c .before .before .wide .ensures in
+    let y = c .wide2 .ensures ∙ high-at (c .before .before .before .before .before .before .before .before .args .b .now) (c .before .before .before .before .before .before .before .before .args .c) (c .before .before .before .before .before .before .before .before .pre .0) (c .before .before .before .before .before .loop .j) in
+    (omega arith, omega arith)
+
 loop-holds : tie.Need-loop-holds Inv-loop μ-loop
 loop-holds c = (omega arith, (ap length (c .before .before .pre .1), λ w p. rw (c .before .before .pre .1) (zeros-none _ p)))
 
 add-wide : tie.Need-add-wide Inv-loop μ-loop
-add-wide c =
-    let i = both-inside (c .before .before .before .before .args .b .now) (c .before .before .before .before .args .c) (c .before .before .before .before .pre .0) (c .before .loop .j) (omega arith) in
-    omega arith
+add-wide c = let i = both-inside (c .before .before .before .before .args .b .now) (c .before .before .before .before .args .c) (c .before .before .before .before .pre .0) (c .before .loop .j) (omega arith) in omega arith
 
 shared-slice-read-wide : tie.Need-shared-slice-read-wide Inv-loop μ-loop
-shared-slice-read-wide c =
-    let i = both-inside (c .before .before .before .before .before .args .b .now) (c .before .before .before .before .before .args .c) (c .before .before .before .before .before .pre .0) (c .before .before .loop .j) (omega arith) in
-    omega arith
+shared-slice-read-wide c = let i = both-inside (c .before .before .before .before .before .args .b .now) (c .before .before .before .before .before .args .c) (c .before .before .before .before .before .pre .0) (c .before .before .loop .j) (omega arith) in omega arith
 
 wide-requires : tie.Need-wide-requires Inv-loop μ-loop
 wide-requires c κs = search needs
 
 add-wide-2 : tie.Need-add-wide-2 Inv-loop μ-loop
-add-wide-2 c =
-    let i = both-inside (c .before .before .before .before .before .before .args .b .now) (c .before .before .before .before .before .before .args .c) (c .before .before .before .before .before .before .pre .0) (c .before .before .before .loop .j) (omega arith) in
-    omega arith
+add-wide-2 c = let i = both-inside (c .before .before .before .before .before .before .args .b .now) (c .before .before .before .before .before .before .args .c) (c .before .before .before .before .before .before .pre .0) (c .before .before .before .loop .j) (omega arith) in omega arith
 
 add-wide-3 : tie.Need-add-wide-3 Inv-loop μ-loop
-add-wide-3 c =
-    let i = both-inside (c .before .before .before .before .before .before .args .b .now) (c .before .before .before .before .before .before .args .c) (c .before .before .before .before .before .before .pre .0) (c .before .before .before .loop .j) (omega arith) in
-    omega arith
+add-wide-3 c = let i = both-inside (c .before .before .before .before .before .before .args .b .now) (c .before .before .before .before .before .before .args .c) (c .before .before .before .before .before .before .pre .0) (c .before .before .before .loop .j) (omega arith) in omega arith
 
 shared-slice-read-wide-2 : tie.Need-shared-slice-read-wide-2 Inv-loop μ-loop
-shared-slice-read-wide-2 c =
-    let i = both-inside (c .before .before .before .before .before .before .before .args .b .now) (c .before .before .before .before .before .before .before .args .c) (c .before .before .before .before .before .before .before .pre .0) (c .before .before .before .before .loop .j) (omega arith) in
-    omega arith
+shared-slice-read-wide-2 c = let i = both-inside (c .before .before .before .before .before .before .before .args .b .now) (c .before .before .before .before .before .before .before .args .c) (c .before .before .before .before .before .before .before .pre .0) (c .before .before .before .before .loop .j) (omega arith) in omega arith
 
 wide-requires-2 : tie.Need-wide-requires-2 Inv-loop μ-loop
 wide-requires-2 c κs = search needs
 
 mark-requires : tie.Need-mark-requires Inv-loop μ-loop
-mark-requires c κs =
-    let i = both-inside (c .before .before .before .before .before .before .before .before .before .args .b .now) (c .before .before .before .before .before .before .before .before .before .args .c) (c .before .before .before .before .before .before .before .before .before .pre .0) (c .before .before .before .before .before .before .loop .j) (omega arith) in
-    let ex : c .before .before .before .wide .result ≡ lowEnd (c .before .before .before .before .before .before .before .before .before .args .b .now) (c .before .before .before .before .before .before .loop .j) = c .before .before .before .wide .ensures in
-    let ey : c .before .wide2 .result ≡ highEnd (c .before .before .before .before .before .before .before .before .before .args .b .now) (c .before .before .before .before .before .before .loop .j) = c .before .wide2 .ensures ∙ high-at (c .before .before .before .before .before .before .before .before .before .args .b .now) (c .before .before .before .before .before .before .before .before .before .args .c) (c .before .before .before .before .before .before .before .before .before .pre .0) (c .before .before .before .before .before .before .loop .j) in
-    let q = ends-below (c .before .before .before .before .before .before .before .before .before .args .b .now) (c .before .before .before .before .before .before .before .before .before .args .c) (c .before .before .before .before .before .before .before .before .before .pre .0) (c .before .before .before .before .before .before .loop .j) (omega arith) in
-    let hx : c .before .before .before .wide .result < 64 = omega arith in
-    let hy : c .before .wide2 .result < 64 = omega arith in
-    omega arith
+mark-requires c κs = let h = ends (c .before) in omega arith
 
 mark-requires-2 : tie.Need-mark-requires-2 Inv-loop μ-loop
 mark-requires-2 c κs =
-    let i = both-inside (c .before .before .before .before .before .before .before .before .before .before .before .before .before .args .b .now) (c .before .before .before .before .before .before .before .before .before .before .before .before .before .args .c) (c .before .before .before .before .before .before .before .before .before .before .before .before .before .pre .0) (c .before .before .before .before .before .before .before .before .before .before .loop .j) (omega arith) in
-    let ex : c .before .before .before .before .before .before .before .wide .result ≡ lowEnd (c .before .before .before .before .before .before .before .before .before .before .before .before .before .args .b .now) (c .before .before .before .before .before .before .before .before .before .before .loop .j) = c .before .before .before .before .before .before .before .wide .ensures in
-    let ey : c .before .before .before .before .before .wide2 .result ≡ highEnd (c .before .before .before .before .before .before .before .before .before .before .before .before .before .args .b .now) (c .before .before .before .before .before .before .before .before .before .before .loop .j) = c .before .before .before .before .before .wide2 .ensures ∙ high-at (c .before .before .before .before .before .before .before .before .before .before .before .before .before .args .b .now) (c .before .before .before .before .before .before .before .before .before .before .before .before .before .args .c) (c .before .before .before .before .before .before .before .before .before .before .before .before .before .pre .0) (c .before .before .before .before .before .before .before .before .before .before .loop .j) in
-    let q = ends-below (c .before .before .before .before .before .before .before .before .before .before .before .before .before .args .b .now) (c .before .before .before .before .before .before .before .before .before .before .before .before .before .args .c) (c .before .before .before .before .before .before .before .before .before .before .before .before .before .pre .0) (c .before .before .before .before .before .before .before .before .before .before .loop .j) (omega arith) in
-    let hx : c .before .before .before .before .before .before .before .wide .result < 64 = omega arith in
-    let hy : c .before .before .before .before .before .wide2 .result < 64 = omega arith in
+    let h = ends (c .before .before .before .before .before) in
     let k = marked-length (c .before .before .before .before .before .before .before .before .before .before .loop .row) (c .before .before .before .mark .last .0) (eqb (c .before .before .before .before .before .before .before .wide .result) (c .before .before .before .before .before .before .before .before .before .before .before .before .before .args .v)) (c .before .before .before .before .before .wide2 .result) (c .before .before .before .before .before .before .before .before .before .before .loop .inv .1 .0) (c .before .before .before .mark .ensures) in omega arith
 
 add-j : tie.Need-add-j Inv-loop μ-loop
-add-j c =
-    let i = both-inside (c .before .before .before .before .before .before .before .before .before .before .before .before .before .before .before .before .args .b .now) (c .before .before .before .before .before .before .before .before .before .before .before .before .before .before .before .before .args .c) (c .before .before .before .before .before .before .before .before .before .before .before .before .before .before .before .before .pre .0) (c .before .before .before .before .before .before .before .before .before .before .before .before .before .loop .j) (omega arith) in
-    omega arith
+add-j c = let i = both-inside (c .before .before .before .before .before .before .before .before .before .before .before .before .before .before .before .before .args .b .now) (c .before .before .before .before .before .before .before .before .before .before .before .before .before .before .before .before .args .c) (c .before .before .before .before .before .before .before .before .before .before .before .before .before .before .before .before .pre .0) (c .before .before .before .before .before .before .before .before .before .before .before .before .before .loop .j) (omega arith) in omega arith
 
 loop-less : tie.Need-loop-less Inv-loop μ-loop
 loop-less c = search needs
 
 loop-again : tie.Need-loop-again Inv-loop μ-loop
 loop-again c =
-    let i = both-inside (c .before .before .before .before .before .before .before .before .before .before .before .before .before .before .before .before .args .b .now) (c .before .before .before .before .before .before .before .before .before .before .before .before .before .before .before .before .args .c) (c .before .before .before .before .before .before .before .before .before .before .before .before .before .before .before .before .pre .0) (c .before .before .before .before .before .before .before .before .before .before .before .before .before .loop .j) (omega arith) in
+    let h = ends (c .before .before .before .before .before .before .before .before) in
     let ex : c .before .before .before .before .before .before .before .before .before .before .wide .result ≡ lowEnd (c .before .before .before .before .before .before .before .before .before .before .before .before .before .before .before .before .args .b .now) (c .before .before .before .before .before .before .before .before .before .before .before .before .before .loop .j) = c .before .before .before .before .before .before .before .before .before .before .wide .ensures in
-    let ey : c .before .before .before .before .before .before .before .before .wide2 .result ≡ highEnd (c .before .before .before .before .before .before .before .before .before .before .before .before .before .before .before .before .args .b .now) (c .before .before .before .before .before .before .before .before .before .before .before .before .before .loop .j) = c .before .before .before .before .before .before .before .before .wide2 .ensures ∙ high-at (c .before .before .before .before .before .before .before .before .before .before .before .before .before .before .before .before .args .b .now) (c .before .before .before .before .before .before .before .before .before .before .before .before .before .before .before .before .args .c) (c .before .before .before .before .before .before .before .before .before .before .before .before .before .before .before .before .pre .0) (c .before .before .before .before .before .before .before .before .before .before .before .before .before .loop .j) in
-    let q = ends-below (c .before .before .before .before .before .before .before .before .before .before .before .before .before .before .before .before .args .b .now) (c .before .before .before .before .before .before .before .before .before .before .before .before .before .before .before .before .args .c) (c .before .before .before .before .before .before .before .before .before .before .before .before .before .before .before .before .pre .0) (c .before .before .before .before .before .before .before .before .before .before .before .before .before .loop .j) (omega arith) in
-    let hx : c .before .before .before .before .before .before .before .before .before .before .wide .result < 64 = omega arith in
-    let hy : c .before .before .before .before .before .before .before .before .wide2 .result < 64 = omega arith in (
+    let ey : c .before .before .before .before .before .before .before .before .wide2 .result ≡ highEnd (c .before .before .before .before .before .before .before .before .before .before .before .before .before .before .before .before .args .b .now) (c .before .before .before .before .before .before .before .before .before .before .before .before .before .loop .j) = c .before .before .before .before .before .before .before .before .wide2 .ensures ∙ high-at (c .before .before .before .before .before .before .before .before .before .before .before .before .before .before .before .before .args .b .now) (c .before .before .before .before .before .before .before .before .before .before .before .before .before .before .before .before .args .c) (c .before .before .before .before .before .before .before .before .before .before .before .before .before .before .before .before .pre .0) (c .before .before .before .before .before .before .before .before .before .before .before .before .before .loop .j) in (
       omega arith,
       (
-        second-length (c .before .before .before .before .before .before .before .before .before .before .before .before .before .loop .row) (c .before .before .before .before .before .before .mark .last .0) (c .before .before .mark2 .last .0) (c .before .before .before .before .before .before .before .before .before .before .wide .result) (c .before .before .before .before .before .before .before .before .wide2 .result) (c .before .before .before .before .before .before .before .before .before .before .before .before .before .before .before .before .args .v) hx hy (c .before .before .before .before .before .before .before .before .before .before .before .before .before .loop .inv .1 .0) (c .before .before .before .before .before .before .mark .ensures) (c .before .before .mark2 .ensures),
+        second-length (c .before .before .before .before .before .before .before .before .before .before .before .before .before .loop .row) (c .before .before .before .before .before .before .mark .last .0) (c .before .before .mark2 .last .0) (c .before .before .before .before .before .before .before .before .before .before .wide .result) (c .before .before .before .before .before .before .before .before .wide2 .result) (c .before .before .before .before .before .before .before .before .before .before .before .before .before .before .before .before .args .v) (h .0) (h .1) (c .before .before .before .before .before .before .before .before .before .before .before .before .before .loop .inv .1 .0) (c .before .before .before .before .before .before .mark .ensures) (c .before .before .mark2 .ensures),
         λ w p.
             rw add-one
-            (row-more (c .before .before .before .before .before .before .before .before .before .before .before .before .before .loop .row) (c .before .before .before .before .before .before .mark .last .0) (c .before .before .mark2 .last .0) (c .before .before .before .before .before .before .before .before .before .before .wide .result) (c .before .before .before .before .before .before .before .before .wide2 .result) (c .before .before .before .before .before .before .before .before .before .before .before .before .before .before .before .before .args .v) hx hy (c .before .before .before .before .before .before .before .before .before .before .before .before .before .loop .inv .1 .0) (c .before .before .before .before .before .before .mark .ensures) (c .before .before .mark2 .ensures) w (some (c .before .before .before .before .before .before .before .before .before .before .before .before .before .loop .j) (joined (c .before .before .before .before .before .before .before .before .before .before .before .before .before .before .before .before .args .b .now) (c .before .before .before .before .before .before .before .before .before .before .before .before .before .before .before .before .args .v) w)) (c .before .before .before .before .before .before .before .before .before .before .before .before .before .loop .inv .1 .1 w p)
+            (row-more (c .before .before .before .before .before .before .before .before .before .before .before .before .before .loop .row) (c .before .before .before .before .before .before .mark .last .0) (c .before .before .mark2 .last .0) (c .before .before .before .before .before .before .before .before .before .before .wide .result) (c .before .before .before .before .before .before .before .before .wide2 .result) (c .before .before .before .before .before .before .before .before .before .before .before .before .before .before .before .before .args .v) (h .0) (h .1) (c .before .before .before .before .before .before .before .before .before .before .before .before .before .loop .inv .1 .0) (c .before .before .before .before .before .before .mark .ensures) (c .before .before .mark2 .ensures) w (some (c .before .before .before .before .before .before .before .before .before .before .before .before .before .loop .j) (joined (c .before .before .before .before .before .before .before .before .before .before .before .before .before .before .before .before .args .b .now) (c .before .before .before .before .before .before .before .before .before .before .before .before .before .before .before .before .args .v) w)) (c .before .before .before .before .before .before .before .before .before .before .before .before .before .loop .inv .1 .1 w p)
             ∙ ap₂ (λ (x y : ℕ). some (c .before .before .before .before .before .before .before .before .before .before .before .before .before .loop .j) (joined (c .before .before .before .before .before .before .before .before .before .before .before .before .before .before .before .before .args .b .now) (c .before .before .before .before .before .before .before .before .before .before .before .before .before .before .before .before .args .v) w) || (eqb x (c .before .before .before .before .before .before .before .before .before .before .before .before .before .before .before .before .args .v) && eqb y w || eqb x w && eqb y (c .before .before .before .before .before .before .before .before .before .before .before .before .before .before .before .before .args .v))) ex ey),
       ),
     )

@@ -20,122 +20,73 @@ Inv-loop b e table₀ j₀ table j = (j ≤ e) × ((length table ≡ 4096) × ((
 abbrev μ-loop : tie.MeasureT-loop
 μ-loop b e table₀ j₀ table j = e - j
 
+-- both ends of the edge that is read are below 64
+ends : (c : tie.After-wide2 Inv-loop μ-loop) → (c .before .before .wide .result < 64) × (c .wide2 .result < 64)
+ends c =
+    let q = ends-below (c .before .before .before .before .before .before .before .args .b .now) (c .before .before .before .before .before .before .before .args .c) (c .before .before .before .before .before .before .before .pre) (c .before .before .before .before .before .loop .j) (omega arith) in
+    let x = c .before .before .wide .ensures in
+    let y = c .wide2 .ensures ∙ high-at (c .before .before .before .before .before .before .before .args .b .now) (c .before .before .before .before .before .before .before .args .c) (c .before .before .before .before .before .before .before .pre) (c .before .before .before .before .before .loop .j) in
+    (omega arith, omega arith)
+
 loop-holds : tie.Need-loop-holds Inv-loop μ-loop
 loop-holds c = (omega arith, (refl, λ v w p q. zeros-none {n = 4096} (64 * v + w) (omega arith)))
 
 add-wide : tie.Need-add-wide Inv-loop μ-loop
-add-wide c =
-    let i = both-inside (c .before .before .before .args .b .now) (c .before .before .before .args .c) (c .before .before .before .pre) (c .before .loop .j) (omega arith) in
-    omega arith
+add-wide c = let i = both-inside (c .before .before .before .args .b .now) (c .before .before .before .args .c) (c .before .before .before .pre) (c .before .loop .j) (omega arith) in omega arith
 
 shared-slice-read-wide : tie.Need-shared-slice-read-wide Inv-loop μ-loop
-shared-slice-read-wide c =
-    let i = both-inside (c .before .before .before .before .args .b .now) (c .before .before .before .before .args .c) (c .before .before .before .before .pre) (c .before .before .loop .j) (omega arith) in
-    omega arith
+shared-slice-read-wide c = let i = both-inside (c .before .before .before .before .args .b .now) (c .before .before .before .before .args .c) (c .before .before .before .before .pre) (c .before .before .loop .j) (omega arith) in omega arith
 
 wide-requires : tie.Need-wide-requires Inv-loop μ-loop
 wide-requires c κs = search needs
 
 add-wide-2 : tie.Need-add-wide-2 Inv-loop μ-loop
-add-wide-2 c =
-    let i = both-inside (c .before .before .before .before .before .args .b .now) (c .before .before .before .before .before .args .c) (c .before .before .before .before .before .pre) (c .before .before .before .loop .j) (omega arith) in
-    omega arith
+add-wide-2 c = let i = both-inside (c .before .before .before .before .before .args .b .now) (c .before .before .before .before .before .args .c) (c .before .before .before .before .before .pre) (c .before .before .before .loop .j) (omega arith) in omega arith
 
 add-wide-3 : tie.Need-add-wide-3 Inv-loop μ-loop
-add-wide-3 c =
-    let i = both-inside (c .before .before .before .before .before .args .b .now) (c .before .before .before .before .before .args .c) (c .before .before .before .before .before .pre) (c .before .before .before .loop .j) (omega arith) in
-    omega arith
+add-wide-3 c = let i = both-inside (c .before .before .before .before .before .args .b .now) (c .before .before .before .before .before .args .c) (c .before .before .before .before .before .pre) (c .before .before .before .loop .j) (omega arith) in omega arith
 
 shared-slice-read-wide-2 : tie.Need-shared-slice-read-wide-2 Inv-loop μ-loop
-shared-slice-read-wide-2 c =
-    let i = both-inside (c .before .before .before .before .before .before .args .b .now) (c .before .before .before .before .before .before .args .c) (c .before .before .before .before .before .before .pre) (c .before .before .before .before .loop .j) (omega arith) in
-    omega arith
+shared-slice-read-wide-2 c = let i = both-inside (c .before .before .before .before .before .before .args .b .now) (c .before .before .before .before .before .before .args .c) (c .before .before .before .before .before .before .pre) (c .before .before .before .before .loop .j) (omega arith) in omega arith
 
 wide-requires-2 : tie.Need-wide-requires-2 Inv-loop μ-loop
 wide-requires-2 c κs = search needs
 
 mul-there : tie.Need-mul-there Inv-loop μ-loop
-mul-there c =
-    let i = both-inside (c .before .before .before .before .before .before .before .args .b .now) (c .before .before .before .before .before .before .before .args .c) (c .before .before .before .before .before .before .before .pre) (c .before .before .before .before .before .loop .j) (omega arith) in
-    let ex : c .before .before .wide .result ≡ lowEnd (c .before .before .before .before .before .before .before .args .b .now) (c .before .before .before .before .before .loop .j) = c .before .before .wide .ensures in
-    let ey : c .wide2 .result ≡ highEnd (c .before .before .before .before .before .before .before .args .b .now) (c .before .before .before .before .before .loop .j) = c .wide2 .ensures ∙ high-at (c .before .before .before .before .before .before .before .args .b .now) (c .before .before .before .before .before .before .before .args .c) (c .before .before .before .before .before .before .before .pre) (c .before .before .before .before .before .loop .j) in
-    let q = ends-below (c .before .before .before .before .before .before .before .args .b .now) (c .before .before .before .before .before .before .before .args .c) (c .before .before .before .before .before .before .before .pre) (c .before .before .before .before .before .loop .j) (omega arith) in
-    let hx : c .before .before .wide .result < 64 = omega arith in
-    let hy : c .wide2 .result < 64 = omega arith in
-    omega arith
+mul-there c = let h = ends (c) in omega arith
 
 add-there : tie.Need-add-there Inv-loop μ-loop
-add-there c =
-    let i = both-inside (c .before .before .before .before .before .before .before .args .b .now) (c .before .before .before .before .before .before .before .args .c) (c .before .before .before .before .before .before .before .pre) (c .before .before .before .before .before .loop .j) (omega arith) in
-    let ex : c .before .before .wide .result ≡ lowEnd (c .before .before .before .before .before .before .before .args .b .now) (c .before .before .before .before .before .loop .j) = c .before .before .wide .ensures in
-    let ey : c .wide2 .result ≡ highEnd (c .before .before .before .before .before .before .before .args .b .now) (c .before .before .before .before .before .loop .j) = c .wide2 .ensures ∙ high-at (c .before .before .before .before .before .before .before .args .b .now) (c .before .before .before .before .before .before .before .args .c) (c .before .before .before .before .before .before .before .pre) (c .before .before .before .before .before .loop .j) in
-    let q = ends-below (c .before .before .before .before .before .before .before .args .b .now) (c .before .before .before .before .before .before .before .args .c) (c .before .before .before .before .before .before .before .pre) (c .before .before .before .before .before .loop .j) (omega arith) in
-    let hx : c .before .before .wide .result < 64 = omega arith in
-    let hy : c .wide2 .result < 64 = omega arith in
-    omega arith
+add-there c = let h = ends (c) in omega arith
 
 mul-back : tie.Need-mul-back Inv-loop μ-loop
-mul-back c =
-    let i = both-inside (c .before .before .before .before .before .before .before .args .b .now) (c .before .before .before .before .before .before .before .args .c) (c .before .before .before .before .before .before .before .pre) (c .before .before .before .before .before .loop .j) (omega arith) in
-    let ex : c .before .before .wide .result ≡ lowEnd (c .before .before .before .before .before .before .before .args .b .now) (c .before .before .before .before .before .loop .j) = c .before .before .wide .ensures in
-    let ey : c .wide2 .result ≡ highEnd (c .before .before .before .before .before .before .before .args .b .now) (c .before .before .before .before .before .loop .j) = c .wide2 .ensures ∙ high-at (c .before .before .before .before .before .before .before .args .b .now) (c .before .before .before .before .before .before .before .args .c) (c .before .before .before .before .before .before .before .pre) (c .before .before .before .before .before .loop .j) in
-    let q = ends-below (c .before .before .before .before .before .before .before .args .b .now) (c .before .before .before .before .before .before .before .args .c) (c .before .before .before .before .before .before .before .pre) (c .before .before .before .before .before .loop .j) (omega arith) in
-    let hx : c .before .before .wide .result < 64 = omega arith in
-    let hy : c .wide2 .result < 64 = omega arith in
-    omega arith
+mul-back c = let h = ends (c) in omega arith
 
 add-back : tie.Need-add-back Inv-loop μ-loop
-add-back c =
-    let i = both-inside (c .before .before .before .before .before .before .before .args .b .now) (c .before .before .before .before .before .before .before .args .c) (c .before .before .before .before .before .before .before .pre) (c .before .before .before .before .before .loop .j) (omega arith) in
-    let ex : c .before .before .wide .result ≡ lowEnd (c .before .before .before .before .before .before .before .args .b .now) (c .before .before .before .before .before .loop .j) = c .before .before .wide .ensures in
-    let ey : c .wide2 .result ≡ highEnd (c .before .before .before .before .before .before .before .args .b .now) (c .before .before .before .before .before .loop .j) = c .wide2 .ensures ∙ high-at (c .before .before .before .before .before .before .before .args .b .now) (c .before .before .before .before .before .before .before .args .c) (c .before .before .before .before .before .before .before .pre) (c .before .before .before .before .before .loop .j) in
-    let q = ends-below (c .before .before .before .before .before .before .before .args .b .now) (c .before .before .before .before .before .before .before .args .c) (c .before .before .before .before .before .before .before .pre) (c .before .before .before .before .before .loop .j) (omega arith) in
-    let hx : c .before .before .wide .result < 64 = omega arith in
-    let hy : c .wide2 .result < 64 = omega arith in
-    omega arith
+add-back c = let h = ends (c) in omega arith
 
 array-write-table : tie.Need-array-write-table Inv-loop μ-loop
-array-write-table c =
-    let i = both-inside (c .before .before .before .before .before .before .before .args .b .now) (c .before .before .before .before .before .before .before .args .c) (c .before .before .before .before .before .before .before .pre) (c .before .before .before .before .before .loop .j) (omega arith) in
-    let ex : c .before .before .wide .result ≡ lowEnd (c .before .before .before .before .before .before .before .args .b .now) (c .before .before .before .before .before .loop .j) = c .before .before .wide .ensures in
-    let ey : c .wide2 .result ≡ highEnd (c .before .before .before .before .before .before .before .args .b .now) (c .before .before .before .before .before .loop .j) = c .wide2 .ensures ∙ high-at (c .before .before .before .before .before .before .before .args .b .now) (c .before .before .before .before .before .before .before .args .c) (c .before .before .before .before .before .before .before .pre) (c .before .before .before .before .before .loop .j) in
-    let q = ends-below (c .before .before .before .before .before .before .before .args .b .now) (c .before .before .before .before .before .before .before .args .c) (c .before .before .before .before .before .before .before .pre) (c .before .before .before .before .before .loop .j) (omega arith) in
-    let hx : c .before .before .wide .result < 64 = omega arith in
-    let hy : c .wide2 .result < 64 = omega arith in
-    omega arith
+array-write-table c = let h = ends (c) in omega arith
 
 array-write-table-2 : tie.Need-array-write-table-2 Inv-loop μ-loop
-array-write-table-2 c =
-    let i = both-inside (c .before .before .before .before .before .before .before .args .b .now) (c .before .before .before .before .before .before .before .args .c) (c .before .before .before .before .before .before .before .pre) (c .before .before .before .before .before .loop .j) (omega arith) in
-    let ex : c .before .before .wide .result ≡ lowEnd (c .before .before .before .before .before .before .before .args .b .now) (c .before .before .before .before .before .loop .j) = c .before .before .wide .ensures in
-    let ey : c .wide2 .result ≡ highEnd (c .before .before .before .before .before .before .before .args .b .now) (c .before .before .before .before .before .loop .j) = c .wide2 .ensures ∙ high-at (c .before .before .before .before .before .before .before .args .b .now) (c .before .before .before .before .before .before .before .args .c) (c .before .before .before .before .before .before .before .pre) (c .before .before .before .before .before .loop .j) in
-    let q = ends-below (c .before .before .before .before .before .before .before .args .b .now) (c .before .before .before .before .before .before .before .args .c) (c .before .before .before .before .before .before .before .pre) (c .before .before .before .before .before .loop .j) (omega arith) in
-    let hx : c .before .before .wide .result < 64 = omega arith in
-    let hy : c .wide2 .result < 64 = omega arith in
-    omega arith
+array-write-table-2 c = let h = ends (c) in omega arith
 
 add-j : tie.Need-add-j Inv-loop μ-loop
-add-j c =
-    let i = both-inside (c .before .before .before .before .before .before .before .args .b .now) (c .before .before .before .before .before .before .before .args .c) (c .before .before .before .before .before .before .before .pre) (c .before .before .before .before .before .loop .j) (omega arith) in
-    omega arith
+add-j c = let i = both-inside (c .before .before .before .before .before .before .before .args .b .now) (c .before .before .before .before .before .before .before .args .c) (c .before .before .before .before .before .before .before .pre) (c .before .before .before .before .before .loop .j) (omega arith) in omega arith
 
 loop-less : tie.Need-loop-less Inv-loop μ-loop
 loop-less c = search needs
 
 loop-again : tie.Need-loop-again Inv-loop μ-loop
 loop-again c =
-    let i = both-inside (c .before .before .before .before .before .before .before .args .b .now) (c .before .before .before .before .before .before .before .args .c) (c .before .before .before .before .before .before .before .pre) (c .before .before .before .before .before .loop .j) (omega arith) in
+    let h = ends (c) in
     let ex : c .before .before .wide .result ≡ lowEnd (c .before .before .before .before .before .before .before .args .b .now) (c .before .before .before .before .before .loop .j) = c .before .before .wide .ensures in
-    let ey : c .wide2 .result ≡ highEnd (c .before .before .before .before .before .before .before .args .b .now) (c .before .before .before .before .before .loop .j) = c .wide2 .ensures ∙ high-at (c .before .before .before .before .before .before .before .args .b .now) (c .before .before .before .before .before .before .before .args .c) (c .before .before .before .before .before .before .before .pre) (c .before .before .before .before .before .loop .j) in
-    let q = ends-below (c .before .before .before .before .before .before .before .args .b .now) (c .before .before .before .before .before .before .before .args .c) (c .before .before .before .before .before .before .before .pre) (c .before .before .before .before .before .loop .j) (omega arith) in
-    let hx : c .before .before .wide .result < 64 = omega arith in
-    let hy : c .wide2 .result < 64 = omega arith in (
+    let ey : c .wide2 .result ≡ highEnd (c .before .before .before .before .before .before .before .args .b .now) (c .before .before .before .before .before .loop .j) = c .wide2 .ensures ∙ high-at (c .before .before .before .before .before .before .before .args .b .now) (c .before .before .before .before .before .before .before .args .c) (c .before .before .before .before .before .before .before .pre) (c .before .before .before .before .before .loop .j) in (
       omega arith,
       (
         simp length-set (c .before .before .before .before .before .loop .inv .1 .0),
         λ v w p r.
             rw add-one
-            (table-more (c .before .before .before .before .before .loop .table) (c .before .before .wide .result) (c .wide2 .result) v w (some (c .before .before .before .before .before .loop .j) (joined (c .before .before .before .before .before .before .before .args .b .now) v w)) hx hy p r (c .before .before .before .before .before .loop .inv .1 .0) (c .before .before .before .before .before .loop .inv .1 .1 v w p r)
+            (table-more (c .before .before .before .before .before .loop .table) (c .before .before .wide .result) (c .wide2 .result) v w (some (c .before .before .before .before .before .loop .j) (joined (c .before .before .before .before .before .before .before .args .b .now) v w)) (h .0) (h .1) p r (c .before .before .before .before .before .loop .inv .1 .0) (c .before .before .before .before .before .loop .inv .1 .1 v w p r)
             ∙ ap₂ (λ (x y : ℕ). some (c .before .before .before .before .before .loop .j) (joined (c .before .before .before .before .before .before .before .args .b .now) v w) || (eqb x v && eqb y w || eqb x w && eqb y v)) ex ey),
       ),
     )
