@@ -5,7 +5,7 @@ use mathlib.Core.List.{List, List·Memᴰ}
 use Prim.Native.Nat.{ℕ, _≤_}
 use lib.ListN.{length}
 use Rattle.lists.specs.Loop.{each}
-use Rattle.instance.specs.Instance.{Instance, instance}
+use Rattle.instance.specs.Instance.{Instance, instance, adjacent}
 use Rattle.formula.specs.Formula.{Clause, A, B, C, D, E, F, G, clauses, line, words}
 use Rattle.formula.specs.Counts.{Families, clausesBy, wordsBy, clauseCount, wordCount}
 use Rattle.plan.specs.Plan.{cost}
@@ -14,13 +14,13 @@ use Rattle.calls.specs.Calls.{instanceAnswer, checkAnswer}
 
 -- the closed numbers are the lengths of the families
 pub record Lengths (numbers : Families) (length′ : List Clause → ℕ) (I : Instance) : Type 0 where
-  pub inA : length′ (A I) ≡ numbers .A
-  pub inB : length′ (B I) ≡ numbers .B
-  pub inC : length′ (C I) ≡ numbers .C
-  pub inD : length′ (D I) ≡ numbers .D
-  pub inE : length′ (E I) ≡ numbers .E
-  pub inF : length′ (F I) ≡ numbers .F
-  pub inG : length′ (G I) ≡ numbers .G
+  pub inA : length′ (A (I .sizes) (I .start)) ≡ numbers .A
+  pub inB : length′ (B (I .sizes) (I .goal)) ≡ numbers .B
+  pub inC : length′ (C (I .sizes)) ≡ numbers .C
+  pub inD : length′ (D (I .sizes)) ≡ numbers .D
+  pub inE : length′ (E (I .sizes)) ≡ numbers .E
+  pub inF : length′ (F (I .sizes) (adjacent I)) ≡ numbers .F
+  pub inG : length′ (G (I .sizes)) ≡ numbers .G
 
 -- for the instance bytes b and the horizon m
 module _ (b : List ℕ) (m : ℕ) where

@@ -6,14 +6,13 @@ use instance::Sizes;
 ghost use mathlib.Core.Path.{_≡_};
 ghost use mathlib.Core.List.{[], _∷_};
 ghost use Prim.Native.Nat.{_+_, _≤_, _<_};
-ghost use lib.IntN.{pos};
 ghost use lib.ListN.{length};
 ghost use Rattle.lists.specs.Loop.{when};
-ghost use Rattle.lists.specs.Slice.{filled};
+ghost use Rattle.lists.specs.Slice.{Wrote};
 ghost use Rattle.formula.specs.Variables.{X, ¬X};
-ghost use Rattle.formula.specs.Formula.{line};
+ghost use Rattle.formula.specs.Formula.{line, somewhere, nearby, onward};
 ghost use Rattle.formula.specs.Limits.{Limits};
-ghost use Rattle.clauses.specs.Lines.{somewhere, nearby, onward, marked};
+ghost use Rattle.clauses.specs.Lines.{marked};
 
 // The literal X(t,a,v).
 pub fn positive(s: Sizes, t: Step, a: Agent, v: Vertex) -> i32
@@ -36,7 +35,7 @@ pub fn negative(s: Sizes, t: Step, a: Agent, v: Vertex) -> i32
 // A clause of one literal: families A and B.
 pub fn put_unit(f: &mut [i32], x: i32) -> usize
     requires { ⌜ 2 ≤ length (now f) ⌝ }
-    ensures { λ r. ⌜ (r ≡ 2) × (now (f .exit) ≡ filled (line (x ∷ [])) (now (f .entry))) ⌝ }
+    ensures { λ r. ⌜ Wrote (line (x ∷ [])) (now (f .entry)) (now (f .exit)) r ⌝ }
 {
     f[0] = x;
     f[1] = 0;
@@ -46,7 +45,7 @@ pub fn put_unit(f: &mut [i32], x: i32) -> usize
 // A clause of two literals: families D, E and G.
 pub fn put_pair(f: &mut [i32], x: i32, y: i32) -> usize
     requires { ⌜ 3 ≤ length (now f) ⌝ }
-    ensures { λ r. ⌜ (r ≡ 3) × (now (f .exit) ≡ filled (line (x ∷ y ∷ [])) (now (f .entry))) ⌝ }
+    ensures { λ r. ⌜ Wrote (line (x ∷ y ∷ [])) (now (f .entry)) (now (f .exit)) r ⌝ }
 {
     f[0] = x;
     f[1] = y;
@@ -59,7 +58,7 @@ pub fn put_somewhere(f: &mut [i32], s: Sizes, t: Step, a: Agent) -> usize
     requires { ⌜ Limits s ⌝ }
     requires { ⌜ (t .0 ≤ s .m) × (a .0 < s .k) ⌝ }
     requires { ⌜ length (line (somewhere s (t .0) (a .0))) ≤ length (now f) ⌝ }
-    ensures { λ r. ⌜ (r ≡ length (line (somewhere s (t .0) (a .0)))) × (now (f .exit) ≡ filled (line (somewhere s (t .0) (a .0))) (now (f .entry))) ⌝ }
+    ensures { λ r. ⌜ Wrote (line (somewhere s (t .0) (a .0))) (now (f .entry)) (now (f .exit)) r ⌝ }
 {
     let n = s.n;
     for v in 0..n {
@@ -69,27 +68,10 @@ pub fn put_somewhere(f: &mut [i32], s: Sizes, t: Step, a: Agent) -> usize
     n + 1
 }
 
-// Two literals.
-fn put_two(f: &mut [i32], x: i32, y: i32)
-    requires { ⌜ 2 ≤ length (now f) ⌝ }
-    ensures { λ _. ⌜ now (f .exit) ≡ filled (x ∷ y ∷ []) (now (f .entry)) ⌝ }
-{
-    f[0] = x;
-    f[1] = y;
-}
-
-// The closing 0.
-fn put_end(f: &mut [i32])
-    requires { ⌜ 1 ≤ length (now f) ⌝ }
-    ensures { λ _. ⌜ now (f .exit) ≡ filled (pos 0 ∷ []) (now (f .entry)) ⌝ }
-{
-    f[0] = 0;
-}
-
 // A literal where a test holds, nothing where it fails.
 fn put_when(f: &mut [i32], test: bool, x: i32) -> usize
     requires { ⌜ 1 ≤ length (now f) ⌝ }
-    ensures { λ r. ⌜ (r ≡ length (when test (x ∷ []))) × (now (f .exit) ≡ filled (when test (x ∷ [])) (now (f .entry))) ⌝ }
+    ensures { λ r. ⌜ Wrote (when test (x ∷ [])) (now (f .entry)) (now (f .exit)) r ⌝ }
 {
     if test {
         f[0] = x;
@@ -98,32 +80,41 @@ fn put_when(f: &mut [i32], test: bool, x: i32) -> usize
     0
 }
 
-// X(t,a,w) for each w whose byte of near is 1, rising. There is a word more than they can take.
-fn put_near(f: &mut [i32], s: Sizes, near: &[u8], t: Step, a: Agent) -> usize
+// X(t,a,w) for each w that is marked, rising. There is a word more than they can take.
+fn put_near(f: &mut [i32], s: Sizes, near: &[u8], from: usize, t: Step, a: Agent) -> usize
     requires { ⌜ Limits s ⌝ }
-    requires { ⌜ (t .0 ≤ s .m) × (a .0 < s .k) × (s .n ≤ length (now near)) ⌝ }
-    requires { ⌜ length (nearby s (marked (now near)) (t .0) (a .0)) < length (now f) ⌝ }
-    ensures { λ r. ⌜ (r ≡ length (nearby s (marked (now (near .entry))) (t .0) (a .0))) × (now (f .exit) ≡ filled (nearby s (marked (now (near .entry))) (t .0) (a .0)) (now (f .entry))) ⌝ }
+    requires { ⌜ (t .0 ≤ s .m) × (a .0 < s .k) × (from + s .n ≤ length (now near)) ⌝ }
+    requires { ⌜ length (nearby s (marked (now near) from) (t .0) (a .0)) < length (now f) ⌝ }
+    ensures { λ r. ⌜ Wrote (nearby s (marked (now (near .entry)) from) (t .0) (a .0)) (now (f .entry)) (now (f .exit)) r ⌝ }
 {
     let n = s.n;
     let mut at: usize = 0;
     for w in 0..n {
-        let test = near[w] == 1;
+        let test = near[from + w] == 1;
         at += put_when(&mut f[at..], test, positive(s, t, a, Vertex(w)));
     }
     at
 }
 
-// A clause of family F: agent a at v at time t keeps v or goes to a neighbour. Byte w of near is 1 where w is one.
-pub fn put_onward(f: &mut [i32], s: Sizes, near: &[u8], t: Step, a: Agent, v: Vertex) -> usize
+// A clause of family F: agent a at v at time t keeps v or goes to a vertex that is marked.
+pub fn put_onward(
+    f: &mut [i32],
+    s: Sizes,
+    near: &[u8],
+    from: usize,
+    t: Step,
+    a: Agent,
+    v: Vertex,
+) -> usize
     requires { ⌜ Limits s ⌝ }
-    requires { ⌜ (t .0 < s .m) × (a .0 < s .k) × (v .0 < s .n) × (s .n ≤ length (now near)) ⌝ }
-    requires { ⌜ length (line (onward s (marked (now near)) (t .0) (a .0) (v .0))) ≤ length (now f) ⌝ }
-    ensures { λ r. ⌜ (r ≡ length (line (onward s (marked (now (near .entry))) (t .0) (a .0) (v .0)))) × (now (f .exit) ≡ filled (line (onward s (marked (now (near .entry))) (t .0) (a .0) (v .0))) (now (f .entry))) ⌝ }
+    requires { ⌜ (t .0 < s .m) × (a .0 < s .k) × (v .0 < s .n) × (from + s .n ≤ length (now near)) ⌝ }
+    requires { ⌜ length (line (onward s (marked (now near) from) (t .0) (a .0) (v .0))) ≤ length (now f) ⌝ }
+    ensures { λ r. ⌜ Wrote (line (onward s (marked (now (near .entry)) from) (t .0) (a .0) (v .0))) (now (f .entry)) (now (f .exit)) r ⌝ }
 {
     let next = Step(t.0 + 1);
-    put_two(&mut f[0..], negative(s, t, a, v), positive(s, next, a, v));
-    let at = 2 + put_near(&mut f[2..], s, near, next, a);
-    put_end(&mut f[at..]);
+    f[0] = negative(s, t, a, v);
+    f[1] = positive(s, next, a, v);
+    let at = 2 + put_near(&mut f[2..], s, near, from, next, a);
+    f[at] = 0;
     at + 1
 }

@@ -19,7 +19,7 @@ fn wide(x: u8) -> usize
 }
 
 // The first of `count` agents of a row that stands on x, or `count`.
-fn first_on(p: &[u8], row: usize, count: usize, x: u8) -> usize
+pub fn first_on(p: &[u8], row: usize, count: usize, x: u8) -> usize
     requires { ⌜ row + count ≤ length (now p) ⌝ }
     ensures { λ r. ⌜ FirstFault count (λ a. not (eqb (getD (now (p .entry)) (row + a) 0) x)) r ⌝ }
 {

@@ -1,24 +1,21 @@
 -- The decoder's questions one after another, and what an acceptance says of the entries.
-use mathlib.Core.Path.{_≡_, refl, sym, _∙_, ap, ap₂, subst}
-use mathlib.Core.Logic.{_↔_, _≢_, _⊎_, inl, inr, ⊎-elim}
-use mathlib.Core.List.{List, [], _∷_, _++_}
-use mathlib.Core.Bool.{Bool}
+use mathlib.Core.Path.{_≡_, sym, _∙_, ap, subst}
+use mathlib.Core.List.{List, [], _∷_}
 use Prim.Native.Nat.{ℕ, suc, _+_, _*_, _-_, _≤_, _<_}
 use native.Mathlib.Numerals.{add-one}
 use native.Mathlib.Omega.{arith}
-use lib.ListN.{length, getD, set}
-use lib.Dec.{T, eqb, leb}
-use lib.IntN.{ℤ, pos, negsuc, negℤ}
-use Rattle.lists.specs.Loop.{for, all, unless}
+use lib.ListN.{length}
+use lib.Seq.{ext-getD}
+use lib.Dec.{eqb, leb}
+use lib.IntN.{ℤ}
 use Rattle.lists.specs.Slice.{filled}
-use Rattle.lists.proofs.Tests.{and-iff, or-iff, eqb-iff, leb-iff}
+use Rattle.lists.proofs.Tests.{and-iff, eqb-iff, leb-iff}
 use Rattle.lists.proofs.Loops.{unless-nil, unless-all}
-use Rattle.lists.proofs.Slices.{filled-set}
-use Rattle.lists.proofs.Blocks.{for1-length}
+use Rattle.lists.proofs.Blocks.{place-split}
 use Rattle.answers.specs.declared.Answer.{Answer}
-use Rattle.answers.specs.Answers.{Question, refuse, accept, decide, lent, clear}
+use Rattle.answers.specs.Answers.{Question, refuse, accept, decide, clear}
 use Rattle.answers.specs.Fault.{FirstFault}
-use Rattle.answers.proofs.Laws.{numbered, clear-iff, clear-second, numbered-second, decide-iff, decide-count, decide-after, decide-front, ask-yes, ask-no, fault-pass, fault-stop, lent-accepted, lent-refused}
+use Rattle.answers.proofs.Laws.{clear-iff, clear-second, numbered-second, decide-iff, ask-yes, ask-no, fault-pass, fault-stop, lent-accepted, lent-refused}
 use Rattle.instance.specs.declared.Sizes.{Sizes}
 use Rattle.instance.specs.declared.Checked.{Checked}
 use Rattle.instance.specs.Instance.{Instance, instance}
@@ -27,34 +24,19 @@ use Rattle.formula.specs.Formula.{clauses}
 use Rattle.formula.specs.Counts.{clauseCount}
 use Rattle.formula.proofs.Counts.{clause-count}
 use Rattle.plan.specs.Plan.{planBytes}
-use Rattle.valuation.specs.Valuation.{sameNumber, entry, rightEntry, true?, satisfied?, named, namedPlan}
+use Rattle.valuation.specs.Valuation.{rightEntry, true?, named, namedPlan}
 use Rattle.valuation.specs.Satisfying.{Valuation}
 use Rattle.valuation.specs.Places.{Places}
-use Rattle.valuation.proofs.Families.{Sat, sat-CD}
-use Rattle.valuation.proofs.Entries.{sameNumber-iff, named-places}
+use Rattle.valuation.proofs.Families.{sat-CD}
+use Rattle.valuation.proofs.Entries.{named-places, named-size, named-at}
 use Rattle.calls.specs.Questions.{question14, question15, question23, question24}
-use Rattle.calls.specs.Calls.{instanceQuestions, instanceAnswer, instanceChecked, decodeAnswer, decodeSlice}
+use Rattle.calls.specs.Calls.{instanceAnswer, instanceChecked, decodeAnswer, decodeSlice}
 use Rattle.calls.specs.Accepted.{Accepted, instanceOf}
 use Rattle.calls.proofs.Instance.{first-refused, first-passed}
 use Rattle.calls.proofs.Accepted.{sizes-same, horizon-of, accepted}
 use Rattle.calls.proofs.Valuation.{numbered-valuation, clear-valuation}
-use Rattle.satisfaction.specs.Blocks.{Fault}
-
--- one more element of a slice that a loop fills
-pub filled-next : {A : Type 0} (f : ℕ → A) (z l : List A) (v : ℕ) (x : A) → z ≡ filled (for v λ u. f u ∷ []) l → v < length l → x ≡ f v
-    → set z v x ≡ filled (for (v + 1) λ u. f u ∷ []) l
-filled-next {A} f z l v x e h q =
-    ap₂ (λ (y : List A) (w : A). set y v w) e q
-    ∙ filled-set (for v λ u. f u ∷ []) l v (f v) (f v) (for1-length v f) h
-    ∙ ap (λ (j : ℕ). filled (for j λ u. f u ∷ []) l) (sym (add-one v))
-
--- an entry that passes is its variable or its negative
-right : (es : List ℤ) (i : ℕ) → T (rightEntry es i) → (entry es i ≡ pos (suc i)) ⊎ (entry es i ≡ negℤ (pos (suc i)))
-right es i t =
-    ⊎-elim
-    (λ u. inl (sameNumber-iff (entry es i) (pos (suc i)) .0 u))
-    (λ u. inr (sameNumber-iff (entry es i) (negsuc i) .0 u))
-    (or-iff (sameNumber (entry es i) (pos (suc i))) _ .0 t)
+use Rattle.satisfaction.specs.Rows.{Fault, Read}
+use Rattle.satisfaction.proofs.Families.{place-named}
 
 module _ (b : List ℕ) (c : Checked) (w : Accepted b c) (es : List ℤ) (size : ℕ) where
   abbrev I : Instance
@@ -103,9 +85,9 @@ module _ (b : List ℕ) (c : Checked) (w : Accepted b c) (es : List ℤ) (size :
       pass-15 : decide (q14 ∷ q15 ∷ q23 ∷ q24 ∷ []) bytes ≡ decide (q23 ∷ q24 ∷ []) bytes
       pass-15 = pass-14 ∙ ask-yes (leb (planBytes (I .sizes)) size) (refuse 15 (planBytes (I .sizes))) _ bytes (leb-iff (planBytes (I .sizes)) size .1 (omega (arith, bytes-same)))
 
-      module _ (i : ℕ) (f : FirstFault (length es) (rightEntry es) i) where
+      module _ (i : ℕ) (f : FirstFault (variableCount s) (rightEntry es) i) where
         entries-fault : FirstFault (variableCount (I .sizes)) (rightEntry es) i
-        entries-fault = subst (λ (x : ℕ). FirstFault x (rightEntry es) i) (e ∙ count-same) f
+        entries-fault = subst (λ (z : Sizes). FirstFault (variableCount z) (rightEntry es) i) same f
 
         pub stop-23 : i < s .n * s .k * (s .m + 1) → refuse 23 i ≡ decide (q14 ∷ q15 ∷ q23 ∷ q24 ∷ []) bytes
         stop-23 h = sym (pass-15 ∙ fault-stop entries-fault (refuse 23) (q24 ∷ []) bytes (omega (arith, count-same)))
@@ -113,13 +95,6 @@ module _ (b : List ℕ) (c : Checked) (w : Accepted b c) (es : List ℤ) (size :
         module _ (h : s .n * s .k * (s .m + 1) ≤ i) where
           pass-23 : decide (q14 ∷ q15 ∷ q23 ∷ q24 ∷ []) bytes ≡ decide (q24 ∷ []) bytes
           pass-23 = pass-15 ∙ fault-pass entries-fault (refuse 23) (q24 ∷ []) bytes (omega (arith, count-same))
-
-          pub valuation : Valuation s es
-          valuation =
-              record {
-                size = e ∙ count-same ∙ ap (λ (z : Sizes). variableCount z) (sym same);
-                each = λ j r. right es j (f .before j (omega (arith, count-same, ap (λ (z : Sizes). variableCount z) same)));
-              }
 
           module _ (r count : ℕ) (g : Fault es (clauses I) r) (ec : count ≡ clauseCount s) where
             all-count : count ≡ length (clauses I)
@@ -151,6 +126,14 @@ module _ (b : List ℕ) (c : Checked) (w : Accepted b c) (es : List ℤ) (size :
         places = subst (λ (z : Sizes). Places z (true? es) (named z es)) (sym same) (named-places I es (h .0) x y);
         fits = subst (λ (z : Sizes). planBytes z ≤ size) (sym same) l;
       }
+
+  -- the plan that the pass has read is the one named
+  pub planned : Ready → (p : List ℕ) → Read s es p → p ≡ namedPlan s es
+  planned y p rd =
+      ext-getD 0 p (namedPlan s es) (rd .size ∙ sym (named-size s es))
+      (λ i l.
+      let (t, a, h, h′, e) = place-split (suc (s .m)) (s .k) i (subst (λ (x : ℕ). i < x) (rd .size) l) in
+      rw e (sym (named-at s es t a h h′ ∙ place-named s es p rd (y .places) t a h h′)))
 
 -- the call: the instance check answers a, with c beside it, and where it accepts the questions of the entries answer r
 module _ (b : List ℕ) (m : ℕ) (es : List ℤ) (p : List ℕ) (a : Answer) (c : Checked) (ea : a ≡ instanceAnswer b m) (ec : c ≡ instanceChecked b m) where

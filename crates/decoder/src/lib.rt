@@ -1,100 +1,89 @@
 // The decoder: from a list of entries, of any length and with any numbers, to the plan that it names.
 use answers::Answer;
-use entries::Agent;
-use entries::Step;
-use entries::Variable;
 use instance::Checked;
-use instance::Sizes;
 ghost use mathlib.Core.Path.{_≡_};
 ghost use mathlib.Core.List.{[], _∷_};
 ghost use Prim.Native.Nat.{_*_, _≤_};
-ghost use lib.ListN.{length};
+ghost use lib.ListN.{length, take};
 ghost use Rattle.lists.specs.Slice.{filled};
 ghost use Rattle.answers.specs.Answers.{decide};
-ghost use Rattle.answers.specs.Fault.{FirstFault};
-ghost use Rattle.formula.specs.Limits.{Limits};
 ghost use Rattle.plan.specs.Plan.{planBytes};
-ghost use Rattle.valuation.specs.Valuation.{rightEntry, true?, named, namedPlan};
-ghost use Rattle.valuation.specs.Satisfying.{Valuation};
-ghost use Rattle.valuation.specs.Places.{Places};
+ghost use Rattle.valuation.specs.Valuation.{namedPlan};
 ghost use Rattle.calls.specs.Accepted.{Accepted, instanceOf};
 ghost use Rattle.calls.specs.Questions.{question14, question15, question23, question24};
 ghost use Rattle.calls.specs.Calls.{decodeAnswer, decodeSlice};
 
-// The first entry that is neither its variable nor its negative, or their number.
-fn entry_fault(entries: &[i32]) -> usize
-    requires { ⌜ length (now entries) ≤ 33792 ⌝ }
-    ensures { λ r. ⌜ FirstFault (length (now (entries .entry))) (rightEntry (now (entries .entry))) r ⌝ }
-{
-    let len = entries.len();
-    for i in 0..len {
-        if !entries::is_entry(entries[i], Variable(i + 1)) {
-            return i;
-        }
-    }
-    len
+// An answer, and the plan where it is an acceptance.
+pub struct Decoded {
+    pub answer: Answer,
+    pub places: [u8; 528],
 }
 
 // Questions 14, 15, 23 and 24, for a plan slice of the given size.
-fn ask_entries(b: &[u8], c: Checked, entries: &[i32], size: usize) -> Answer
+fn ask_entries(b: &[u8], c: Checked, entries: &[i32], size: usize) -> Decoded
     requires { ⌜ Accepted (now b) c ⌝ }
-    ensures { λ r. ⌜ r ≡ decide (question14 (instanceOf (now (b .entry)) c) (now (entries .entry)) ∷ question15 (instanceOf (now (b .entry)) c) size ∷ question23 (instanceOf (now (b .entry)) c) (now (entries .entry)) ∷ question24 (instanceOf (now (b .entry)) c) (now (entries .entry)) ∷ []) (planBytes (c .sizes)) ⌝ }
+    ensures { λ r. ⌜ r .answer ≡ decide (question14 (instanceOf (now (b .entry)) c) (now (entries .entry)) ∷ question15 (instanceOf (now (b .entry)) c) size ∷ question23 (instanceOf (now (b .entry)) c) (now (entries .entry)) ∷ question24 (instanceOf (now (b .entry)) c) (now (entries .entry)) ∷ []) (planBytes (c .sizes)) ⌝ }
+    ensures { λ r. ⌜ (length (r .places) ≡ 528) × (r .answer .number ≡ 0 → (r .answer .second ≡ planBytes (c .sizes)) × (take (planBytes (c .sizes)) (r .places) ≡ namedPlan (c .sizes) (now (entries .entry)))) ⌝ }
 {
     let s = c.sizes;
-    let n = s.n;
-    let k = s.k;
-    let m = s.m;
-    let count = n * k * (m + 1);
-    let bytes = (m + 1) * k;
+    let count = s.n * s.k * (s.m + 1);
+    let bytes = (s.m + 1) * s.k;
     let len = entries.len();
     if len != count {
-        return Answer {
-            number: 14,
-            second: len,
+        return Decoded {
+            answer: Answer {
+                number: 14,
+                second: len,
+            },
+            places: [0u8; 528],
         };
     }
     if size < bytes {
-        return Answer {
-            number: 15,
+        return Decoded {
+            answer: Answer {
+                number: 15,
+                second: bytes,
+            },
+            places: [0u8; 528],
+        };
+    }
+    let reading = satisfaction::read_entries(entries, s);
+    let places = reading.places;
+    if reading.wrong < count {
+        return Decoded {
+            answer: Answer {
+                number: 23,
+                second: reading.wrong,
+            },
+            places,
+        };
+    }
+    let f = satisfaction::clause_fault(b, c, entries, &places[0..bytes]);
+    if f < counts::clause_count(s) {
+        return Decoded {
+            answer: Answer {
+                number: 24,
+                second: f,
+            },
+            places,
+        };
+    }
+    Decoded {
+        answer: Answer {
+            number: 0,
             second: bytes,
-        };
-    }
-    let i = entry_fault(entries);
-    if i < count {
-        return Answer {
-            number: 23,
-            second: i,
-        };
-    }
-    let f = satisfaction::clause_fault(b, c, entries);
-    let clauses = counts::clause_count(s);
-    if f < clauses {
-        return Answer {
-            number: 24,
-            second: f,
-        };
-    }
-    Answer {
-        number: 0,
-        second: bytes,
+        },
+        places,
     }
 }
 
-// The plan named, first in the slice.
-fn write_plan(plan: &mut [u8], entries: &[i32], s: Sizes)
-    requires { ⌜ Limits s ⌝ }
-    requires { ⌜ Valuation s (now entries) ⌝ }
-    requires { ⌜ Places s (true? (now entries)) (named s (now entries)) ⌝ }
-    requires { ⌜ planBytes s ≤ length (now plan) ⌝ }
-    ensures { λ _. ⌜ now (plan .exit) ≡ filled (namedPlan s (now (entries .entry))) (now (plan .entry)) ⌝ }
+// The plan, first in the slice.
+fn write_plan(plan: &mut [u8], p: &[u8])
+    requires { ⌜ length (now p) ≤ length (now plan) ⌝ }
+    ensures { λ _. ⌜ now (plan .exit) ≡ filled (now (p .entry)) (now (plan .entry)) ⌝ }
 {
-    let k = s.k;
-    let bytes = (s.m + 1) * k;
-    for i in 0..bytes {
-        let t = i / k;
-        let a = i % k;
-        let v = satisfaction::place_of(entries, s, Step(t), Agent(a));
-        plan[i] = v as u8;
+    for i in 0..p.len() {
+        plan[i] = p[i];
     }
 }
 
@@ -109,11 +98,13 @@ pub fn decode(b: &[u8], m: usize, entries: &[i32], plan: &mut [u8]) -> Answer
         return refusal;
     }
     let c = inspection.checked;
-    let answer = ask_entries(b, c, entries, plan.len());
+    let decoded = ask_entries(b, c, entries, plan.len());
+    let answer = decoded.answer;
     if answer.number != 0 {
         return answer;
     }
-    let s = c.sizes;
-    write_plan(plan, entries, s);
+    let places = decoded.places;
+    let bytes = answer.second;
+    write_plan(plan, &places[0..bytes]);
     answer
 }

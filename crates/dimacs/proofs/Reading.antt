@@ -14,7 +14,7 @@ use Rattle.lists.specs.Loop.{each, all}
 use Rattle.lists.proofs.Tests.{leb-iff, and-iff}
 use Rattle.lists.proofs.Loops.{all-append, for-all, when-all, one-all, each-append}
 use Rattle.instance.specs.declared.Sizes.{Sizes}
-use Rattle.instance.specs.Instance.{Instance}
+use Rattle.instance.specs.Instance.{Instance, adjacent}
 use Rattle.formula.specs.Variables.{variableCount}
 use Rattle.formula.specs.Formula.{Clause, A, B, C, D, E, F, G, clauses, line, words}
 use Rattle.formula.specs.Counts.{clauseCount}
@@ -117,31 +117,31 @@ module _ (I : Instance) where
   open Instance I using (sizes)
   open Sizes sizes using (n, k, m)
 
-  literals-A : T (all (all literal?) (A I))
+  literals-A : T (all (all literal?) (A (I .sizes) (I .start)))
   unfolding A
   literals-A = simp (for-all, one-all) (λ a l. tt)
 
-  literals-B : T (all (all literal?) (B I))
+  literals-B : T (all (all literal?) (B (I .sizes) (I .goal)))
   unfolding B
   literals-B = simp (for-all, one-all) (λ a l. tt)
 
-  literals-C : T (all (all literal?) (C I))
+  literals-C : T (all (all literal?) (C (I .sizes)))
   unfolding C
   literals-C = for-all (all literal?) (suc m) _ .1 (λ t l. simp (for-all, one-all) (λ a q v r. tt))
 
-  literals-D : T (all (all literal?) (D I))
+  literals-D : T (all (all literal?) (D (I .sizes)))
   unfolding D
   literals-D = for-all (all literal?) (suc m) _ .1 (λ t l. simp (for-all, when-all, one-all) (λ a q v r w u h. tt))
 
-  literals-E : T (all (all literal?) (E I))
+  literals-E : T (all (all literal?) (E (I .sizes)))
   unfolding E
   literals-E = for-all (all literal?) (suc m) _ .1 (λ t l. simp (for-all, when-all, one-all) (λ v q a r b u h. tt))
 
-  literals-F : T (all (all literal?) (F I))
+  literals-F : T (all (all literal?) (F (I .sizes) (adjacent I)))
   unfolding F
   literals-F = simp (for-all, one-all, when-all) (λ t l a q v r w u h. tt)
 
-  literals-G : T (all (all literal?) (G I))
+  literals-G : T (all (all literal?) (G (I .sizes)))
   unfolding G
   literals-G = simp (for-all, when-all, one-all) (λ t l a q b r h v u. tt)
 

@@ -49,6 +49,15 @@ pub fn is_literal(entry: i32, x: Variable) -> bool
     entry == literal_of(x)
 }
 
+// Does an entry say the variable's negation?
+pub fn is_negation(entry: i32, x: Variable) -> bool
+    requires { ⌜ x .0 ≤ 33792 ⌝ }
+    ensures { λ r. ⌜ r ≡ sameNumber entry (negℤ (pos (x .0))) ⌝ }
+{
+    let negation = negation_of(x);
+    entry == negation
+}
+
 // Is an entry the variable or its negative? The entry itself is never negated.
 pub fn is_entry(entry: i32, x: Variable) -> bool
     requires { ⌜ x .0 ≤ 33792 ⌝ }

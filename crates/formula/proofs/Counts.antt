@@ -28,35 +28,35 @@ module _ (I : Instance) where
   open Sizes sizes using (n, k, e, m)
 
   -- ---- clauses
-  pub count-A : length (A I) ≡ clausesBy sizes .A
+  pub count-A : length (A (I .sizes) (I .start)) ≡ clausesBy sizes .A
   unfolding A
   count-A = for1-length k _
 
-  pub count-B : length (B I) ≡ clausesBy sizes .B
+  pub count-B : length (B (I .sizes) (I .goal)) ≡ clausesBy sizes .B
   unfolding B
   count-B = for1-length k _
 
-  pub count-C : length (C I) ≡ clausesBy sizes .C
+  pub count-C : length (C (I .sizes)) ≡ clausesBy sizes .C
   unfolding C
   count-C = for-length (suc m) k _ (λ t l. for1-length k _)
 
-  pub count-D : length (D I) ≡ clausesBy sizes .D
+  pub count-D : length (D (I .sizes)) ≡ clausesBy sizes .D
   unfolding D
   count-D =
       for-length (suc m) _ _ (λ t l. for-length k (pairs n) _ (λ a l. above-length n 1 _ (λ v w. refl) ∙ mul-one _))
       ∙ sym (mul-assoc (suc m) k (pairs n))
 
-  pub count-E : length (E I) ≡ clausesBy sizes .E
+  pub count-E : length (E (I .sizes)) ≡ clausesBy sizes .E
   unfolding E
   count-E =
       for-length (suc m) _ _ (λ t l. for-length n (pairs k) _ (λ v l. above-length k 1 _ (λ a b. refl) ∙ mul-one _))
       ∙ sym (mul-assoc (suc m) n (pairs k))
 
-  pub count-F : length (F I) ≡ clausesBy sizes .F
+  pub count-F : length (F (I .sizes) (adjacent I)) ≡ clausesBy sizes .F
   unfolding F
   count-F = for-length m (k * n) _ (λ t l. for-length k n _ (λ a l. for1-length n _)) ∙ sym (mul-assoc m k n)
 
-  pub count-G : length (G I) ≡ clausesBy sizes .G
+  pub count-G : length (G (I .sizes)) ≡ clausesBy sizes .G
   unfolding G
   count-G =
       for-length m _ _ (λ t l. for-length k _ _ (λ a r. others-length k n a r _ (λ b h. for1-length n _)))
@@ -67,29 +67,29 @@ module _ (I : Instance) where
   clause-count = simp (length-append, count-A, count-B, count-C, count-D, count-E, count-F, count-G)
 
   -- ---- words
-  pub words-A : length (each line (A I)) ≡ wordsBy sizes .A
+  pub words-A : length (each line (A (I .sizes) (I .start))) ≡ wordsBy sizes .A
   unfolding A
   words-A = simp each-for (for-length k 2 _ (λ a l. refl) ∙ mul-comm k 2)
 
-  pub words-B : length (each line (B I)) ≡ wordsBy sizes .B
+  pub words-B : length (each line (B (I .sizes) (I .goal))) ≡ wordsBy sizes .B
   unfolding B
   words-B = simp each-for (for-length k 2 _ (λ a l. refl) ∙ mul-comm k 2)
 
-  pub words-C : length (each line (C I)) ≡ wordsBy sizes .C
+  pub words-C : length (each line (C (I .sizes))) ≡ wordsBy sizes .C
   unfolding C
   words-C =
       simp each-for
       (for-length (suc m) _ _ (λ t l. for-length k (n + 1) _ (λ a l. rw (one-line, add-one n) (ap suc (for1-length n (X sizes t a)))))
       ∙ sym (mul-assoc (suc m) k (n + 1)))
 
-  pub words-D : length (each line (D I)) ≡ wordsBy sizes .D
+  pub words-D : length (each line (D (I .sizes))) ≡ wordsBy sizes .D
   unfolding D
   words-D =
       simp (each-for, each-when)
       (for-length (suc m) _ _ (λ t l. for-length k (pairs n * 3) _ (λ a l. above-length n 3 _ (λ v w. refl)))
       ∙ thrice (suc m) k (pairs n))
 
-  pub words-E : length (each line (E I)) ≡ wordsBy sizes .E
+  pub words-E : length (each line (E (I .sizes))) ≡ wordsBy sizes .E
   unfolding E
   words-E =
       simp (each-for, each-when)
@@ -97,7 +97,7 @@ module _ (I : Instance) where
       ∙ thrice (suc m) n (pairs k))
 
   -- 3 words for each vertex beside its neighbours, which the handshake counts
-  pub words-F : Edges I → length (each line (F I)) ≡ wordsBy sizes .F
+  pub words-F : Edges I → length (each line (F (I .sizes) (adjacent I))) ≡ wordsBy sizes .F
   unfolding F
   words-F g =
       simp each-for
@@ -108,7 +108,7 @@ module _ (I : Instance) where
       ∙ ap₂ _+_ (sum-const n 3 ∙ mul-comm n 3) (handshake I g)))
       ∙ sym (mul-assoc m k (3 * n + 2 * e)))
 
-  pub words-G : length (each line (G I)) ≡ wordsBy sizes .G
+  pub words-G : length (each line (G (I .sizes))) ≡ wordsBy sizes .G
   unfolding G
   words-G =
       simp (each-for, each-when)

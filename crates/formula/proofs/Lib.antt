@@ -1,3 +1,4 @@
 pub mod Counts
 pub mod Limits
 pub mod Places
+pub mod Blocks

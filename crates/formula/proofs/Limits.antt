@@ -104,34 +104,34 @@ module _ (I : Instance) (g : Edges I) where
   short c = leb (length (line c)) 66
 
   module _ (w : n ≤ 64) where
-    short-A : T (all short (A I))
+    short-A : T (all short (A (I .sizes) (I .start)))
     unfolding A short
     short-A = simp (for-all, one-all, leb-iff) (λ a l. omega arith)
 
-    short-B : T (all short (B I))
+    short-B : T (all short (B (I .sizes) (I .goal)))
     unfolding B short
     short-B = simp (for-all, one-all, leb-iff) (λ a l. omega arith)
 
-    short-C : T (all short (C I))
+    short-C : T (all short (C (I .sizes)))
     unfolding C short
     short-C =
         simp (for-all, one-all, leb-iff) (λ t l a r. simp length-append (omega (arith, for1-length n (X sizes t a))))
 
-    short-D : T (all short (D I))
+    short-D : T (all short (D (I .sizes)))
     unfolding D short
     short-D = simp (for-all, when-all, one-all, leb-iff) (λ t l a r v p w q o. omega arith)
 
-    short-E : T (all short (E I))
+    short-E : T (all short (E (I .sizes)))
     unfolding E short
     short-E = simp (for-all, when-all, one-all, leb-iff) (λ t l v p a r b q o. omega arith)
 
-    short-F : T (all short (F I))
+    short-F : T (all short (F (I .sizes) (adjacent I)))
     unfolding F short
     short-F =
         simp (for-all, one-all, leb-iff)
         (λ t l a r v p. simp length-append (omega (arith, when-count n (adjacent I v) (X sizes (suc t) a), degree-most v p)))
 
-    short-G : T (all short (G I))
+    short-G : T (all short (G (I .sizes)))
     unfolding G short
     short-G = simp (for-all, when-all, one-all, leb-iff) (λ t l a r b q o v p. omega arith)
 

@@ -34,21 +34,21 @@ module _ (I : Instance) where
   open Instance I using (sizes, start, goal)
   open Sizes sizes using (n, k, m)
 
-  pub nth-A : (a : ℕ) → a < k → getD (A I) a [] ≡ X sizes 0 a (start a) ∷ []
+  pub nth-A : (a : ℕ) → a < k → getD (A (I .sizes) (I .start)) a [] ≡ X sizes 0 a (start a) ∷ []
   unfolding A
   nth-A a l = for1-getD k (λ a. X sizes 0 a (start a) ∷ []) [] a l
 
-  pub nth-B : (a : ℕ) → a < k → getD (B I) a [] ≡ X sizes m a (goal a) ∷ []
+  pub nth-B : (a : ℕ) → a < k → getD (B (I .sizes) (I .goal)) a [] ≡ X sizes m a (goal a) ∷ []
   unfolding B
   nth-B a l = for1-getD k (λ a. X sizes m a (goal a) ∷ []) [] a l
 
-  pub nth-C : (t a : ℕ) → t < suc m → a < k → getD (C I) (t * k + a) [] ≡ for n (λ v. X sizes t a v ∷ [])
+  pub nth-C : (t a : ℕ) → t < suc m → a < k → getD (C (I .sizes)) (t * k + a) [] ≡ for n (λ v. X sizes t a v ∷ [])
   unfolding C
   nth-C t a p q = for2-getD (suc m) k (λ t a. for n (λ v. X sizes t a v ∷ [])) [] t a p q
 
   -- behind the pairs of the agents before a, and those that begin below v
   pub nth-D : (t a v i : ℕ) → t < suc m → a < k → v < n → suc v + i < n
-      → getD (D I) ((t * k + a) * pairs n + (sum v (λ u. n - suc u) + i)) [] ≡ ¬X sizes t a v ∷ ¬X sizes t a (suc v + i) ∷ []
+      → getD (D (I .sizes)) ((t * k + a) * pairs n + (sum v (λ u. n - suc u) + i)) [] ≡ ¬X sizes t a v ∷ ¬X sizes t a (suc v + i) ∷ []
   unfolding D
   nth-D t a v i p q r s =
       let f : ℕ → ℕ → ℕ → ℕ → Clause = λ t a v w. ¬X sizes t a v ∷ ¬X sizes t a w ∷ [] in
@@ -58,7 +58,7 @@ module _ (I : Instance) where
       ∙ above-getD n (f t a) [] v i r s
 
   pub nth-E : (t v a i : ℕ) → t < suc m → v < n → a < k → suc a + i < k
-      → getD (E I) ((t * n + v) * pairs k + (sum a (λ u. k - suc u) + i)) [] ≡ ¬X sizes t a v ∷ ¬X sizes t (suc a + i) v ∷ []
+      → getD (E (I .sizes)) ((t * n + v) * pairs k + (sum a (λ u. k - suc u) + i)) [] ≡ ¬X sizes t a v ∷ ¬X sizes t (suc a + i) v ∷ []
   unfolding E
   nth-E t v a i p q r s =
       let f : ℕ → ℕ → ℕ → ℕ → Clause = λ t v a b. ¬X sizes t a v ∷ ¬X sizes t b v ∷ [] in
@@ -68,7 +68,7 @@ module _ (I : Instance) where
       ∙ above-getD k (f t v) [] a i r s
 
   pub nth-F : (t a v : ℕ) → t < m → a < k → v < n
-      → getD (F I) ((t * k + a) * n + v) [] ≡ ¬X sizes t a v ∷ X sizes (suc t) a v ∷ (for n λ w. when (adjacent I v w) (X sizes (suc t) a w ∷ []))
+      → getD (F (I .sizes) (adjacent I)) ((t * k + a) * n + v) [] ≡ ¬X sizes t a v ∷ X sizes (suc t) a v ∷ (for n λ w. when (adjacent I v w) (X sizes (suc t) a w ∷ []))
   unfolding F
   nth-F t a v p q r =
       for3-getD m k n (λ t a v. ¬X sizes t a v ∷ X sizes (suc t) a v ∷ (for n λ w. when (adjacent I v w) (X sizes (suc t) a w ∷ []))) [] t a v p q r
@@ -82,21 +82,21 @@ module _ (I : Instance) where
     rowG-length t a b = for1-length n (λ v. ¬X sizes t b v ∷ ¬X sizes (suc t) a v ∷ [])
 
     agentG-getD : (j : ℕ) → j < (k - 1) * n
-        → getD (G I) ((t * k + a) * ((k - 1) * n) + j) [] ≡ getD (for k λ b. when (not (eqb a b)) (rowG t a b)) j []
+        → getD (G (I .sizes)) ((t * k + a) * ((k - 1) * n) + j) [] ≡ getD (for k λ b. when (not (eqb a b)) (rowG t a b)) j []
     unfolding G
     agentG-getD j l =
         blocks-getD k ((k - 1) * n) (λ t a. for k λ b. when (not (eqb a b)) (rowG t a b))
         (λ t a r. others-length k n a r (rowG t a) (λ b h. rowG-length t a b)) m [] t a j p q l
 
     pub nth-G-below : (b : ℕ) → b < a
-        → getD (G I) ((t * k + a) * ((k - 1) * n) + (b * n + v)) [] ≡ ¬X sizes t b v ∷ ¬X sizes (suc t) a v ∷ []
+        → getD (G (I .sizes)) ((t * k + a) * ((k - 1) * n) + (b * n + v)) [] ≡ ¬X sizes t b v ∷ ¬X sizes (suc t) a v ∷ []
     nth-G-below b r =
         agentG-getD (b * n + v) (place-lt (k - 1) n b v (omega arith) s)
         ∙ others-below k n a b v (rowG t a) [] q r s (λ b h. rowG-length t a b)
         ∙ for1-getD n (λ v. ¬X sizes t b v ∷ ¬X sizes (suc t) a v ∷ []) [] v s
 
     pub nth-G-above : (i : ℕ) → suc a + i < k
-        → getD (G I) ((t * k + a) * ((k - 1) * n) + ((a + i) * n + v)) [] ≡ ¬X sizes t (suc a + i) v ∷ ¬X sizes (suc t) a v ∷ []
+        → getD (G (I .sizes)) ((t * k + a) * ((k - 1) * n) + ((a + i) * n + v)) [] ≡ ¬X sizes t (suc a + i) v ∷ ¬X sizes (suc t) a v ∷ []
     nth-G-above i r =
         agentG-getD ((a + i) * n + v) (place-lt (k - 1) n (a + i) v (omega arith) s)
         ∙ others-above k n a i v (rowG t a) [] q r s (λ b h. rowG-length t a b)

@@ -1,4 +1,5 @@
 pub mod Variables
 pub mod Formula
+pub mod Blocks
 pub mod Counts
 pub mod Limits

@@ -1,25 +1,22 @@
 -- How many words a block has at most.
-use mathlib.Core.Path.{_≡_, refl, _∙_, ap}
+use mathlib.Core.Path.{_≡_, refl, ap}
 use mathlib.Core.Bool.{Bool, true, false, not}
-use mathlib.Core.List.{List, [], _∷_}
-use Prim.Native.Nat.{ℕ, zero, suc, _+_, _*_, _-_, _≤_, _<_}
+use mathlib.Core.List.{List, [], _∷_, append-nil}
+use Prim.Native.Nat.{ℕ, zero, suc, _+_, _*_, _≤_, _<_}
 use native.Mathlib.Nat.{mul-le-mul, suc-mul, le-refl}
 use native.Mathlib.Omega.{arith}
 use lib.IntN.{pos}
-use lib.ListN.{length, getD, length-append}
-use lib.Dec.{eqb}
-use Rattle.lists.specs.Loop.{for, when}
-use Rattle.lists.proofs.Loops.{for-length}
-use Rattle.lists.proofs.Sums.{for-sum, sum-ext, sum-mul, pairs-all}
+use lib.ListN.{length, length-append}
+use lib.Dec.{ltb, eqb}
+use Rattle.lists.specs.Loop.{for, when, each}
+use Rattle.lists.proofs.Loops.{each-for, each-when}
 use Rattle.instance.specs.declared.Sizes.{Sizes}
 use Rattle.formula.specs.Variables.{X, ¬X}
-use Rattle.formula.specs.Formula.{line}
-use Rattle.formula.specs.Counts.{pairs}
+use Rattle.formula.specs.Formula.{Clause, line, somewhere, nearby, onward}
+use Rattle.formula.specs.Blocks.{Given, groups, group, block}
 use Rattle.formula.specs.Limits.{Limits}
-use Rattle.formula.proofs.Limits.{pairs-most}
-use Rattle.clauses.specs.Lines.{somewhere, nearby, onward}
+use Rattle.formula.proofs.Counts.{one-line}
 use Rattle.clauses.proofs.Laws.{somewhere-length}
-use Rattle.families.specs.Rows.{beside, units, stepC, vertexD, agentD, agentE, vertexE, agentF, pairG, otherG, agentG}
 
 -- blocks of at most c elements
 for-most : {A : Type 0} (n c : ℕ) (f : ℕ → List A) → ((i : ℕ) → i < n → length (f i) ≤ c) → length (for n f) ≤ n * c
@@ -31,53 +28,44 @@ when-most : {A : Type 0} (b : Bool) (l : List A) → length (when b l) ≤ lengt
 when-most true l = le-refl _
 when-most false l = omega arith
 
-module _ (s : Sizes) (w : Limits s) where
-  open Sizes s using (n, k, m)
+lines-most : (n c : ℕ) (f : ℕ → List Clause) → ((i : ℕ) → length (each line (f i)) ≤ c) → length (each line (for n f)) ≤ n * c
+lines-most n c f h = rw (each-for line n f) (for-most n c (λ i. each line (f i)) (λ i l. h i))
 
-  pub units-most : (t : ℕ) (row : List ℕ) → length (units s t row) ≤ 6144
-  unfolding units
-  units-most t row =
-      let e = for-length k 2 (λ a. line (X s t a (getD row a 0) ∷ [])) (λ a l. refl) in
-      omega (arith, e, w .k-most)
+lines-when : (b : Bool) (l : List Clause) → length (each line (when b l)) ≤ length (each line l)
+lines-when b l = rw (each-when line b l) (when-most b (each line l))
 
-  pub stepC-most : (t : ℕ) → length (stepC s t) ≤ 6144
-  unfolding stepC
-  stepC-most t =
-      let e = for-length k (n + 1) (λ a. line (somewhere s t a)) (λ a l. somewhere-length s t a) in
-      let q : k * (n + 1) ≤ 1040 = mul-le-mul {n₂ = 16} {m₂ = 65} (w .k-most) (omega (arith, w .n-most)) in
-      omega (arith, e)
+module _ (g : Given) (w : Limits (g .sizes)) where
+  open Sizes (g .sizes) using (n, k)
 
-  below : (v : ℕ) → n - v - 1 ≡ n - suc v
-  below v = omega arith
+  group-most : (j t x y : ℕ) → length (each line (group g j t x y)) ≤ 192
+  unfolding group
+  group-most zero t x y = omega arith
+  group-most (suc zero) t x y = omega arith
+  group-most (suc (suc zero)) t x y = omega (arith, one-line (somewhere (g .sizes) t x), somewhere-length (g .sizes) t x, length-append (somewhere (g .sizes) t x) (pos 0 ∷ []), w .n-most)
+  group-most (suc (suc (suc zero))) t x y =
+      let p : ℕ → List Clause = λ v. (¬X (g .sizes) t x y ∷ ¬X (g .sizes) t x v ∷ []) ∷ [] in
+      omega (arith, lines-most n 3 (λ v. when (ltb y v) (p v)) (λ v. lines-when (ltb y v) (p v)), w .n-most)
+  group-most (suc (suc (suc (suc zero)))) t x y =
+      let p : ℕ → List Clause = λ b. (¬X (g .sizes) t y x ∷ ¬X (g .sizes) t b x ∷ []) ∷ [] in
+      omega (arith, lines-most k 3 (λ b. when (ltb y b) (p b)) (λ b. lines-when (ltb y b) (p b)), w .k-most)
+  group-most (suc (suc (suc (suc (suc zero))))) t x y =
+      omega (arith, one-line (onward (g .sizes) (g .near y) t x y), for-most n 1 (λ v. when (g .near y v) (X (g .sizes) (suc t) x v ∷ [])) (λ v l. when-most (g .near y v) (X (g .sizes) (suc t) x v ∷ [])), w .n-most)
+  group-most (suc (suc (suc (suc (suc (suc zero)))))) t x y =
+      let f : ℕ → List Clause = λ v. (¬X (g .sizes) t y v ∷ ¬X (g .sizes) (suc t) x v ∷ []) ∷ [] in
+      omega (arith, lines-when (not (eqb x y)) (for n f), lines-most n 3 f (λ v. le-refl _), w .n-most)
+  group-most (suc (suc (suc (suc (suc (suc (suc j))))))) t x y = omega arith
 
-  pub agentD-most : (t a : ℕ) → length (agentD s t a) ≤ 6144
-  unfolding agentD vertexD
-  agentD-most t a =
-      let e : length (agentD s t a) ≡ pairs n * 3 =
-      for-sum n _
-      ∙ sum-ext n _ _ (λ v l. for-length (n - v - 1) 3 _ (λ i r. refl) ∙ ap (λ (x : ℕ). x * 3) (below v))
-      ∙ sum-mul n (λ v. n - suc v) 3
-      ∙ ap (λ (x : ℕ). x * 3) (pairs-all n) in
-      omega (arith, pairs-most s w n 64 (w .n-most))
+  groups-most : (j : ℕ) → groups (g .sizes) j ≤ 64
+  unfolding groups
+  groups-most zero = omega (arith, w .k-most)
+  groups-most (suc zero) = omega (arith, w .k-most)
+  groups-most (suc (suc zero)) = omega arith
+  groups-most (suc (suc (suc zero))) = w .n-most
+  groups-most (suc (suc (suc (suc zero)))) = omega (arith, w .k-most)
+  groups-most (suc (suc (suc (suc (suc zero))))) = w .n-most
+  groups-most (suc (suc (suc (suc (suc (suc zero)))))) = omega (arith, w .k-most)
+  groups-most (suc (suc (suc (suc (suc (suc (suc j))))))) = omega arith
 
-  pub vertexE-most : (t v : ℕ) → length (vertexE s t v) ≤ 6144
-  unfolding vertexE agentE
-  vertexE-most t v =
-      let h = for-most k 48 (agentE s t v) (λ a l. let e = for-length (k - a - 1) 3 (λ i. line (¬X s t a v ∷ ¬X s t (a + 1 + i) v ∷ [])) (λ i r. refl) in omega (arith, e, w .k-most)) in
-      omega (arith, h, w .k-most)
-
-  pub agentF-most : (table : List ℕ) (t a : ℕ) → length (agentF s table t a) ≤ 6144
-  unfolding agentF onward nearby
-  agentF-most table t a =
-      let h = for-most n 67 (λ v. line (onward s (beside table v) t a v)) (λ v l.
-      let e = for-most n 1 (λ x. when (beside table v x) (X s (t + 1) a x ∷ [])) (λ x r. when-most (beside table v x) (X s (t + 1) a x ∷ [])) in
-      omega (arith, e, length-append (onward s (beside table v) t a v) (pos 0 ∷ []), w .n-most)) in
-      omega (arith, h, w .n-most)
-
-  pub agentG-most : (t a : ℕ) → length (agentG s t a) ≤ 6144
-  unfolding agentG otherG pairG
-  agentG-most t a =
-      let h = for-most k 192 (otherG s t a) (λ b l.
-      let e = for-length n 3 (λ v. line (¬X s t b v ∷ ¬X s (t + 1) a v ∷ [])) (λ v r. refl) in
-      omega (arith, e, when-most (not (eqb a b)) (pairG s t a b), w .n-most)) in
-      omega (arith, h, w .k-most)
+  pub block-most : (j t x : ℕ) → length (each line (block g j t x)) ≤ 12288
+  unfolding block
+  block-most j t x = omega (arith, lines-most (groups (g .sizes) j) 192 (group g j t x) (group-most j t x), groups-most j)

@@ -1,69 +1,55 @@
 -- The words that are written are the formula's, and the answer is the definition's.
-use mathlib.Core.Path.{_≡_, refl, sym, _∙_, ap, ap₂, subst}
+use mathlib.Core.Path.{_≡_, refl, sym, _∙_, ap, ap₂}
 use mathlib.Core.Logic.{_≢_}
-use mathlib.Core.List.{List, [], _∷_, _++_, append-assoc}
-use Prim.Native.Nat.{ℕ, _≤_, _<_}
+use mathlib.Core.List.{List, [], _∷_, _++_}
+use Prim.Native.Nat.{ℕ, _*_, _≤_, _<_}
 use native.Mathlib.Omega.{arith}
 use lib.IntN.{ℤ}
 use lib.ListN.{length}
 use lib.Dec.{leb}
+use Rattle.lists.specs.Loop.{for, each}
 use Rattle.lists.specs.Slice.{filled}
 use Rattle.lists.proofs.Tests.{leb-iff}
-use Rattle.lists.proofs.Loops.{each-append}
+use Rattle.lists.proofs.Loops.{for-ext}
 use Rattle.answers.specs.declared.Answer.{Answer}
 use Rattle.answers.specs.Answers.{refuse, accept, decide, withClauses}
 use Rattle.answers.proofs.Laws.{ask-yes, ask-no, byNumber-refused, lent-accepted, lent-refused}
-use Rattle.instance.specs.declared.Sizes.{Sizes}
 use Rattle.instance.specs.declared.Checked.{Checked}
 use Rattle.instance.specs.Instance.{Instance, instance, adjacent}
-use Rattle.formula.specs.Formula.{A, clauses, words}
+use Rattle.formula.specs.Formula.{clauses, line, words}
 use Rattle.formula.specs.Counts.{clauseCount, wordCount}
 use Rattle.formula.proofs.Counts.{clause-count, word-count}
-use Rattle.families.specs.Rows.{units, wordsC, wordsD, beside, wordsE, wordsF, wordsG}
-use Rattle.families.proofs.Families.{words-of-A, words-of-B, words-of-C, words-of-D, words-of-E, words-of-F, words-of-G}
+use Rattle.formula.specs.Blocks.{given, family}
+use Rattle.formula.proofs.Blocks.{clauses-families, Same, family-same}
+use Rattle.clauses.specs.Lines.{marked}
+use Rattle.families.specs.Held.{held, Ready}
 use Rattle.calls.specs.Questions.{question12}
 use Rattle.calls.specs.Calls.{instanceQuestions, instanceAnswer, instanceChecked, writeAnswer, writeSlice}
 use Rattle.calls.specs.Accepted.{Accepted, instanceOf}
 use Rattle.calls.proofs.Instance.{first-refused, first-passed}
-use Rattle.calls.proofs.Accepted.{accepted, horizon-of, sizes-same, graph, start-at, goal-at}
+use Rattle.calls.proofs.Accepted.{accepted, horizon-of, sizes-same, graph, start-at, goal-at, limits-known, starts-inside, goals-inside}
 
 module _ (b : List ℕ) (c : Checked) (w : Accepted b c) where
   abbrev I : Instance
   I = instanceOf b c
 
-  -- the two halves as the code writes them
-  abbrev pub firstWords : List ℤ
-  firstWords = units (c .sizes) 0 (c .starts) ++ units (c .sizes) (c .sizes .m) (c .goals) ++ wordsC (c .sizes) ++ wordsD (c .sizes)
+  module _ (table : List ℕ) (near : (v x : ℕ) → v < c .sizes .n → x < c .sizes .n → marked table (64 * v) x ≡ adjacent I v x) where
+    pub words-held : words I ≡ each line (for 7 (family (held c table)))
+    unfolding words
+    words-held =
+        ap (each line) (clauses-families I ∙ for-ext 7 _ _ (λ j l. sym (family-same (held c table) (given I) same j)))
+      where
+        same : Same (held c table) (given I)
+        same = record { sizes = sizes-same b c w; start = start-at b c w; goal = goal-at b c w; near = near }
 
-  abbrev pub restWords : List ℕ → List ℤ
-  restWords table = wordsE (c .sizes) ++ wordsF (c .sizes) table ++ wordsG (c .sizes)
-
-  -- seven lists one after another, cut after the fourth
-  regroup : (p q r s t u v : List ℤ) → p ++ q ++ r ++ s ++ t ++ u ++ v ≡ (p ++ q ++ r ++ s) ++ (t ++ u ++ v)
-  regroup p q r s t u v = simp append-assoc
-
-  below : (a : ℕ) → a < I .sizes .k → a < c .sizes .k
-  below a l = subst (λ (s : Sizes). a < s .k) (sym (sizes-same b c w)) l
-
-  pub words-split : (table : List ℕ) → ((v x : ℕ) → v < c .sizes .n → x < c .sizes .n → beside table v x ≡ adjacent I v x)
-      → words I ≡ firstWords ++ restWords table
-  unfolding words clauses
-  words-split table h =
-      let near : (v x : ℕ) → v < I .sizes .n → x < I .sizes .n → beside table v x ≡ adjacent I v x =
-      subst (λ (s : Sizes). (v x : ℕ) → v < s .n → x < s .n → beside table v x ≡ adjacent I v x) (sizes-same b c w) h in
-      simp (
-        each-append,
-        words-of-A I (c .starts) (λ a l. start-at b c w a (below a l)),
-        words-of-B I (c .goals) (λ a l. goal-at b c w a (below a l)),
-        words-of-C I,
-        words-of-D I,
-        words-of-E I,
-        words-of-F I table near,
-        words-of-G I,
-      )
-      (let s : Sizes = I .sizes in
-      regroup (units s 0 (c .starts)) (units s (s .m) (c .goals)) (wordsC s) (wordsD s) (wordsE s) (wordsF s table) (wordsG s)
-      ∙ sym (ap (λ (s : Sizes). (units s 0 (c .starts) ++ units s (s .m) (c .goals) ++ wordsC s ++ wordsD s) ++ (wordsE s ++ wordsF s table ++ wordsG s)) (sizes-same b c w)))
+    pub ready : 4096 ≤ length table → Ready c table
+    ready h =
+        record {
+          limits = limits-known b c w;
+          starts = starts-inside b c w;
+          goals = goals-inside b c w;
+          rows = h;
+        }
 
   pub word-count-of : length (words I) ≡ wordCount (c .sizes)
   word-count-of = word-count I (graph b c w) ∙ ap wordCount (sym (sizes-same b c w))

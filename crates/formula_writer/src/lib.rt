@@ -1,57 +1,39 @@
 // The formula writer: instance bytes, a horizon and a lent slice in, the words of the formula out.
 use answers::Written;
-use entries::Step;
 use instance::Checked;
-use instance::Sizes;
 ghost use mathlib.Core.Path.{_≡_};
-ghost use mathlib.Core.List.{_++_};
-ghost use Prim.Native.Nat.{ℕ, _+_, _≤_, _<_};
-ghost use lib.ListN.{length, getD};
-ghost use Rattle.lists.specs.Slice.{filled};
-ghost use Rattle.formula.specs.Formula.{words};
-ghost use Rattle.formula.specs.Limits.{Limits};
-ghost use Rattle.families.specs.Rows.{units, wordsC, wordsD, wordsE, wordsF, wordsG};
+ghost use Prim.Native.Nat.{_≤_};
+ghost use lib.ListN.{length};
+ghost use Rattle.lists.specs.Loop.{for, each};
+ghost use Rattle.lists.specs.Slice.{Wrote};
+ghost use Rattle.formula.specs.Formula.{line, words};
+ghost use Rattle.formula.specs.Blocks.{family};
+ghost use Rattle.families.specs.Held.{held, Ready};
 ghost use Rattle.calls.specs.Accepted.{Accepted, instanceOf};
 ghost use Rattle.calls.specs.Calls.{writeAnswer, writeSlice};
 
-// Families A, B, C and D.
-fn write_first(f: &mut [i32], s: Sizes, starts: [u8; 16], goals: [u8; 16]) -> usize
-    requires { ⌜ Limits s ⌝ }
-    requires { ⌜ ((a : ℕ) → a < s .k → getD starts a 0 < s .n) ⌝ }
-    requires { ⌜ ((a : ℕ) → a < s .k → getD goals a 0 < s .n) ⌝ }
-    requires { ⌜ length (units s 0 starts ++ units s (s .m) goals ++ wordsC s ++ wordsD s) ≤ length (now f) ⌝ }
-    ensures { λ r. ⌜ (r ≡ length (units s 0 starts ++ units s (s .m) goals ++ wordsC s ++ wordsD s)) × (now (f .exit) ≡ filled (units s 0 starts ++ units s (s .m) goals ++ wordsC s ++ wordsD s) (now (f .entry))) ⌝ }
+// The seven families, each to the part of the slice behind the one before it.
+fn write_families(f: &mut [i32], c: Checked, table: &[u8]) -> usize
+    requires { ⌜ Ready c (now table) ⌝ }
+    requires { ⌜ length (each line (for 7 (family (held c (now table))))) ≤ length (now f) ⌝ }
+    ensures { λ r. ⌜ Wrote (each line (for 7 (family (held c (now (table .entry)))))) (now (f .entry)) (now (f .exit)) r ⌝ }
 {
-    let a = families::write_units(&mut f[0..], s, Step(0), starts);
-    let b = a + families::write_units(&mut f[a..], s, Step(s.m), goals);
-    let c = b + families::write_c(&mut f[b..], s);
-    c + families::write_d(&mut f[c..], s)
+    let mut at: usize = 0;
+    for which in 0..7usize {
+        let g = families::family_of(c.sizes, which);
+        at += families::write_family(&mut f[at..], c, table, g);
+    }
+    at
 }
 
-// Families E, F and G.
-fn write_rest(f: &mut [i32], s: Sizes, table: &[u8]) -> usize
-    requires { ⌜ Limits s ⌝ }
-    requires { ⌜ 4096 ≤ length (now table) ⌝ }
-    requires { ⌜ length (wordsE s ++ wordsF s (now table) ++ wordsG s) ≤ length (now f) ⌝ }
-    ensures { λ r. ⌜ (r ≡ length (wordsE s ++ wordsF s (now (table .entry)) ++ wordsG s)) × (now (f .exit) ≡ filled (wordsE s ++ wordsF s (now (table .entry)) ++ wordsG s) (now (f .entry))) ⌝ }
-{
-    let e = families::write_e(&mut f[0..], s);
-    let g = e + families::write_f(&mut f[e..], s, table);
-    g + families::write_g(&mut f[g..], s)
-}
-
-// All seven, of an accepted instance, to a slice with room for them.
+// The formula of an accepted instance, to a slice with room for it.
 fn write_words(f: &mut [i32], b: &[u8], c: Checked) -> usize
     requires { ⌜ Accepted (now b) c ⌝ }
     requires { ⌜ length (words (instanceOf (now b) c)) ≤ length (now f) ⌝ }
-    ensures { λ r. ⌜ (r ≡ length (words (instanceOf (now (b .entry)) c))) × (now (f .exit) ≡ filled (words (instanceOf (now (b .entry)) c)) (now (f .entry))) ⌝ }
+    ensures { λ r. ⌜ Wrote (words (instanceOf (now (b .entry)) c)) (now (f .entry)) (now (f .exit)) r ⌝ }
 {
-    let s = c.sizes;
-    let starts = c.starts;
-    let goals = c.goals;
     let table = neighbours::table_of(b, c);
-    let at = write_first(&mut f[0..], s, starts, goals);
-    at + write_rest(&mut f[at..], s, &table)
+    write_families(f, c, &table)
 }
 
 // Questions 1 to 10 and 12. A refusal changes no word of the slice.

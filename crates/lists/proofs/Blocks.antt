@@ -1,12 +1,12 @@
 -- A number i * c + j with j < c: the place of element j of block i, where each block has c elements.
-use mathlib.Core.Path.{_≡_, refl, sym, _∙_, ap, subst}
-use mathlib.Core.List.{[], _∷_}
+use mathlib.Core.Path.{_≡_, refl, sym, _∙_, ap, ap₂, subst}
+use mathlib.Core.List.{List, [], _∷_, _++_}
 use Prim.Native.Nat.{ℕ, zero, suc, _+_, _*_, _/_, _%_, _<_}
-use native.Mathlib.Nat.{suc-mul, mul-zero, mul-one, mul-le-mul-right, div-lt-iff-lt-mul, mod-lt, div-add-mod', zero-lt-suc, not-suc-le-zero, mul-assoc, add-mul, add-assoc}
+use native.Mathlib.Nat.{suc-mul, mul-zero, mul-one, mul-le-mul-right, div-lt-iff-lt-mul, mod-lt, div-add-mod', zero-lt-suc, not-suc-le-zero, mul-assoc, add-mul, add-assoc, add-zero, zero-mul, mul-add-div-right, mul-add-mod-self-right, div-eq-of-lt, mod-eq-of-lt}
 use native.Mathlib.Omega.{arith}
 use lib.ListN.{length, getD}
 use Rattle.lists.specs.Loop.{for}
-use Rattle.lists.proofs.Loops.{for-length, for-getD}
+use Rattle.lists.proofs.Loops.{for-length, for-getD, for-ext, for-split}
 
 pub place-lt : (n c i j : ℕ) → i < n → j < c → i * c + j < n * c
 place-lt n c i j l r = omega (arith, suc-mul i c, mul-le-mul-right c l)
@@ -43,3 +43,21 @@ module _ {A : Type 0} where
       ap (λ x. getD (for a λ i. for b λ j. for c λ l. f i j l ∷ []) x d) e
       ∙ for-getD a (b * c) (λ i. for b λ j. for c λ l. f i j l ∷ []) d (λ i h. for2-length b c (f i)) i (j * c + l) p (place-lt b c j l q r)
       ∙ for2-getD b c (f i) d j l q r
+
+-- ---- two loops as one: block i of n times c is block i % c of row i / c
+quotient : (n c j : ℕ) → j < c → (n * c + j) / c ≡ n
+quotient n c j l = mul-add-div-right (omega arith) n j ∙ ap (λ (x : ℕ). n + x) (div-eq-of-lt l) ∙ add-zero n
+
+remainder : (n c j : ℕ) → j < c → (n * c + j) % c ≡ j
+remainder n c j l = mul-add-mod-self-right n c j ∙ mod-eq-of-lt l
+
+pub for-flat : {A : Type 0} (n c : ℕ) (f : ℕ → ℕ → List A) → (for n λ i. for c λ j. f i j) ≡ for (n * c) λ x. f (x / c) (x % c)
+for-flat zero c f = sym (ap (λ (x : ℕ). for x λ i. f (i / c) (i % c)) (zero-mul c))
+for-flat (suc n) c f =
+    ap₂ _++_ (for-flat n c f) (for-ext c _ _ (λ j l. ap₂ f (sym (quotient n c j l)) (sym (remainder n c j l))))
+    ∙ sym (for-split (n * c) c (λ i. f (i / c) (i % c)))
+    ∙ ap (λ (x : ℕ). for x λ i. f (i / c) (i % c)) (sym (suc-mul n c))
+
+pub cell-at : (n c x : ℕ) → x < n * c → (0 < c) × ((x / c < n) × (x % c < c))
+cell-at n zero x h = absurd (not-suc-le-zero (subst (λ (y : ℕ). x < y) (mul-zero n) h))
+cell-at n (suc c) x h = (zero-lt-suc c, (div-lt-iff-lt-mul (zero-lt-suc c) .1 h, mod-lt x (zero-lt-suc c)))

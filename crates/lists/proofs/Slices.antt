@@ -10,8 +10,9 @@ use borrow.Rule.Slice.PartMut.{putMid}
 use lib.ListN.{length, take, drop, set, length-append, length-drop, drop-of-length-le}
 use lib.Seq.{drop-cons, set-at, take-at, drop-at, drop-drop, take-all, sets, sets-eq, take-append-seam}
 use lib.Arith.{le-zero}
-use Rattle.lists.specs.Loop.{for}
-use Rattle.lists.specs.Slice.{filled}
+use Rattle.lists.specs.Loop.{for, each}
+use Rattle.lists.specs.Slice.{filled, Wrote}
+use Rattle.lists.proofs.Loops.{each-for, for-nil}
 
 module _ {A : Type 0} where
   pub filled-nil : (s : List A) → filled [] s ≡ s
@@ -68,37 +69,64 @@ module _ {A : Type 0} where
     pub for-room : {i n : ℕ} → i < n → length (for i g) + length (g i) ≤ length (for n g)
     for-room {i} {n} h = omega (arith, for-grows (suc i) n h, length-append (for i g) (g i))
 
--- ---- the invariant of such a loop, over a slice that held s: turn i is next, and it writes at `at`
-pub record Filling {A : Type 0} (g : ℕ → List A) (s : List A) (i at : ℕ) (f : List A) : Type 0 where
+-- ---- The invariant of a loop of n turns, whose turn i writes g i behind what the turns before it wrote. The slice held s and
+-- holds f; turn i is next, and it writes at `at`.
+pub record Filling {A : Type 0} (g : ℕ → List A) (n : ℕ) (s : List A) (i at : ℕ) (f : List A) : Type 0 where
+  pub within : i ≤ n
+  pub room : length (for n g) ≤ length s
   pub fits : at ≤ length s
   pub same : length f ≡ length s
   pub here : at ≡ length (for i g)
   pub slice : f ≡ filled (for i g) s
 
-module _ {A : Type 0} {g : ℕ → List A} {s f : List A} {i at : ℕ} where
-  pub filling-none : i ≡ 0 → at ≡ 0 → f ≡ s → Filling g s i at f
-  filling-none ei ea ef =
-      rw (ei, ea, ef) (record { fits = omega arith; same = refl; here = refl; slice = sym (filled-nil s) })
+module _ {A : Type 0} {g : ℕ → List A} {n : ℕ} {s : List A} where
+  -- before the first turn; turns that write nothing may be left out
+  pub filling-from : (i : ℕ) → i ≤ n → for i g ≡ [] → length (for n g) ≤ length s → Filling g n s i 0 s
+  filling-from i l e r =
+      record {
+        within = l;
+        room = r;
+        fits = omega arith;
+        same = refl;
+        here = sym (ap length e);
+        slice = sym (ap (λ (out : List A). filled out s) e ∙ filled-nil s);
+      }
 
-  module _ (w : Filling g s i at f) where
+  module _ {i at : ℕ} {f : List A} (w : Filling g n s i at f) where
     -- turn i has room behind what is written
-    pub filling-room : {n : ℕ} → i < n → length (for n g) ≤ length s → length (g i) ≤ length f - at
-    filling-room l h = omega (arith, for-room g l, w .here, w .same)
+    pub filling-room : i < n → length (g i) ≤ length f - at
+    filling-room l = omega (arith, for-room g l, w .room, w .here, w .same)
 
     -- the turn: a call on `&mut f[at..]` left ys there and answered r
-    pub filling-turn : {n r : ℕ} {ys : List A} → i < n → length (for n g) ≤ length s → r ≡ length (g i)
-        → ys ≡ filled (g i) (take (length f - at) (drop at f)) → Filling g s (i + 1) (at + r) (putMid at (length f - at) f ys)
-    filling-turn {n} {r} {ys} l h er ey =
-        let e : putMid at (length f - at) f ys ≡ filled (for (i + 1) g) s = for-turn g f s ys i at (w .slice) (w .here) (w .fits) ey in
-        let q : at + r ≡ length (for (i + 1) g) = for-next g i at r (w .here) er in
-        let room : at + r ≤ length s = omega (arith, for-room g l, w .here) in
+    pub filling-next : i < n → {ys : List A} {r : ℕ} → Wrote (g i) (take (length f - at) (drop at f)) ys r
+        → Filling g n s (i + 1) (at + r) (putMid at (length f - at) f ys)
+    filling-next l {ys} {r} o =
+        let e : putMid at (length f - at) f ys ≡ filled (for (i + 1) g) s = for-turn g f s ys i at (w .slice) (w .here) (w .fits) (o .1) in
+        let q : at + r ≡ length (for (i + 1) g) = for-next g i at r (w .here) (o .0) in
+        let fit : at + r ≤ length s = omega (arith, for-room g l, w .room, w .here, o .0) in
         record {
-          fits = room;
+          within = omega arith;
+          room = w .room;
+          fits = fit;
           same = ap length e ∙ filled-length (for (i + 1) g) s (omega arith);
           here = q;
           slice = e;
         }
 
     -- all n turns
-    pub filling-done : {n : ℕ} → i ≡ n → (at ≡ length (for n g)) × (f ≡ filled (for n g) s)
-    filling-done e = (w .here ∙ ap (λ (j : ℕ). length (for j g)) e, w .slice ∙ ap (λ (j : ℕ). filled (for j g) s) e)
+    pub filling-done : n ≤ i → Wrote (for n g) s f at
+    filling-done l =
+        let e : i ≡ n = omega (arith, w .within) in
+        (w .here ∙ ap (λ (j : ℕ). length (for j g)) e, w .slice ∙ ap (λ (j : ℕ). filled (for j g) s) e)
+
+-- ---- the same, where turn i writes the items g i, each as the elements that h gives it
+module _ {A B : Type 0} (h : B → List A) (g : ℕ → List B) {n : ℕ} {s : List A} where
+  pub each-filling : length (each h (for n g)) ≤ length s → Filling (λ i. each h (g i)) n s 0 0 s
+  each-filling r = filling-from 0 (omega arith) refl (rw (each-for h n g) at r)
+
+  pub each-filling-from : (i : ℕ) → i ≤ n → ((j : ℕ) → j < i → g j ≡ []) → length (each h (for n g)) ≤ length s → Filling (λ i. each h (g i)) n s i 0 s
+  each-filling-from i l e r =
+      filling-from i l (for-nil i (λ j. each h (g j)) .1 (λ j p. ap (each h) (e j p))) (rw (each-for h n g) at r)
+
+  pub each-filled : {i at : ℕ} {f : List A} → Filling (λ i. each h (g i)) n s i at f → n ≤ i → Wrote (each h (for n g)) s f at
+  each-filled w l = rw (each-for h n g) (filling-done w l)

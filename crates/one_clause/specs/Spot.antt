@@ -6,18 +6,18 @@ use lib.ListN.{length, getD}
 use lib.IntN.{ℤ}
 use Rattle.lists.specs.Loop.{sum}
 use Rattle.lists.specs.Slice.{filled}
-use Rattle.instance.specs.Instance.{Instance}
+use Rattle.instance.specs.Instance.{Instance, adjacent}
 use Rattle.formula.specs.Formula.{Clause, A, B, C, D, E, F, G, clauses, line}
 
 -- the families by number, 0 for A to 6 for G
 abbrev pub family : Instance → ℕ → List Clause
-family I zero = A I
-family I (suc zero) = B I
-family I (suc (suc zero)) = C I
-family I (suc (suc (suc zero))) = D I
-family I (suc (suc (suc (suc zero)))) = E I
-family I (suc (suc (suc (suc (suc zero))))) = F I
-family I (suc (suc (suc (suc (suc (suc j)))))) = G I
+family I zero = A (I .sizes) (I .start)
+family I (suc zero) = B (I .sizes) (I .goal)
+family I (suc (suc zero)) = C (I .sizes)
+family I (suc (suc (suc zero))) = D (I .sizes)
+family I (suc (suc (suc (suc zero)))) = E (I .sizes)
+family I (suc (suc (suc (suc (suc zero))))) = F (I .sizes) (adjacent I)
+family I (suc (suc (suc (suc (suc (suc j)))))) = G (I .sizes)
 
 -- clause number c stands at this place of the family with this number
 pub record Stands (I : Instance) (c j place : ℕ) : Type 0 where

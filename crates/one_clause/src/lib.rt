@@ -13,7 +13,7 @@ ghost use Prim.Native.Nat.{ℕ, _+_, _*_, _-_, _/_, _≤_, _<_};
 ghost use lib.Dec.{ltb};
 ghost use lib.ListN.{length, getD, take};
 ghost use Rattle.lists.specs.Slice.{filled};
-ghost use Rattle.instance.specs.Instance.{Instance};
+ghost use Rattle.instance.specs.Instance.{Instance, adjacent};
 ghost use Rattle.formula.specs.Variables.{X};
 ghost use Rattle.formula.specs.Formula.{A, B, C, D, E, F, G, clauses, line};
 ghost use Rattle.formula.specs.Counts.{pairs, clausesBy, clauseCount};
@@ -139,7 +139,7 @@ fn put_end_of(f: &mut [i32], s: Sizes, t: Step, row: [u8; 16], i: usize) -> usiz
 fn put_c(f: &mut [i32], s: Sizes, i: usize) -> usize
     requires { ⌜ Limits s ⌝ }
     requires { ⌜ (i < clausesBy s .C) × (66 ≤ length (now f)) ⌝ }
-    ensures { λ r. ⌜ ((I : Instance) → I .sizes ≡ s → Puts (getD (C I) i []) r (now (f .entry)) (now (f .exit))) ⌝ }
+    ensures { λ r. ⌜ ((I : Instance) → I .sizes ≡ s → Puts (getD (C (I .sizes)) i []) r (now (f .entry)) (now (f .exit))) ⌝ }
 {
     let k = s.k;
     let rows = s.m + 1;
@@ -151,7 +151,7 @@ fn put_c(f: &mut [i32], s: Sizes, i: usize) -> usize
 fn put_d(f: &mut [i32], s: Sizes, i: usize) -> usize
     requires { ⌜ Limits s ⌝ }
     requires { ⌜ (i < clausesBy s .D) × (66 ≤ length (now f)) ⌝ }
-    ensures { λ r. ⌜ ((I : Instance) → I .sizes ≡ s → Puts (getD (D I) i []) r (now (f .entry)) (now (f .exit))) ⌝ }
+    ensures { λ r. ⌜ ((I : Instance) → I .sizes ≡ s → Puts (getD (D (I .sizes)) i []) r (now (f .entry)) (now (f .exit))) ⌝ }
 {
     let n = s.n;
     let k = s.k;
@@ -173,7 +173,7 @@ fn put_d(f: &mut [i32], s: Sizes, i: usize) -> usize
 fn put_e(f: &mut [i32], s: Sizes, i: usize) -> usize
     requires { ⌜ Limits s ⌝ }
     requires { ⌜ (i < clausesBy s .E) × (66 ≤ length (now f)) ⌝ }
-    ensures { λ r. ⌜ ((I : Instance) → I .sizes ≡ s → Puts (getD (E I) i []) r (now (f .entry)) (now (f .exit))) ⌝ }
+    ensures { λ r. ⌜ ((I : Instance) → I .sizes ≡ s → Puts (getD (E (I .sizes)) i []) r (now (f .entry)) (now (f .exit))) ⌝ }
 {
     let n = s.n;
     let k = s.k;
@@ -195,7 +195,7 @@ fn put_e(f: &mut [i32], s: Sizes, i: usize) -> usize
 fn put_f(f: &mut [i32], b: &[u8], c: Checked, i: usize) -> usize
     requires { ⌜ Accepted (now b) c ⌝ }
     requires { ⌜ (i < clausesBy (c .sizes) .F) × (66 ≤ length (now f)) ⌝ }
-    ensures { λ r. ⌜ Puts (getD (F (instanceOf (now (b .entry)) c)) i []) r (now (f .entry)) (now (f .exit)) ⌝ }
+    ensures { λ r. ⌜ Puts (getD (F (instanceOf (now (b .entry)) c .sizes) (adjacent (instanceOf (now (b .entry)) c))) i []) r (now (f .entry)) (now (f .exit)) ⌝ }
 {
     let s = c.sizes;
     let n = s.n;
@@ -206,7 +206,15 @@ fn put_f(f: &mut [i32], b: &[u8], c: Checked, i: usize) -> usize
     let place = cell_of(cell.row, m, k);
     let v = cell.place;
     let near = neighbours::row_of(b, c, v);
-    clauses::put_onward(f, s, &near, Step(place.row), Agent(place.place), Vertex(v))
+    clauses::put_onward(
+        f,
+        s,
+        &near,
+        0,
+        Step(place.row),
+        Agent(place.place),
+        Vertex(v),
+    )
 }
 
 // The agent at a place among those other than a.
@@ -224,7 +232,7 @@ fn other(a: usize, place: usize) -> usize
 fn put_g(f: &mut [i32], s: Sizes, i: usize) -> usize
     requires { ⌜ Limits s ⌝ }
     requires { ⌜ (i < clausesBy s .G) × (66 ≤ length (now f)) ⌝ }
-    ensures { λ r. ⌜ ((I : Instance) → I .sizes ≡ s → Puts (getD (G I) i []) r (now (f .entry)) (now (f .exit))) ⌝ }
+    ensures { λ r. ⌜ ((I : Instance) → I .sizes ≡ s → Puts (getD (G (I .sizes)) i []) r (now (f .entry)) (now (f .exit))) ⌝ }
 {
     let n = s.n;
     let k = s.k;

@@ -1,44 +1,61 @@
--- Every count of an accepted instance is far below 2 ^ 64.
-use Prim.Native.Nat.{ℕ, _+_, _*_, _-_, _/_, _≤_, _<_}
-use native.Mathlib.Nat.{mul-le-mul}
+-- Every number that is worked out is far below 2 ^ 64.
+use Prim.Native.Nat.{ℕ, suc, _+_, _*_, _-_, _/_, _≤_, _<_}
+use native.Mathlib.Nat.{mul-le-mul, mul-le-mul-right, suc-mul}
+use native.Mathlib.Numerals.{add-one}
 use native.Mathlib.Omega.{arith}
+use mathlib.Core.Path.{_≡_}
 use Rattle.instance.specs.declared.Sizes.{Sizes}
 use Rattle.formula.specs.Limits.{Limits}
+use Rattle.formula.specs.Variables.{variableCount}
+use Rattle.plan.specs.Plan.{planBytes}
+use Rattle.satisfaction.proofs.Entries.{cells-count}
 
--- cells: times and agents; squares: times and vertices; moves: steps and agents
+-- cells: times and agents; pairs, twos: twice the pairs of vertices and of agents; the rest: the sizes of the rows of D to G
 pub record Products (s : Sizes) : Type 0 where
-  pub cells : (s .m + 1) * s .k ≤ 528
+  pub cells : suc (s .m) * s .k ≤ 528
+  pub after : (s .m + 1) * s .k ≡ suc (s .m) * s .k
+  pub entries : suc (s .m) * s .k * s .n ≤ 33792
+  pub count : suc (s .m) * s .k * s .n ≡ variableCount s
   pub pairs : s .n * (s .n - 1) ≤ 4096
-  pub D : (s .m + 1) * s .k * (s .n * (s .n - 1) / 2) ≤ 1081344
-  pub squares : (s .m + 1) * s .n ≤ 2112
   pub twos : s .k * (s .k - 1) ≤ 256
-  pub E : (s .m + 1) * s .n * (s .k * (s .k - 1) / 2) ≤ 270336
-  pub moves : s .m * s .k ≤ 512
-  pub F : s .m * s .k * s .n ≤ 32768
   pub rest : (s .k - 1) * s .n ≤ 1024
-  pub G : s .m * s .k * ((s .k - 1) * s .n) ≤ 524288
+  pub D : s .k * (s .n * (s .n - 1) / 2) ≤ 32768
+  pub E : s .n * (s .k * (s .k - 1) / 2) ≤ 8192
+  pub F : s .k * s .n ≤ 1024
+  pub G : s .k * ((s .k - 1) * s .n) ≤ 16384
 
 pub products : (s : Sizes) → Limits s → Products s
 products s w =
-    let c : (s .m + 1) * s .k ≤ 528 = mul-le-mul {n₂ = 33} {m₂ = 16} (omega (arith, w .m-most)) (w .k-most) in
+    let c : suc (s .m) * s .k ≤ 528 = mul-le-mul {n₂ = 33} {m₂ = 16} (omega (arith, w .m-most)) (w .k-most) in
     let p : s .n * (s .n - 1) ≤ 4096 = mul-le-mul {n₂ = 64} {m₂ = 64} (w .n-most) (omega (arith, w .n-most)) in
-    let q : (s .m + 1) * s .n ≤ 2112 = mul-le-mul {n₂ = 33} {m₂ = 64} (omega (arith, w .m-most)) (w .n-most) in
     let t : s .k * (s .k - 1) ≤ 256 = mul-le-mul {n₂ = 16} {m₂ = 16} (w .k-most) (omega (arith, w .k-most)) in
-    let o : s .m * s .k ≤ 512 = mul-le-mul {n₂ = 32} {m₂ = 16} (w .m-most) (w .k-most) in
     let g : (s .k - 1) * s .n ≤ 1024 = mul-le-mul {n₂ = 16} {m₂ = 64} (omega (arith, w .k-most)) (w .n-most) in
     record {
       cells = c;
+      after = rw add-one;
+      entries = mul-le-mul {n₂ = 528} {m₂ = 64} c (w .n-most);
+      count = cells-count s;
       pairs = p;
-      D = mul-le-mul {n₂ = 528} {m₂ = 2048} c (omega arith);
-      squares = q;
       twos = t;
-      E = mul-le-mul {n₂ = 2112} {m₂ = 128} q (omega arith);
-      moves = o;
-      F = mul-le-mul {n₂ = 512} {m₂ = 64} o (w .n-most);
       rest = g;
-      G = mul-le-mul {n₂ = 512} {m₂ = 1024} o g;
+      D = mul-le-mul {n₂ = 16} {m₂ = 2048} (w .k-most) (omega arith);
+      E = mul-le-mul {n₂ = 64} {m₂ = 128} (w .n-most) (omega arith);
+      F = mul-le-mul {n₂ = 16} {m₂ = 64} (w .k-most) (w .n-most);
+      G = mul-le-mul {n₂ = 16} {m₂ = 1024} (w .k-most) g;
     }
 
--- what stands before row v of the pairs below n
-pub before-row : (n v : ℕ) → v ≤ n → n ≤ 64 → v * (2 * n - v - 1) ≤ 8192
-before-row n v h l = mul-le-mul {n₂ = 64} {m₂ = 128} (omega arith) (omega arith)
+-- row i of the entries, and row t of the plan
+pub entries-fit : (s : Sizes) (i : ℕ) → Limits s → i < suc (s .m) * s .k → (i * s .n + s .n ≤ variableCount s) × (variableCount s ≤ 33792)
+entries-fit s i w l =
+    let o = products s w in
+    (omega (arith, suc-mul i (s .n), mul-le-mul-right (s .n) l, cells-count s), omega (arith, o .entries, o .count))
+
+pub row-fits : (s : Sizes) (t : ℕ) → t ≤ s .m → t * s .k + s .k ≤ planBytes s
+row-fits s t l = let o : suc t ≤ suc (s .m) = omega arith in omega (arith, suc-mul t (s .k), mul-le-mul-right (s .k) o)
+
+pub two-fit : (s : Sizes) (t : ℕ) → t < s .m → t * s .k + s .k + s .k ≤ planBytes s
+two-fit s t l = omega (arith, row-fits s (suc t) l, suc-mul t (s .k))
+
+-- what stands before block i of c blocks of one size
+pub blocks-fit : (i c size : ℕ) → i ≤ c → i * size ≤ c * size
+blocks-fit i c size l = mul-le-mul-right size l

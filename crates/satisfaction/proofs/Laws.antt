@@ -1,26 +1,75 @@
--- How the first clause without a true literal is found: in joined lists, in blocks, among pairs.
+-- How the first clause without a true literal is found: in joined lists, in blocks, among pairs; and how a search comes to its end.
 use mathlib.Core.Path.{_≡_, refl, sym, _∙_, ap, ap₂, subst}
 use mathlib.Core.Logic.{_↔_, _≢_, by-cases}
-use mathlib.Core.List.{List, [], _∷_, _++_, append-assoc}
+use mathlib.Core.List.{List, [], _∷_, _++_}
 use mathlib.Core.Bool.{Bool}
-use Prim.Native.Nat.{ℕ, zero, suc, _+_, _*_, _-_, _/_, _%_, _≤_, _<_}
-use native.Mathlib.Nat.{le-refl, suc-mul, zero-mul, add-zero, div-lt-iff-lt-mul, mod-lt, mul-add-div-right, mul-add-mod-self-right, div-eq-of-lt, mod-eq-of-lt}
-use native.Mathlib.Decide.{decLt, ℕ-discrete}
+use Prim.Native.Nat.{ℕ, suc, _+_, _*_, _-_, _/_, _≤_, _<_}
+use native.Mathlib.Nat.{le-refl}
+use native.Mathlib.Decide.{decLt}
 use native.Mathlib.Numerals.{add-one}
 use native.Mathlib.Omega.{arith}
 use lib.ListN.{length, getD, length-append, List·getD-append}
 use lib.Seq.{getD-append-add}
 use lib.Dec.{T, ltb}
 use lib.IntN.{ℤ}
-use Rattle.lists.specs.Loop.{for, when, all, any, sum}
+use Rattle.lists.specs.Loop.{for, when, all}
 use Rattle.lists.proofs.Tests.{ltb-iff}
-use Rattle.lists.proofs.Loops.{for-all, when-all, one-all, all-append, all-getD, for-split, for-length, for-ext, for-above}
+use Rattle.lists.proofs.Loops.{for-all, when-all, one-all, all-append, all-getD, for-split, for-length, for-above}
 use Rattle.lists.proofs.Blocks.{for1-length, for1-getD}
+use Rattle.lists.proofs.Slices.{for-room}
 use Rattle.lists.proofs.Sums.{for-sum, sum-ext, pairs-below}
 use Rattle.answers.specs.Fault.{FirstFault}
 use Rattle.formula.specs.Formula.{Clause}
 use Rattle.valuation.specs.Valuation.{satisfied?}
-use Rattle.satisfaction.specs.Blocks.{Fault, Found, flat}
+use Rattle.satisfaction.specs.Rows.{Fault, Stop, Tallied}
+
+-- a search from `low` on: the numbers below i pass
+module _ (test : ℕ → Bool) (low n i : ℕ) (b : (j : ℕ) → low ≤ j → j < i → T (test j)) where
+  pub stop-more : T (test i) → (j : ℕ) → low ≤ j → j < i + 1 → T (test j)
+  stop-more t j h l = by-cases (decLt j i) (λ r. b j h r) (λ g. let e : i ≡ j = omega arith in subst (λ (x : ℕ). T (test x)) e t)
+
+  pub stop-at : low ≤ i → i < n → (T (test i) → ⊥) → Stop test low n i
+  stop-at h l f = record { least = h; within = omega arith; before = b; here = λ r. f }
+
+  pub stop-none : low ≤ i → i ≡ n → Stop test low n n
+  stop-none h e =
+      record { least = omega arith; within = le-refl n; before = λ j r l. b j r (omega arith); here = λ r. absurd (let f : ⊥ = omega arith in f) }
+
+-- a tally, one number more at a time
+module _ (test : ℕ → Bool) (low : ℕ) where
+  pub tallied-none : Tallied test low low 0 0
+  tallied-none =
+      record {
+        none = λ e. (refl, λ i h l. absurd (let f : ⊥ = omega arith in f));
+        one = λ e. absurd (let f : ⊥ = omega arith in f);
+        more = λ h. absurd (let f : ⊥ = omega arith in f);
+      }
+
+  module _ (i count sum : ℕ) (o : Tallied test low i count sum) where
+    below : (P : ℕ → Type 0) → ((j : ℕ) → low ≤ j → j < i → P j) → P i → (j : ℕ) → low ≤ j → j < i + 1 → P j
+    below P h x j r l = by-cases (decLt j i) (λ b. h j r b) (λ b. let e : i ≡ j = omega arith in subst P e x)
+
+    pub tallied-pass : T (test i) → Tallied test low (i + 1) count sum
+    tallied-pass t =
+        record {
+          none = λ e. let (z, h) = o .none e in (z, below (λ j. T (test j)) h t);
+          one = λ e. let (a, b, f, h) = o .one e in (a, omega arith, f, below (λ j. j ≢ sum → T (test j)) h (λ d. t));
+          more = λ e. let (v, w, a, b, c, f, g) = o .more e in (v, w, a, b, omega arith, f, g);
+        }
+
+    pub tallied-fail : low ≤ i → (T (test i) → ⊥) → Tallied test low (i + 1) (count + 1) (sum + i)
+    tallied-fail l f =
+        record {
+          none = λ e. absurd (let f : ⊥ = omega arith in f);
+          one = λ e.
+              let (z, h) = o .none (omega arith) in
+              let q : sum + i ≡ i = omega arith in
+              rw q (l, omega arith, f, below (λ j. j ≢ i → T (test j)) (λ j a b d. h j a b) (λ d. absurd (d refl)));
+          more = λ e.
+              by-cases (decLt count 2)
+              (λ b. let (a, c, g, h) = o .one (omega arith) in (sum, i, a, c, omega arith, g, f))
+              (λ b. let (v, w, a, c, d, g, h) = o .more (omega arith) in (v, w, a, c, omega arith, g, h));
+        }
 
 module _ (es : List ℤ) where
   abbrev sat : Clause → Bool
@@ -34,10 +83,6 @@ module _ (es : List ℤ) where
   unfolding Fault
   fault-all L t =
       record { within = le-refl _; before = λ i l. all-getD [] sat L .0 t i l; here = λ l. absurd (let f : ⊥ = omega arith in f) }
-
-  pub fault-within : (L : List Clause) (r : ℕ) → Fault es L r → r ≤ length L
-  unfolding Fault
-  fault-within L r f = f .within
 
   -- in the first of two lists, or in the second
   pub fault-left : (L M : List Clause) (r : ℕ) → Fault es L r → r < length L → Fault es (L ++ M) r
@@ -109,23 +154,17 @@ module _ (es : List ℤ) where
     row-pass v l h =
         for-all sat n _ .1 (λ w r. when-all sat (ltb v w) _ .1 (λ t. one-all sat (g v w) .1 (iff v w l r .1 (h w (ltb-iff v w .0 t) r))))
 
-    pub pairs-none : Found q 0 n n → T (all sat (for n row))
-    pairs-none f = for-all sat n row .1 (λ v l. row-pass v l (λ w o r a b. f .before v (omega arith) l a))
-
-    pub pairs-one : (v : ℕ) → Found q 0 n v → Found q (v + 1) n n → T (all sat (for n row))
-    pairs-one v f f′ =
-        for-all sat n row .1 (λ u l. row-pass u l (λ w o r a b.
-        by-cases (decLt u v)
-        (λ p. f .before u (omega arith) p a)
-        (λ p. f′ .before w (omega arith) r b)))
+    -- no two pass
+    pub pairs-pass : ((v w : ℕ) → v < w → w < n → T (q v) → T (q w) → ⊥) → T (all sat (for n row))
+    pairs-pass h = for-all sat n row .1 (λ v l. row-pass v l (λ w o r. h v w o r))
 
     row-length : (v : ℕ) → length (row v) ≡ n - suc v
     row-length v = ap length (for-above v n (λ w. g v w ∷ [])) ∙ for1-length (n - suc v) (λ i. g v (suc v + i))
 
-    pub pairs-two : (v w : ℕ) → Found q 0 n v → Found q (v + 1) n w → w < n
-        → Fault es (for n row) (v * (2 * n - v - 1) / 2 + (w - v - 1))
-    pairs-two v w f f′ l =
-        let a = f′ .least in
+    -- v and w are the first two that pass
+    pub pairs-two : (v w : ℕ) → v < w → w < n → T (q v) → T (q w) → ((u : ℕ) → u < w → T (q u) → u ≡ v)
+        → Fault es (for n row) (v * (2 * n - v - 1) / 2 + (w - v - 1)) × (v * (2 * n - v - 1) / 2 + (w - v - 1) < length (for n row))
+    pairs-two v w o l qv qw only =
         let lv : v < n = omega arith in
         let at : ℕ = w - suc v in
         let e : length (for v row) ≡ v * (2 * n - v - 1) / 2 =
@@ -136,61 +175,15 @@ module _ (es : List ℤ) where
         (singles (n - suc v) (λ i. g v (suc v + i)) at
         record {
           within = omega arith;
-          before = λ i h. iff v (suc v + i) lv (omega arith) .1 (λ x y. f′ .before (suc v + i) (omega arith) (omega arith) y);
+          before = λ i h. iff v (suc v + i) lv (omega arith) .1 (λ x y. let z = only (suc v + i) (omega arith) y in omega arith);
           here = λ h t.
               let e″ : suc v + at ≡ w = omega arith in
-              iff v w lv l .0 (subst (λ (x : ℕ). T (sat (g v x))) e″ t) (f .here lv) (f′ .here l);
+              iff v w lv l .0 (subst (λ (x : ℕ). T (sat (g v x))) e″ t) qv qw;
         }) in
-        subst (λ (x : ℕ). Fault es (for n row) x) (ap₂ _+_ e e′)
-        (for-stop row n v at lv
-        (for-all sat v row .1 (λ u h. row-pass u (omega arith) (λ w′ o r x y. f .before u (omega arith) h x)))
-        here
-        (omega (arith, row-length v)))
-
--- two loops as one
-quotient : (n c j : ℕ) → j < c → (n * c + j) / c ≡ n
-quotient n c j l = mul-add-div-right (omega arith) n j ∙ ap (λ (x : ℕ). n + x) (div-eq-of-lt l) ∙ add-zero n
-
-remainder : (n c j : ℕ) → j < c → (n * c + j) % c ≡ j
-remainder n c j l = mul-add-mod-self-right n c j ∙ mod-eq-of-lt l
-
-pub flat-same : {A : Type 0} (n c : ℕ) (f : ℕ → ℕ → List A) → (for n λ i. for c λ j. f i j) ≡ flat n c f
-flat-same zero c f = sym (ap (λ (x : ℕ). for x λ i. f (i / c) (i % c)) (zero-mul c))
-flat-same (suc n) c f =
-    ap₂ _++_ (flat-same n c f) (for-ext c _ _ (λ j l. ap₂ f (sym (quotient n c j l)) (sym (remainder n c j l))))
-    ∙ sym (for-split (n * c) c (λ i. f (i / c) (i % c)))
-    ∙ ap (λ (x : ℕ). for x λ i. f (i / c) (i % c)) (sym (suc-mul n c))
-
--- where item i stands
-pub cell-at : (n c i : ℕ) → 0 < c → i < n * c → (i / c < n) × (i % c < c)
-cell-at n c i p h = (div-lt-iff-lt-mul p .1 h, mod-lt i p)
-
--- a search from `low` on: it has passed the numbers below v
-module _ (test : ℕ → Bool) (low n v : ℕ) (b : (i : ℕ) → low ≤ i → i < v → T (test i) → ⊥) where
-  pub found-more : (T (test v) → ⊥) → (i : ℕ) → low ≤ i → i < v + 1 → T (test i) → ⊥
-  found-more f i h l t =
-      by-cases (decLt i v) (λ r. b i h r t) (λ g. let e : i ≡ v = omega arith in f (subst (λ (j : ℕ). T (test j)) e t))
-
-  pub found-at : low ≤ v → v < n → T (test v) → Found test low n v
-  found-at h l t = record { least = h; within = omega arith; before = b; here = λ r. t }
-
-  pub found-none : low ≤ v → v ≡ n → Found test low n n
-  found-none h e =
-      record { least = omega arith; within = le-refl n; before = λ i r l. b i r (omega arith); here = λ r. absurd (let f : ⊥ = omega arith in f) }
-
--- three lists, then four, of known lengths
-module _ (es : List ℤ) (K L M : List Clause) (k l : ℕ) (ek : length K ≡ k) (el : length L ≡ l) where
-  pub first-3 : (r : ℕ) → Fault es K r → r < k → Fault es (K ++ L ++ M) r
-  first-3 r f h =
-      fault-left es (K ++ L) M r (fault-left es K L r f (omega arith)) (omega (arith, length-append K L))
-
-  pub second-3 : (r : ℕ) → T (all (satisfied? es) K) → Fault es L r → r < l → Fault es (K ++ L ++ M) (k + r)
-  second-3 r t f h =
-      subst (λ (x : ℕ). Fault es (K ++ L ++ M) (x + r)) ek
-      (fault-left es (K ++ L) M (length K + r) (fault-right es K L r t f) (omega (arith, length-append K L)))
-
-  pub third-3 : (r : ℕ) → T (all (satisfied? es) K) → T (all (satisfied? es) L) → Fault es M r → Fault es (K ++ L ++ M) (k + l + r)
-  third-3 r t u f =
-      let e : length (K ++ L) ≡ k + l = omega (arith, length-append K L) in
-      subst (λ (x : ℕ). Fault es (K ++ L ++ M) (x + r)) e
-      (fault-right es (K ++ L) M r (all-append (satisfied? es) K L .1 (t, u)) f)
+        subst (λ (x : ℕ). Fault es (for n row) x × (x < length (for n row))) (ap₂ _+_ e e′) (
+          for-stop row n v at lv
+              (for-all sat v row .1 (λ u h. row-pass u (omega arith) (λ w′ o′ r x y. let z = only u (omega arith) x in omega arith)))
+              here
+              (omega (arith, row-length v)),
+          omega (arith, for-room row lv, row-length v),
+        )

@@ -1,4 +1,6 @@
-pub mod Bounds
 pub mod Laws
+pub mod Entries
+pub mod Bounds
 pub mod Truth
-pub mod Whole
+pub mod Steps
+pub mod Families

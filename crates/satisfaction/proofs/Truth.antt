@@ -1,58 +1,61 @@
--- The clauses of each family under a valuation: when one has a true literal, and where the first without one stands.
-use mathlib.Core.Path.{_≡_, refl, sym, _∙_, ap, ap₂, subst}
-use mathlib.Core.Logic.{_↔_, _≢_, _⊎_, inl, inr, ⊎-elim, by-cases, Iff·trans, Iff·symm}
-use mathlib.Core.List.{List, [], _∷_, _++_}
-use mathlib.Core.Bool.{Bool, true, false, not}
-use Prim.Native.Nat.{ℕ, suc, _+_, _*_, _-_, _/_, _%_, _≤_, _<_}
-use native.Mathlib.Nat.{mul-one, le-refl}
+-- The clauses of each family under a valuation: where the first without a true literal stands in a row.
+use mathlib.Core.Path.{_≡_, refl, sym, _∙_, ap, subst}
+use mathlib.Core.Logic.{_↔_, _≢_, by-cases}
+use mathlib.Core.List.{List, [], _∷_}
+use mathlib.Core.Bool.{Bool, not, _||_}
+use Prim.Native.Nat.{ℕ, suc, _+_, _*_, _-_, _/_, _≤_, _<_}
+use native.Mathlib.Nat.{mul-one, le-refl, suc-mul, mul-le-mul-right}
 use native.Mathlib.Decide.{decLt, ℕ-discrete}
-use native.Mathlib.Numerals.{add-one}
 use native.Mathlib.Omega.{arith}
-use borrow.Author.Tests.{eq-eqb, ne-eqb}
-use lib.ListN.{length, getD, length-append}
-use lib.Dec.{T, eqb, ltb}
-use lib.IntN.{ℤ, pos}
-use Rattle.lists.specs.Loop.{for, when, all, any}
-use Rattle.lists.proofs.Tests.{or-imp}
-use Rattle.lists.proofs.Loops.{for-all, one-all, all-append, for-any, when-any, any-one, any-two}
-use Rattle.lists.proofs.Blocks.{for1-length}
+use borrow.Author.Tests.{ne-eqb}
+use lib.ListN.{length, getD}
+use lib.Dec.{T, eqb}
+use lib.IntN.{ℤ}
+use Rattle.lists.specs.Loop.{for, when, all, every}
+use Rattle.lists.proofs.Tests.{or-imp, not-iff, eqb-iff}
+use Rattle.lists.proofs.Loops.{for-all, one-all, when-all, for-any, when-any, any-one, any-two, for-length, for-ext}
+use Rattle.lists.proofs.Blocks.{for1-length, place-lt}
+use Rattle.lists.proofs.Slices.{for-room}
 use Rattle.lists.proofs.Sums.{above-length, others-length}
 use Rattle.answers.specs.Fault.{FirstFault}
 use Rattle.instance.specs.declared.Sizes.{Sizes}
-use Rattle.formula.specs.Variables.{Literal, X, ¬X, index}
-use Rattle.formula.specs.Formula.{Clause}
-use Rattle.valuation.specs.Valuation.{sameNumber, true?, satisfied?, named}
+use Rattle.formula.specs.Variables.{Literal, X, ¬X, index, variableCount}
+use Rattle.formula.specs.Formula.{Clause, somewhere, groupG}
+use Rattle.formula.specs.Blocks.{Given, cells, groups, group, block}
+use Rattle.plan.specs.Plan.{place}
+use Rattle.valuation.specs.Valuation.{true?, satisfied?}
 use Rattle.valuation.specs.Satisfying.{Valuation}
 use Rattle.valuation.specs.Places.{Places}
-use Rattle.valuation.proofs.Entries.{sameNumber-iff, true-yes, true-no}
-use Rattle.satisfaction.specs.Blocks.{Fault, Found, units, anyVertex, someVertex, vertexPairs, agentPairs, follows, others, crossings}
-use Rattle.satisfaction.proofs.Laws.{fault-all, for-stop, singles, pairs-none, pairs-one, pairs-two}
+use Rattle.valuation.proofs.Entries.{true-no}
+use Rattle.satisfaction.specs.Rows.{Fault, Stop, says, denies, Seen, Read, Lowest, only, row}
+use Rattle.satisfaction.proofs.Entries.{right-says, skip-le, read-true, right-at, denied-or-true, cells-count}
+use Rattle.satisfaction.proofs.Steps.{keeps-or, Enters}
+use Rattle.satisfaction.proofs.Laws.{blocks-stop, blocks-pass, fault-all, for-stop, singles, pairs-pass, pairs-two}
 
-bool-same : (a b : Bool) → T a ↔ T b → a ≡ b
-bool-same true true h = refl
-bool-same true false h = absurd (h .0 tt)
-bool-same false true h = absurd (h .1 tt)
-bool-same false false h = refl
+-- agent a does not go where agent b stood
+abbrev follows : Sizes → ℕ → ℕ → ℕ → List Clause
+follows s t a b = for (s .n) λ v. (¬X s t b v ∷ ¬X s (suc t) a v ∷ []) ∷ []
 
 -- the lengths of the blocks
-module _ (s : Sizes) where
-  open Sizes s using (n, k, m)
+module _ (g : Given) where
+  open Given g using (sizes)
+  open Sizes sizes using (n, k, m)
 
-  pub length-D : (t a : ℕ) → length (vertexPairs s t a) ≡ n * (n - 1) / 2
-  unfolding vertexPairs
-  length-D t a = above-length n 1 (λ v w. (¬X s t a v ∷ ¬X s t a w ∷ []) ∷ []) (λ v w. refl) ∙ mul-one _
+  pub length-D : (t a : ℕ) → length (block g 3 t a) ≡ n * (n - 1) / 2
+  unfolding block group groups
+  length-D t a = above-length n 1 (λ v w. (¬X sizes t a v ∷ ¬X sizes t a w ∷ []) ∷ []) (λ v w. refl) ∙ mul-one _
 
-  pub length-E : (t v : ℕ) → length (agentPairs s t v) ≡ k * (k - 1) / 2
-  unfolding agentPairs
-  length-E t v = above-length k 1 (λ a b. (¬X s t a v ∷ ¬X s t b v ∷ []) ∷ []) (λ a b. refl) ∙ mul-one _
+  pub length-E : (t v : ℕ) → length (block g 4 t v) ≡ k * (k - 1) / 2
+  unfolding block group groups
+  length-E t v = above-length k 1 (λ a b. (¬X sizes t a v ∷ ¬X sizes t b v ∷ []) ∷ []) (λ a b. refl) ∙ mul-one _
 
-  pub length-F : (near : ℕ → ℕ → Bool) (t a : ℕ) → length (crossings s near t a) ≡ n
-  unfolding crossings
-  length-F near t a = for1-length n _
+  pub length-F : (t a : ℕ) → length (block g 5 t a) ≡ n
+  unfolding block group groups
+  length-F t a = for1-length n _
 
-  pub length-G : (t a : ℕ) → a < k → length (others s t a) ≡ (k - 1) * n
-  unfolding others follows
-  length-G t a l = others-length k n a l _ (λ b h. for1-length n _)
+  pub length-G : (t a : ℕ) → a < k → length (block g 6 t a) ≡ (k - 1) * n
+  unfolding block group groups
+  length-G t a l = others-length k n a l (follows sizes t a) (λ b h. for1-length n _)
 
 module _ (s : Sizes) (es : List ℤ) (w : Valuation s es) where
   open Sizes s using (n, k, m)
@@ -62,18 +65,6 @@ module _ (s : Sizes) (es : List ℤ) (w : Valuation s es) where
 
   abbrev sat : Clause → Bool
   sat = satisfied? es
-
-  -- one entry tells
-  pub read-true : (t a v : ℕ) → t < suc m → a < k → v < n
-      → sameNumber (getD es (index s t a v) (pos 0)) (pos (suc (index s t a v))) ≡ q t a v
-  read-true t a v x y z =
-      bool-same _ _ (Iff·trans (sameNumber-iff (getD es (index s t a v) (pos 0)) (pos (suc (index s t a v)))) (Iff·symm (true-yes s es w t a v x y z)))
-
-  pub read-at : (t a v x : ℕ) → t < suc m → a < k → v < n → x ≡ suc (index s t a v)
-      → sameNumber (getD es (x - 1) (pos 0)) (pos x) ≡ q t a v
-  read-at t a v x h l r e =
-      let e′ : x - 1 ≡ index s t a v = omega arith in
-      ap₂ (λ (i j : ℕ). sameNumber (getD es i (pos 0)) (pos j)) e′ e ∙ read-true t a v h l r
 
   -- a clause of two negations
   pub not-both : (t a v t′ a′ v′ : ℕ) → t < suc m → a < k → v < n → t′ < suc m → a′ < k → v′ < n
@@ -85,195 +76,329 @@ module _ (s : Sizes) (es : List ℤ) (w : Valuation s es) where
         (λ h. any-two (true? es) (¬X s t a v) (¬X s t′ a′ v′) .1 (λ o. two .1 (λ g. o (one .1 (λ f. h f g))))),
       )
 
-  -- C
-  pub some-yes : (t a r : ℕ) → Found (q t a) 0 n r → r < n → T (sat (anyVertex s t a))
-  unfolding anyVertex
-  some-yes t a r f l = for-any (true? es) n _ .1 (r, l, any-one (true? es) _ .1 (f .here l))
+  -- ---- C and D, by what the pass has seen
+  module _ (p : List ℕ) (rd : Read s es p) (t : ℕ) (x : t < suc m) where
+    abbrev seen : (a : ℕ) → a < k → Seen n (q t a) (place s p t a)
+    seen a y = rd .cells t a x y
 
-  pub some-no : (t a : ℕ) → Found (q t a) 0 n n → T (sat (anyVertex s t a)) → ⊥
-  unfolding anyVertex
-  some-no t a f h = let (v, l, o) = for-any (true? es) n _ .0 h in f .before v (omega arith) l (any-one (true? es) _ .0 o)
+    pub in-C : (z r : ℕ) → z ≡ n → FirstFault k (λ a. not (eqb (getD p (t * k + a) 0) z)) r → Fault es (row (only s) 2 t) r
+    unfolding row block group cells groups
+    in-C z r e f =
+        singles es k (somewhere s t) r
+        record {
+          within = f .within;
+          before = λ a l.
+              let y : a < k = omega (arith, f .within) in
+              let d : place s p t a ≢ n = λ o. simp (not-iff, eqb-iff) at (f .before a l) (o ∙ sym e) in
+              let (v, l′, o) = some-vertex a y d in
+              for-any (true? es) n _ .1 (v, l′, any-one (true? es) _ .1 o);
+          here = λ l h.
+              let (v, l′, o) = for-any (true? es) n _ .0 h in
+              f .here l (simp (not-iff, eqb-iff) (λ i. seen r l .none (i ∙ e) v l′ (any-one (true? es) _ .0 o)));
+        }
+      where
+        some-vertex : (a : ℕ) → (y : a < k) → place s p t a ≢ n → (v : ℕ) × (v < n) × T (q t a v)
+        some-vertex a y d =
+            by-cases (decLt (place s p t a) n)
+            (λ l. (place s p t a, l, seen a y .one l (place s p t a) l .1 refl))
+            (λ g.
+            let m = seen a y .most in
+            let (v, u, o, l, h, i) = seen a y .several (omega arith) in
+            (v, omega arith, h))
 
-  -- D
-  module _ (t a : ℕ) (x : t < suc m) (y : a < k) where
-    abbrev iffD : (v u : ℕ) → v < n → u < n → T (sat (¬X s t a v ∷ ¬X s t a u ∷ [])) ↔ (T (q t a v) → T (q t a u) → ⊥)
-    iffD v u l r = not-both t a v t a u x y l x y r
+    abbrev iffD : (a : ℕ) → a < k → (v u : ℕ) → v < n → u < n → T (sat (¬X s t a v ∷ ¬X s t a u ∷ [])) ↔ (T (q t a v) → T (q t a u) → ⊥)
+    iffD a y v u l r = not-both t a v t a u x y l x y r
 
-    pub none-D : Found (q t a) 0 n n → Fault es (vertexPairs s t a) (n * (n - 1) / 2)
-    unfolding vertexPairs
-    none-D f =
-        subst (Fault es (vertexPairs s t a)) (length-D s t a)
-        (fault-all es (vertexPairs s t a) (pairs-none es n (λ v u. ¬X s t a v ∷ ¬X s t a u ∷ []) (q t a) iffD f))
+    pass-D : (a : ℕ) → a < k → place s p t a ≢ suc n → T (all sat (block (only s) 3 t a))
+    unfolding block group groups
+    pass-D a y d =
+        pairs-pass es n (λ v u. ¬X s t a v ∷ ¬X s t a u ∷ []) (q t a) (iffD a y) (λ v u o l h i.
+        let c = seen a y in
+        by-cases (decLt (place s p t a) n)
+        (λ r. let e = c .one r v (omega arith) .0 h in let e′ = c .one r u l .0 i in omega arith)
+        (λ g. let m = c .most in c .none (omega arith) u l i))
 
-    pub one-D : (v : ℕ) → Found (q t a) 0 n v → Found (q t a) (v + 1) n n → Fault es (vertexPairs s t a) (n * (n - 1) / 2)
-    unfolding vertexPairs
-    one-D v f f′ =
-        subst (Fault es (vertexPairs s t a)) (length-D s t a)
-        (fault-all es (vertexPairs s t a) (pairs-one es n (λ v u. ¬X s t a v ∷ ¬X s t a u ∷ []) (q t a) iffD v f f′))
+    passed-D : (a : ℕ) → a ≤ k → ((b : ℕ) → b < a → place s p t b ≢ suc n) → T (all sat (for a (block (only s) 3 t)))
+    passed-D a l h = for-all sat a (block (only s) 3 t) .1 (λ b o. pass-D b (omega arith) (h b o))
 
-    pub two-D : (v u : ℕ) → Found (q t a) 0 n v → Found (q t a) (v + 1) n u → u < n
-        → Fault es (vertexPairs s t a) (v * (2 * n - v - 1) / 2 + (u - v - 1))
-    unfolding vertexPairs
-    two-D v u f f′ l = pairs-two es n (λ v u. ¬X s t a v ∷ ¬X s t a u ∷ []) (q t a) iffD v u f f′ l
+    end-D : {a : ℕ} → a < k → (t * k + a) * n + n ≤ variableCount s
+    end-D {a} l = omega (arith, place-lt (suc m) k t a x l, cells-count s, suc-mul (t * k + a) n, mul-le-mul-right n (place-lt (suc m) k t a x l))
 
-  -- E
-  module _ (t v : ℕ) (x : t < suc m) (z : v < n) where
-    abbrev qE : ℕ → Bool
-    qE a = q t a v
+    module _ (z a : ℕ) (e : z ≡ suc n) (f : FirstFault k (λ b. not (eqb (getD p (t * k + b) 0) z)) a) where
+      below-D : (b : ℕ) → b < a → place s p t b ≢ suc n
+      below-D b l o = simp (not-iff, eqb-iff) at (f .before b l) (o ∙ sym e)
 
-    abbrev iffE : (a b : ℕ) → a < k → b < k → T (sat (¬X s t a v ∷ ¬X s t b v ∷ [])) ↔ (T (qE a) → T (qE b) → ⊥)
-    iffE a b l r = not-both t a v t b v x l z x r z
+      pub none-D : a ≡ k → Fault es (row (only s) 3 t) (k * (n * (n - 1) / 2))
+      unfolding row cells
+      none-D o =
+          blocks-pass es (block (only s) 3 t) (n * (n - 1) / 2) k (length-D (only s) t) (passed-D k (le-refl k) (λ b l. below-D b (omega arith)))
 
-    pub none-E : Found qE 0 k k → Fault es (agentPairs s t v) (k * (k - 1) / 2)
-    unfolding agentPairs
-    none-E f =
-        subst (Fault es (agentPairs s t v)) (length-E s t v)
-        (fault-all es (agentPairs s t v) (pairs-none es k (λ a b. ¬X s t a v ∷ ¬X s t b v ∷ []) qE iffE f))
+      abbrev b : ℕ
+      b = (t * k + a) * n
 
-    pub one-E : (a : ℕ) → Found qE 0 k a → Found qE (a + 1) k k → Fault es (agentPairs s t v) (k * (k - 1) / 2)
-    unfolding agentPairs
-    one-E a f f′ =
-        subst (Fault es (agentPairs s t v)) (length-E s t v)
-        (fault-all es (agentPairs s t v) (pairs-one es k (λ a b. ¬X s t a v ∷ ¬X s t b v ∷ []) qE iffE a f f′))
+      -- the first two that are not denied: v and u are entries of the row, and no other before u says its variable
+      module _ (d : a ≢ k) (v u : ℕ) (g : Stop (denies es) ((t * k + a) * n) ((t * k + a) * n + n) v) where
+        agent-D : a < k
+        agent-D = omega (arith, f .within)
 
-    pub two-E : (a b : ℕ) → Found qE 0 k a → Found qE (a + 1) k b → b < k
-        → Fault es (agentPairs s t v) (a * (2 * k - a - 1) / 2 + (b - a - 1))
-    unfolding agentPairs
-    two-E a b f f′ l = pairs-two es k (λ a b. ¬X s t a v ∷ ¬X s t b v ∷ []) qE iffE a b f f′ l
+        says-q : (y : ℕ) → y < n → T (q t a y) → T (says es (b + y))
+        unfolding index
+        says-q y lt z = subst T (sym (read-true s es w t a y x agent-D lt)) z
 
-  -- one vertex for each agent and time
-  module _ (P : ℕ → ℕ → ℕ) (c : Places s (true? es) P) where
-    pub found-place : (t a r : ℕ) → t < suc m → a < k → Found (q t a) 0 n r → (r ≡ P t a) × (r < n)
-    found-place t a r x y f =
-        let i = c .inside t a x y in
-        let l : r < n =
-        by-cases (decLt r n) (λ l. l)
-        (λ g. absurd (f .before (P t a) (omega arith) (omega (arith, f .within)) (c .here t a (P t a) x y i .1 refl))) in
-        (c .here t a r x y l .0 (f .here l), l)
+        two-D : (v′ u′ : ℕ) × (v′ < u′) × (u′ < n) × T (q t a v′) × T (q t a u′)
+        two-D =
+            seen a agent-D .several (by-cases (ℕ-discrete (place s p t a) (suc n)) (λ o. o) (λ o. absurd (f .here agent-D (simp (not-iff, eqb-iff) (λ i. o (i ∙ e))))))
 
-    -- F: only the clause of the agent's vertex can be without a true literal
-    module _ (near : ℕ → ℕ → Bool) (t a : ℕ) (x : t < m) (y : a < k) where
-      abbrev clauseF : ℕ → Clause
-      clauseF v = ¬X s t a v ∷ X s (suc t) a v ∷ (for n λ u. when (near v u) (X s (suc t) a u ∷ []))
+        pub first-D : v < (t * k + a) * n + n
+        first-D = let (v′, u′, r, r′, i, j) = two-D in omega (arith, skip-le es b (b + n) v (b + v′) g (omega arith) (says-q v′ (omega arith) i))
 
-      elsewhere-F : (v : ℕ) → v < n → v ≢ P t a → T (sat (clauseF v))
-      elsewhere-F v l d =
-          or-imp (true? es (¬X s t a v)) _ .1 (λ f. absurd (f (c .elsewhere t a v (omega arith) y l .1 d)))
+        pub second-D : Stop (denies es) (v + 1) ((t * k + a) * n + n) u → u < (t * k + a) * n + n
+        second-D h =
+            let (v′, u′, r, r′, i, j) = two-D in
+            let hv = skip-le es b (b + n) v (b + v′) g (omega arith) (says-q v′ (omega arith) i) in
+            omega (arith, skip-le es (v + 1) (b + n) u (b + u′) h (omega arith) (says-q u′ r′ j))
 
-      stays-F : (v : ℕ) → v < n → v ≡ P (suc t) a → T (sat (clauseF v))
-      stays-F v l e =
-          or-imp (true? es (¬X s t a v)) _ .1 (λ f. or-imp (true? es (X s (suc t) a v)) _ .1 (λ g. absurd (g (c .here (suc t) a v (omega arith) y l .1 e))))
+        pub here-D : Stop (denies es) (v + 1) ((t * k + a) * n + n) u
+            → Fault es (row (only s) 3 t) (a * (n * (n - 1) / 2) + ((v - (t * k + a) * n) * (2 * n - (v - (t * k + a) * n) - 1) / 2 + (u - v - 1)))
+        unfolding row block group cells groups index
+        here-D h =
+            let l = agent-D in
+            let lv = first-D in
+            let lu = second-D h in
+            let gl = g .least in
+            let hl = h .least in
+            let ev : b + (v - b) ≡ v = omega arith in
+            let eu : b + (u - b) ≡ u = omega arith in
+            let e′ : u - b - (v - b) - 1 ≡ u - v - 1 = omega arith in
+            let qv : T (q t a (v - b)) =
+            subst T (read-true s es w t a (v - b) x l (omega arith)) (rw ev (right-says es v (right-at s es w v (omega (arith, end-D l))) (g .here (omega arith)))) in
+            let qu : T (q t a (u - b)) =
+            subst T (read-true s es w t a (u - b) x l (omega arith)) (rw eu (right-says es u (right-at s es w u (omega (arith, end-D l))) (h .here (omega arith)))) in
+            let two = pairs-two es n (λ v u. ¬X s t a v ∷ ¬X s t a u ∷ []) (q t a) (iffD a l) (v - b) (u - b) (omega arith) (omega arith) qv qu
+            (λ y lt z.
+            let c = says-q y (omega arith) z in
+            let k₁ = skip-le es b (b + n) v (b + y) g (omega arith) c in
+            by-cases (decLt v (b + y)) (λ lt′. let k₂ = skip-le es (v + 1) (b + n) u (b + y) h (omega arith) c in absurd (let z : ⊥ = omega arith in z)) (λ lt′. omega arith)) in
+            let at : ℕ = (v - b) * (2 * n - (v - b) - 1) / 2 in
+            blocks-stop es (block (only s) 3 t) (n * (n - 1) / 2) k a (at + (u - v - 1)) (length-D (only s) t) l (passed-D a (omega arith) below-D)
+            (subst (λ (y : ℕ). Fault es (block (only s) 3 t a) (at + y)) e′ (two .0))
+            (omega (arith, two .1, length-D (only s) t a, e′))
 
-      crosses-F : (v : ℕ) → v < n → T (near v (P (suc t) a)) → T (sat (clauseF v))
-      crosses-F v l o =
-          let i = c .inside (suc t) a (omega arith) y in
-          or-imp (true? es (¬X s t a v)) _ .1 (λ f. or-imp (true? es (X s (suc t) a v)) _ .1 (λ g.
-          for-any (true? es) n _ .1 (P (suc t) a, i, when-any (true? es) (near v (P (suc t) a)) _ .1 (o, any-one (true? es) _ .1 (c .here (suc t) a (P (suc t) a) (omega arith) y i .1 refl)))))
+-- ---- E, F and G, by the places
+module _ (s : Sizes) (es : List ℤ) (w : Valuation s es) (P : ℕ → ℕ → ℕ) (c : Places s (true? es) P) where
+  open Sizes s using (n, k, m)
 
-      jumps-F : P t a ≢ P (suc t) a → (T (near (P t a) (P (suc t) a)) → ⊥) → T (sat (clauseF (P t a))) → ⊥
-      jumps-F d o h =
-          let i = c .inside t a (omega arith) y in
-          let r = or-imp (true? es (X s (suc t) a (P t a))) _ .0
-          (or-imp (true? es (¬X s t a (P t a))) _ .0 h (λ f. c .elsewhere t a (P t a) (omega arith) y i .0 f refl))
-          (λ f. d (c .here (suc t) a (P t a) (omega arith) y i .0 f)) in
-          let (u, l, z) = for-any (true? es) n _ .0 r in
-          let (p, z′) = when-any (true? es) (near (P t a) u) _ .0 z in
-          o (subst (λ (b : ℕ). T (near (P t a) b)) (c .here (suc t) a u (omega arith) y l .0 (any-one (true? es) _ .0 z′)) p)
+  abbrev qP : ℕ → ℕ → ℕ → Bool
+  qP t a v = true? es (X s t a v)
 
-      pub none-F : (P t a ≢ P (suc t) a → T (near (P t a) (P (suc t) a))) → Fault es (crossings s near t a) n
-      unfolding crossings
-      none-F h =
-          singles es n clauseF n
-          record {
-            within = le-refl n;
-            before = λ v l.
-                by-cases (ℕ-discrete v (P t a))
-                (λ e.
-                by-cases (ℕ-discrete v (P (suc t) a))
-                (λ e′. stays-F v l e′)
-                (λ d. crosses-F v l (subst (λ (b : ℕ). T (near b (P (suc t) a))) (sym e) (h (λ e′. d (e ∙ e′))))))
-                (λ d. elsewhere-F v l d);
-            here = λ l. absurd (let f : ⊥ = omega arith in f);
-          }
+  abbrev satP : Clause → Bool
+  satP = satisfied? es
 
-      pub here-F : P t a ≢ P (suc t) a → (T (near (P t a) (P (suc t) a)) → ⊥) → Fault es (crossings s near t a) (P t a)
-      unfolding crossings
-      here-F d o =
-          let i = c .inside t a (omega arith) y in
-          singles es n clauseF (P t a)
-          record {
-            within = omega arith;
-            before = λ v l. elsewhere-F v (omega arith) (λ e. omega arith);
-            here = λ l. jumps-F d o;
-          }
+  module _ (t : ℕ) (x : t < suc m) where
+    abbrev iffE : (v : ℕ) → v < n → (a b : ℕ) → a < k → b < k → T (satP (¬X s t a v ∷ ¬X s t b v ∷ [])) ↔ (T (qP t a v) → T (qP t b v) → ⊥)
+    iffE v z a b l r = not-both s es w t a v t b v x l z x r z
 
-    -- G: of another agent b, only the clause of a's next vertex can be without a true literal
-    module _ (t a b : ℕ) (x : t < m) (y : a < k) (y′ : b < k) where
-      iffG : (v : ℕ) → v < n → T (sat (¬X s t b v ∷ ¬X s (suc t) a v ∷ [])) ↔ (T (q t b v) → T (q (suc t) a v) → ⊥)
-      iffG v l = not-both t b v (suc t) a v (omega arith) y′ l (omega arith) y l
+    -- no two are at v
+    pass-E : (v : ℕ) → v < n → ((a b : ℕ) → a < b → b < k → P t a ≡ v → P t b ≡ v → ⊥) → T (all satP (block (only s) 4 t v))
+    unfolding block group groups
+    pass-E v z h =
+        pairs-pass es k (λ a b. ¬X s t a v ∷ ¬X s t b v ∷ []) (λ a. qP t a v) (iffE v z) (λ a b o l f g.
+        h a b o l (sym (c .here t a v x (omega arith) z .0 f)) (sym (c .here t b v x l z .0 g)))
 
-      pub none-G : (T (q t b (P (suc t) a)) → ⊥) → T (all sat (follows s t a b))
-      unfolding follows
-      none-G h =
-          for-all sat n _ .1 (λ v l. one-all sat (¬X s t b v ∷ ¬X s (suc t) a v ∷ []) .1 (iffG v l .1 (λ f g.
-          h (subst (λ (u : ℕ). T (q t b u)) (c .here (suc t) a v (omega arith) y l .0 g) f))))
+    module _ (v : ℕ) (f : Lowest k (P t) n v) where
+      below-E : (y : ℕ) → y < v → T (all satP (block (only s) 4 t y))
+      below-E y l = pass-E y (omega (arith, f .within)) (λ a b o l′ e e′. let h = f .before a b o l′ (e ∙ sym e′) in omega arith)
 
-      pub here-G : T (q t b (P (suc t) a)) → Fault es (follows s t a b) (P (suc t) a)
-      unfolding follows
-      here-G h =
-          let i = c .inside (suc t) a (omega arith) y in
-          singles es n (λ v. ¬X s t b v ∷ ¬X s (suc t) a v ∷ []) (P (suc t) a)
-          record {
-            within = omega arith;
-            before = λ v l. iffG v (omega arith) .1 (λ f g. let e = c .here (suc t) a v (omega arith) y (omega arith) .0 g in omega arith);
-            here = λ l o. iffG (P (suc t) a) i .0 o h (c .here (suc t) a (P (suc t) a) (omega arith) y i .1 refl);
-          }
+      pub none-E : v ≡ n → Fault es (row (only s) 4 t) (n * (k * (k - 1) / 2))
+      unfolding row cells
+      none-E e =
+          blocks-pass es (block (only s) 4 t) (k * (k - 1) / 2) n (length-E (only s) t)
+          (for-all satP n (block (only s) 4 t) .1 (λ y l. below-E y (omega arith)))
 
--- A and B
-pub units-fault : (s : Sizes) (es : List ℤ) (t : ℕ) (P : ℕ → ℕ) (r : ℕ) → FirstFault (s .k) (λ a. true? es (X s t a (P a))) r → Fault es (units s t P) r
-unfolding units
-units-fault s es t P r f =
-    singles es (s .k) (λ a. X s t a (P a) ∷ []) r
+      -- a is the first agent on v, and b counts the agents from there to the next
+      pub here-E : v ≢ n → (z a b : ℕ) → z ≡ v → FirstFault k (λ i. not (eqb (P t i) z)) a → FirstFault (k - a - 1) (λ i. not (eqb (P t (a + 1 + i)) z)) b
+          → Fault es (row (only s) 4 t) (v * (k * (k - 1) / 2) + (a * (2 * k - a - 1) / 2 + b))
+      unfolding row block group cells groups
+      here-E d z a b e g h =
+          let l : v < n = omega (arith, f .within) in
+          let (a′, b′, o, r, i, j) = f .here l in
+          let before-a : (y : ℕ) → y < a → P t y ≢ v = λ y lt q. simp (not-iff, eqb-iff) at (g .before y lt) (q ∙ sym e) in
+          let la : a ≤ a′ = by-cases (decLt a′ a) (λ lt. absurd (before-a a′ lt i)) (λ lt. omega arith) in
+          let before-b : (y : ℕ) → a < y → y < a + 1 + b → P t y ≢ v =
+          λ y lt lt′ q.
+          let q′ : P t (a + 1 + (y - a - 1)) ≡ z = (let q″ : a + 1 + (y - a - 1) ≡ y = omega arith in rw q″ (q ∙ sym e)) in
+          simp (not-iff, eqb-iff) at (h .before (y - a - 1) (omega arith)) q′ in
+          let lb : a + 1 + b ≤ b′ = by-cases (decLt b′ (a + 1 + b)) (λ lt. absurd (before-b b′ (omega arith) lt j)) (λ lt. omega arith) in
+          let stands : (y : ℕ) → (T (not (eqb (P t y) z)) → ⊥) → v ≡ P t y =
+          λ y q. by-cases (ℕ-discrete (P t y) v) (λ p. sym p) (λ p. absurd (q (simp (not-iff, eqb-iff) (λ p′. p (p′ ∙ e))))) in
+          let two = pairs-two es k (λ a b. ¬X s t a v ∷ ¬X s t b v ∷ []) (λ a. qP t a v) (iffE v l) a (a + 1 + b) (omega arith) (omega arith)
+          (c .here t a v x (omega arith) l .1 (stands a (g .here (omega arith))))
+          (c .here t (a + 1 + b) v x (omega arith) l .1 (stands (a + 1 + b) (h .here (omega arith))))
+          (λ y lt q.
+          let q′ = sym (c .here t y v x (omega arith) l .0 q) in
+          by-cases (decLt y a) (λ p. absurd (before-a y p q′)) (λ p. by-cases (decLt a y) (λ p′. absurd (before-b y p′ lt q′)) (λ p′. omega arith))) in
+          let e′ : a + 1 + b - a - 1 ≡ b = omega arith in
+          blocks-stop es (block (only s) 4 t) (k * (k - 1) / 2) n v (a * (2 * k - a - 1) / 2 + b) (length-E (only s) t) l
+          (for-all satP v (block (only s) 4 t) .1 below-E)
+          (subst (λ (y : ℕ). Fault es (block (only s) 4 t v) (a * (2 * k - a - 1) / 2 + y)) e′ (two .0))
+          (omega (arith, two .1, length-E (only s) t v, e′))
+
+  module _ (near : ℕ → ℕ → Bool) (t : ℕ) (x : t < m) where
+    abbrev g : Given
+    g = record { sizes = s; start = λ a. 0; goal = λ a. 0; near = near }
+
+    abbrev clauseF : ℕ → ℕ → Clause
+    clauseF a v = ¬X s t a v ∷ X s (suc t) a v ∷ (for n λ u. when (near v u) (X s (suc t) a u ∷ []))
+
+    iffF : (a v : ℕ) → a < k → v < n → T (satP (clauseF a v)) ↔ (v ≡ P t a → v ≢ P (suc t) a → T (near v (P (suc t) a)))
+    iffF a v y l =
+        let x′ : suc t < suc m = omega arith in
+        let i = c .inside (suc t) a x′ y in
+        simp (any-one, or-imp, for-any, when-any) (
+          (λ h e d.
+              let (u, r, o) = h (λ f. c .elsewhere t a v (omega arith) y l .0 f e) (λ f. d (c .here (suc t) a v x′ y l .0 f)) in
+              subst (λ (b : ℕ). T (near v b)) (c .here (suc t) a u x′ y r .0 (o .1)) (o .0)),
+          (λ h f g. (
+            P (suc t) a,
+            i,
+            (
+              h (by-cases (ℕ-discrete v (P t a)) (λ e. e) (λ d. absurd (f (c .elsewhere t a v (omega arith) y l .1 d)))) (λ e. g (c .here (suc t) a v x′ y l .1 e)),
+              c .here (suc t) a (P (suc t) a) x′ y i .1 refl,
+            ),
+          )),
+        )
+
+    pass-F : (a : ℕ) → a < k → (P t a ≢ P (suc t) a → T (near (P t a) (P (suc t) a))) → T (all satP (block g 5 t a))
+    unfolding block group groups
+    pass-F a y h = for-all satP n _ .1 (λ v l. one-all satP (clauseF a v) .1 (iffF a v y l .1 (λ e d. rw e (h (λ e′. d (e ∙ e′))))))
+
+    here-F : (a : ℕ) → a < k → P t a ≢ P (suc t) a → (T (near (P t a) (P (suc t) a)) → ⊥) → Fault es (block g 5 t a) (P t a)
+    unfolding block group groups
+    here-F a y d o =
+        let i = c .inside t a (omega arith) y in
+        singles es n (clauseF a) (P t a)
+        record {
+          within = omega arith;
+          before = λ v l. iffF a v y (omega arith) .1 (λ e. absurd (let f : ⊥ = omega arith in f));
+          here = λ l h. o (iffF a (P t a) y i .0 h refl d);
+        }
+
+    -- r is the first agent that neither keeps its vertex nor crosses an edge
+    module _ (r : ℕ) (f : FirstFault k (λ a. eqb (P t a) (P (suc t) a) || near (P t a) (P (suc t) a)) r) where
+      below-F : (a : ℕ) → a < r → T (all satP (block g 5 t a))
+      below-F a l =
+          pass-F a (omega (arith, f .within)) (λ d. or-imp (eqb (P t a) (P (suc t) a)) _ .0 (f .before a l) (λ e. d (eqb-iff _ _ .0 e)))
+
+      pub none-rowF : r ≡ k → Fault es (row g 5 t) (k * n)
+      unfolding row cells
+      none-rowF e =
+          blocks-pass es (block g 5 t) n k (length-F g t) (for-all satP k _ .1 (λ a l. below-F a (omega arith)))
+
+      pub here-rowF : r ≢ k → Fault es (row g 5 t) (r * n + P t r)
+      unfolding row cells
+      here-rowF d =
+          let l : r < k = omega (arith, f .within) in
+          let no : (T (eqb (P t r) (P (suc t) r)) → ⊥) × (T (near (P t r) (P (suc t) r)) → ⊥) =
+          ((λ e. f .here l (or-imp (eqb (P t r) (P (suc t) r)) _ .1 (λ h. absurd (h e)))), (λ o. f .here l (or-imp (eqb (P t r) (P (suc t) r)) _ .1 (λ h. o)))) in
+          blocks-stop es (block g 5 t) n k r (P t r) (length-F g t) l
+          (for-all satP r _ .1 below-F)
+          (here-F r l (λ e. no .0 (eqb-iff _ _ .1 e)) (no .1))
+          (c .inside t r (omega arith) l)
+
+  -- G, where no two agents share a vertex at time t
+  module _ (t : ℕ) (x : t < m) (apart : (a b : ℕ) → a < b → b < k → P t a ≢ P t b) where
+    abbrev other : ℕ → ℕ → List Clause
+    other = groupG s t
+
+    iffG : (a b v : ℕ) → a < k → b < k → v < n → T (satP (¬X s t b v ∷ ¬X s (suc t) a v ∷ [])) ↔ (v ≡ P t b → v ≡ P (suc t) a → ⊥)
+    iffG a b v y z l =
+        let h = not-both s es w t b v (suc t) a v (omega arith) z l (omega arith) y l in
+        let one = c .here t b v (omega arith) z l in
+        let two = c .here (suc t) a v (omega arith) y l in
+        ((λ o e e′. h .0 o (one .1 e) (two .1 e′)), (λ o. h .1 (λ f g. o (one .0 f) (two .0 g))))
+
+    pass-follows : (a b : ℕ) → a < k → b < k → P t b ≢ P (suc t) a → T (all satP (follows s t a b))
+    pass-follows a b y z d =
+        for-all satP n _ .1 (λ v l. one-all satP (¬X s t b v ∷ ¬X s (suc t) a v ∷ []) .1 (iffG a b v y z l .1 (λ e e′. d (sym e ∙ e′))))
+
+    here-follows : (a b : ℕ) → a < k → b < k → P t b ≡ P (suc t) a → Fault es (follows s t a b) (P (suc t) a)
+    here-follows a b y z e =
+        let i = c .inside (suc t) a (omega arith) y in
+        singles es n (λ v. ¬X s t b v ∷ ¬X s (suc t) a v ∷ []) (P (suc t) a)
+        record {
+          within = omega arith;
+          before = λ v l. iffG a b v y z (omega arith) .1 (λ e e′. omega arith);
+          here = λ l h. iffG a b (P (suc t) a) y z i .0 h (sym e) refl;
+        }
+
+    pass-others : (a r : ℕ) → a < k → r ≤ k → ((b : ℕ) → b < r → b ≢ a → P t b ≢ P (suc t) a) → T (all satP (for r (other a)))
+    pass-others a r y l h =
+        for-all satP r _ .1 (λ b o. when-all satP (not (eqb a b)) _ .1 (λ d. pass-follows a b y (omega arith) (h b o (λ e. not-iff (eqb a b) .0 d (eqb-iff a b .1 (sym e))))))
+
+    -- the clauses of the agents before b, among those other than a
+    below-others : (a b : ℕ) → b < a → length (for b (other a)) ≡ b * n
+    below-others a b l =
+        ap length (for-ext b (other a) (follows s t a) (λ i h. rw (ne-eqb a i (omega arith)))) ∙ for-length b n _ (λ i h. for1-length n _)
+
+    above-others : (a b : ℕ) → a < b → length (for b (other a)) ≡ (b - 1) * n
+    above-others a b l = others-length b n a l (follows s t a) (λ i h. for1-length n _)
+
+    here-others : (a b : ℕ) → a < k → b < k → b ≢ a → ((i : ℕ) → i < b → i ≢ a → P t i ≢ P (suc t) a) → P t b ≡ P (suc t) a
+        → Fault es (block (only s) 6 t a) (length (for b (other a)) + P (suc t) a) × (length (for b (other a)) + P (suc t) a < (k - 1) * n)
+    unfolding block group groups
+    here-others a b y z d h e =
+        let o : other a b ≡ follows s t a b = rw (ne-eqb a b (λ e. d (sym e))) in
+        let i = c .inside (suc t) a (omega arith) y in
+        let lo : length (other a b) ≡ n = ap length o ∙ for1-length n _ in (
+          for-stop es (other a) k b (P (suc t) a) z (pass-others a b y (omega arith) h)
+              (subst (λ (L : List Clause). Fault es L (P (suc t) a)) (sym o) (here-follows a b y z e)) (omega arith),
+          omega (arith, for-room (other a) z, above-others a k y),
+        )
+
+    -- r is the first agent that changes its vertex and goes to one on which an agent stood
+    module _ (r : ℕ) (f : FirstFault k (λ a. eqb (P t a) (P (suc t) a) || (every k λ b. not (eqb (P t b) (P (suc t) a)))) r) where
+      below-G : (a : ℕ) → a < r → T (all satP (block (only s) 6 t a))
+      unfolding block group groups
+      below-G a l =
+          let y : a < k = omega (arith, f .within) in
+          pass-others a k y (le-refl k) (λ b o d e.
+          by-cases (ℕ-discrete (P t a) (P (suc t) a))
+          (λ q. by-cases (decLt a b) (λ p. apart a b p o (q ∙ sym e)) (λ p. apart b a (omega arith) y (e ∙ sym q)))
+          (λ q. keeps-or k (P t) (P (suc t)) a .0 (f .before a l) q b o e))
+
+      pub none-rowG : r ≡ k → Fault es (row (only s) 6 t) (k * ((k - 1) * n))
+      unfolding row cells
+      none-rowG e =
+          subst (Fault es (for k (block (only s) 6 t))) (for-length k ((k - 1) * n) (block (only s) 6 t) (λ a l. length-G (only s) t a l))
+          (fault-all es (for k (block (only s) 6 t)) (for-all satP k _ .1 (λ a l. below-G a (omega arith))))
+
+      pub here-rowG : (b i : ℕ) → Enters k (P t) (P (suc t)) r b → (b < r → i ≡ b) → (r < b → i ≡ b - 1) → Fault es (row (only s) 6 t) (r * ((k - 1) * n) + (i * n + P (suc t) r))
+      unfolding row cells
+      here-rowG b i en h h′ =
+          let l = en .agent in
+          let d = en .another in
+          let e : length (for b (other r)) ≡ i * n =
+          by-cases (decLt b r) (λ o. below-others r b o ∙ ap (λ (x : ℕ). x * n) (sym (h o)))
+          (λ o. let o′ : r < b = omega arith in above-others r b o′ ∙ ap (λ (x : ℕ). x * n) (sym (h′ o′))) in
+          let (g, o) = here-others r b l (en .stander) d (λ i lt q. en .before i lt) (en .stood) in
+          subst (λ (x : ℕ). Fault es (for k (block (only s) 6 t)) (r * ((k - 1) * n) + (x + P (suc t) r))) e
+          (subst (λ (x : ℕ). Fault es (for k (block (only s) 6 t)) (x + (length (for b (other r)) + P (suc t) r))) (for-length r ((k - 1) * n) (block (only s) 6 t) (λ a o. length-G (only s) t a (omega arith)))
+          (for-stop es (block (only s) 6 t) k r (length (for b (other r)) + P (suc t) r) l (for-all satP r _ .1 below-G) g (omega (arith, length-G (only s) t r l))))
+
+-- ---- A and B, by one entry each
+pub units-fault : (s : Sizes) (es : List ℤ) → Valuation s es → (t : ℕ) (P : ℕ → ℕ) (r : ℕ) → t ≤ s .m → ((a : ℕ) → a < s .k → P a < s .n)
+    → FirstFault (s .k) (λ a. not (denies es ((t * s .k + a) * s .n + P a))) r → FirstFault (s .k) (λ a. true? es (X s t a (P a))) r
+unfolding index
+units-fault s es w t P r x y f =
+    let o : (a : ℕ) → a < s .k → _ = λ a l. denied-or-true s es w t a (P a) _ (omega arith) l (y a l) refl in
     record {
       within = f .within;
-      before = λ i l. any-one (true? es) (X s t i (P i)) .1 (f .before i l);
-      here = λ l h. f .here l (any-one (true? es) (X s t r (P r)) .0 h);
+      before = λ i l. o i (omega (arith, f .within)) .1 (not-iff (denies es ((t * s .k + i) * s .n + P i)) .0 (f .before i l));
+      here = λ l h. f .here l (not-iff (denies es ((t * s .k + r) * s .n + P r)) .1 (λ d. o r l .0 d h));
     }
 
--- G, one other agent a turn: at is the place of agent b's first clause
-module _ (s : Sizes) (es : List ℤ) (t a : ℕ) where
-  open Sizes s using (n, k)
-
-  abbrev pub other : ℕ → List Clause
-  other b = when (not (eqb a b)) (follows s t a b)
-
-  follows-length : (b : ℕ) → length (follows s t a b) ≡ n
-  unfolding follows
-  follows-length b = for1-length n _
-
-  other-is : (b : ℕ) → (b ≡ a → ⊥) → other b ≡ follows s t a b
-  other-is b d = rw (ne-eqb a b (λ e. d (sym e)))
-
-  module _ (b at : ℕ) (e : at ≡ length (for b other)) (h : T (all (satisfied? es) (for b other))) where
-    pub other-next : (b ≡ a → ⊥) → T (all (satisfied? es) (follows s t a b)) → (at + n ≡ length (for (b + 1) other)) × T (all (satisfied? es) (for (b + 1) other))
-    other-next d o =
-        let q = other-is b d in
-        rw add-one
-        (rw (length-append, q) (omega (arith, follows-length b)), all-append (satisfied? es) (for b other) (other b) .1 (h, subst (λ (L : List Clause). T (all (satisfied? es) L)) (sym q) o))
-
-    pub own-next : b ≡ a → (at ≡ length (for (b + 1) other)) × T (all (satisfied? es) (for (b + 1) other))
-    own-next d =
-        let q : other b ≡ [] = rw (eq-eqb a b (sym d)) in
-        rw add-one
-        (rw (length-append, q) (omega arith), all-append (satisfied? es) (for b other) (other b) .1 (h, subst (λ (L : List Clause). T (all (satisfied? es) L)) (sym q) tt))
-
-    pub other-stop : (b ≡ a → ⊥) → b < k → (v : ℕ) → v < n → Fault es (follows s t a b) v → Fault es (others s t a) (at + v)
-    unfolding others
-    other-stop d l v r f =
-        let q = other-is b d in
-        subst (λ (x : ℕ). Fault es (for k other) (x + v)) (sym e)
-        (for-stop es other k b v l h (subst (λ (L : List Clause). Fault es L v) (sym q) f) (omega (arith, follows-length b, ap length q)))
-
-  pub other-none : (at : ℕ) → at ≡ length (for k other) → T (all (satisfied? es) (for k other)) → Fault es (others s t a) at
-  unfolding others
-  other-none at e h = subst (Fault es (for k other)) (sym e) (fault-all es (for k other) h)
+-- as clauses of one literal
+pub units : (es : List ℤ) (k : ℕ) (x : ℕ → Literal) (r : ℕ) → FirstFault k (λ a. true? es (x a)) r → Fault es (for k λ a. (x a ∷ []) ∷ []) r
+units es k x r f =
+    singles es k (λ a. x a ∷ []) r
+    record { within = f .within; before = λ i l. any-one (true? es) (x i) .1 (f .before i l); here = λ l h. f .here l (any-one (true? es) (x r) .0 h) }

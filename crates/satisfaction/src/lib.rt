@@ -1,359 +1,402 @@
-// Question 24: the first clause without a true literal. The clauses are those of the definitions; none is written out.
-// Under a valuation a clause of two negations fails where both its variables are true, so each family is followed from one
-// true variable to the next. Once C and D hold there is one vertex for each agent and step, and F and G ask only of it.
-use entries::Agent;
-use entries::Step;
-use entries::Vertex;
+// Questions 23 and 24: the first wrong entry, and the first clause without a true literal. The clauses are those of the definitions;
+// none is written out. One pass over the entries finds the wrong one and, of each agent at each time, its one vertex, or that there
+// is none or several: this is the plan where families C and D hold, and then E, F and G are asked of the plan alone, F and G by the
+// conditions of the plan check.
+use entries::Variable;
 use instance::Checked;
 use instance::Sizes;
 ghost use mathlib.Core.Path.{_≡_};
-ghost use Prim.Native.Nat.{ℕ, suc, _+_, _*_, _<_, _≤_};
-ghost use lib.ListN.{length, getD};
-ghost use Rattle.instance.specs.Instance.{instance, adjacent};
-ghost use Rattle.formula.specs.Variables.{X};
+ghost use mathlib.Core.Bool.{_&&_, _||_};
+ghost use Prim.Native.Nat.{ℕ, suc, _+_, _*_, _-_, _/_, _<_, _≤_};
+ghost use lib.ListN.{length, getD, take};
+ghost use Rattle.answers.specs.Fault.{FirstFault};
+ghost use Rattle.formula.specs.Variables.{variableCount, X};
 ghost use Rattle.formula.specs.Formula.{clauses};
+ghost use Rattle.formula.specs.Blocks.{steps};
 ghost use Rattle.formula.specs.Limits.{Limits};
-ghost use Rattle.valuation.specs.Valuation.{true?, named};
+ghost use Rattle.plan.specs.Plan.{planBytes, place};
+ghost use Rattle.valuation.specs.Valuation.{true?, rightEntry};
 ghost use Rattle.valuation.specs.Satisfying.{Valuation};
 ghost use Rattle.valuation.specs.Places.{Places};
 ghost use Rattle.calls.specs.Accepted.{Accepted, instanceOf};
-ghost use Rattle.edges.specs.Search.{Searchable};
-ghost use Rattle.satisfaction.specs.Blocks.{Fault, Found, flat, units, someVertex, vertexPairs, agentPairs, others, crossings, familiesAD, familiesEG};
+ghost use Rattle.satisfaction.specs.Rows.{Fault, Stop, Tallied, says, denies, Seen, Read, Lowest, only, held, row, Before};
+ghost use lib.IntN.{ℤ};
+ghost use mathlib.Core.List.{List};
+ghost use mathlib.Core.Logic.{_≢_};
+
+// What the entries of one agent and time say: the first wrong one, or the end; and the vertex, n for none, n + 1 for several.
+pub struct Row {
+    pub wrong: usize,
+    pub place: usize,
+}
+
+// What all of them say: the first wrong one, or their number; and of each time and agent the vertex as above.
+pub struct Reading {
+    pub wrong: usize,
+    pub places: [u8; 528],
+}
+
+// Of some clauses: their number, and the place of the first without a true literal, or their number again.
+pub struct Part {
+    pub size: usize,
+    pub fault: usize,
+}
+
+// Of some entries: how many are not their variables' negatives, and the sum of their indexes.
+pub struct Tally {
+    pub count: u32,
+    pub sum: u32,
+}
 
 // A byte as a number.
 fn wide(x: u8) -> usize
-    ensures { λ r. ⌜ r ≡ x ⌝ }
+    ensures { λ r. ⌜ (r ≡ x) × (r < 256) ⌝ }
 {
     x as usize
 }
 
-// Is X(t,a,v) true?
-fn holds(entries: &[i32], s: Sizes, t: Step, a: Agent, v: Vertex) -> bool
-    requires { ⌜ Limits s ⌝ }
-    requires { ⌜ Valuation s (now entries) ⌝ }
-    requires { ⌜ (t .0 ≤ s .m) × (a .0 < s .k) × (v .0 < s .n) ⌝ }
-    ensures { λ r. ⌜ r ≡ true? (now (entries .entry)) (X s (t .0) (a .0) (v .0)) ⌝ }
+// Is entry i its variable's negative or, where that is asked too, its variable?
+fn passes(entries: &[i32], i: usize, both: bool) -> bool
+    requires { ⌜ (i < length (now entries)) × (i < 33792) ⌝ }
+    ensures { λ r. ⌜ r ≡ ((both && says (now (entries .entry)) i) || denies (now (entries .entry)) i) ⌝ }
 {
-    let x = entries::variable_of(s, t, a, v);
-    let i = x.0 - 1;
-    entries::is_literal(entries[i], x)
+    let e = entries[i];
+    let x = Variable(i + 1);
+    if both {
+        return entries::is_entry(e, x);
+    }
+    entries::is_negation(e, x)
 }
 
-// The first vertex from `low` on that agent a has at time t, or n.
-fn vertex_from(entries: &[i32], s: Sizes, t: Step, a: Agent, low: usize) -> usize
-    requires { ⌜ Limits s ⌝ }
-    requires { ⌜ Valuation s (now entries) ⌝ }
-    requires { ⌜ (t .0 ≤ s .m) × (a .0 < s .k) × (low ≤ s .n) ⌝ }
-    ensures { λ r. ⌜ Found (λ v. true? (now (entries .entry)) (X s (t .0) (a .0) v)) low (s .n) r ⌝ }
+// The entries from `low` to `end`. The loop has one way out, so that the compiler may take several entries at once.
+fn tally_row(entries: &[i32], low: usize, end: usize) -> Tally
+    requires { ⌜ (low ≤ end) × (end ≤ length (now entries)) × (end ≤ 33792) ⌝ }
+    ensures { λ r. ⌜ Tallied (denies (now (entries .entry))) low end (r .count) (r .sum) ⌝ }
 {
-    let n = s.n;
-    for v in low..n {
-        if holds(entries, s, t, a, Vertex(v)) {
-            return v;
+    let mut count: u32 = 0;
+    let mut sum: u32 = 0;
+    for i in low..end {
+        if !passes(entries, i, false) {
+            count += 1;
+            sum += i as u32;
         }
     }
-    n
+    Tally { count, sum }
 }
 
-// The first agent from `low` on that is at v at time t, or k.
-fn agent_from(entries: &[i32], s: Sizes, t: Step, v: Vertex, low: usize) -> usize
-    requires { ⌜ Limits s ⌝ }
-    requires { ⌜ Valuation s (now entries) ⌝ }
-    requires { ⌜ (t .0 ≤ s .m) × (v .0 < s .n) × (low ≤ s .k) ⌝ }
-    ensures { λ r. ⌜ Found (λ a. true? (now (entries .entry)) (X s (t .0) a (v .0))) low (s .k) r ⌝ }
+// The first entry from `low` on that is not its variable's negative nor, where that is asked too, its variable; or `end`.
+fn stop_from(entries: &[i32], low: usize, end: usize, both: bool) -> usize
+    requires { ⌜ (low ≤ end) × (end ≤ length (now entries)) × (end ≤ 33792) ⌝ }
+    ensures { λ r. ⌜ Stop (λ i. (both && says (now (entries .entry)) i) || denies (now (entries .entry)) i) low end r ⌝ }
 {
-    let k = s.k;
-    for a in low..k {
-        if holds(entries, s, t, Agent(a), v) {
-            return a;
-        }
-    }
-    k
-}
-
-// Families A and B: the first agent that is not at its vertex of the row at time t, or k.
-fn unit_fault(entries: &[i32], s: Sizes, t: Step, row: [u8; 16]) -> usize
-    requires { ⌜ Limits s ⌝ }
-    requires { ⌜ Valuation s (now entries) ⌝ }
-    requires { ⌜ (t .0 ≤ s .m) × (length row ≡ 16) × ((a : ℕ) → a < s .k → getD row a 0 < s .n) ⌝ }
-    ensures { λ r. ⌜ Fault (now (entries .entry)) (units s (t .0) (λ a. getD row a 0)) r ⌝ }
-{
-    let k = s.k;
-    for a in 0..k {
-        let v = wide(row[a]);
-        if !holds(entries, s, t, Agent(a), Vertex(v)) {
-            return a;
-        }
-    }
-    k
-}
-
-// Family C: the first time and agent with no vertex.
-fn fault_c(entries: &[i32], s: Sizes) -> usize
-    requires { ⌜ Limits s ⌝ }
-    requires { ⌜ Valuation s (now entries) ⌝ }
-    ensures { λ r. ⌜ Fault (now (entries .entry)) (flat (suc (s .m)) (s .k) (someVertex s)) r ⌝ }
-{
-    let n = s.n;
-    let k = s.k;
-    let cells = (s.m + 1) * k;
-    for i in 0..cells {
-        let t = i / k;
-        let a = i % k;
-        let v = vertex_from(entries, s, Step(t), Agent(a), 0);
-        if v == n {
+    for i in low..end {
+        if !passes(entries, i, both) {
             return i;
         }
     }
-    cells
+    end
 }
 
-// Family D, of time t and agent a: the place of the first two vertices among the pairs.
-fn block_d(entries: &[i32], s: Sizes, t: Step, a: Agent) -> usize
+// The n entries from `base` on.
+fn read_row(entries: &[i32], base: usize, n: usize) -> Row
+    requires { ⌜ (base + n ≤ length (now entries)) × (base + n ≤ 33792) ⌝ }
+    ensures { λ r. ⌜ Stop (rightEntry (now (entries .entry))) base (base + n) (r .wrong) ⌝ }
+    ensures { λ r. ⌜ (base + n ≤ r .wrong → Seen n (λ v. says (now (entries .entry)) (base + v)) (r .place)) ⌝ }
+{
+    let end = base + n;
+    let t = tally_row(entries, base, end);
+    if t.count == 0 {
+        return Row {
+            wrong: end,
+            place: n,
+        };
+    }
+    if t.count == 1 {
+        let v = t.sum as usize;
+        if passes(entries, v, true) {
+            return Row {
+                wrong: end,
+                place: v - base,
+            };
+        }
+        return Row { wrong: v, place: 0 };
+    }
+    let u = stop_from(entries, base, end, true);
+    Row {
+        wrong: u,
+        place: n + 1,
+    }
+}
+
+// All entries, one time and agent after another.
+pub fn read_entries(entries: &[i32], s: Sizes) -> Reading
     requires { ⌜ Limits s ⌝ }
-    requires { ⌜ Valuation s (now entries) ⌝ }
-    requires { ⌜ (t .0 ≤ s .m) × (a .0 < s .k) ⌝ }
-    ensures { λ r. ⌜ Fault (now (entries .entry)) (vertexPairs s (t .0) (a .0)) r ⌝ }
+    requires { ⌜ length (now entries) ≡ variableCount s ⌝ }
+    ensures { λ r. ⌜ FirstFault (variableCount s) (rightEntry (now (entries .entry))) (r .wrong) ⌝ }
+    ensures { λ r. ⌜ length (r .places) ≡ 528 ⌝ }
+    ensures { λ r. ⌜ (variableCount s ≤ r .wrong → Read s (now (entries .entry)) (take (planBytes s) (r .places))) ⌝ }
 {
     let n = s.n;
-    let v = vertex_from(entries, s, t, a, 0);
-    if v == n {
-        return n * (n - 1) / 2;
+    let cells = (s.m + 1) * s.k;
+    let mut places = [0u8; 528];
+    for i in 0..cells {
+        let base = i * n;
+        let r = read_row(entries, base, n);
+        if r.wrong < base + n {
+            return Reading {
+                wrong: r.wrong,
+                places,
+            };
+        }
+        places[i] = r.place as u8;
     }
-    let w = vertex_from(entries, s, t, a, v + 1);
-    if w == n {
-        return n * (n - 1) / 2;
+    Reading {
+        wrong: cells * n,
+        places,
     }
-    v * (2 * n - v - 1) / 2 + (w - v - 1)
 }
 
-// Family D.
-fn fault_d(entries: &[i32], s: Sizes) -> usize
+// Families A and B: the first agent that is not at its vertex of the array at time t, or k.
+fn unit_fault(entries: &[i32], s: Sizes, t: usize, ends: [u8; 16]) -> usize
     requires { ⌜ Limits s ⌝ }
     requires { ⌜ Valuation s (now entries) ⌝ }
-    ensures { λ r. ⌜ Fault (now (entries .entry)) (flat (suc (s .m)) (s .k) (vertexPairs s)) r ⌝ }
+    requires { ⌜ (t ≤ s .m) × (length ends ≡ 16) × ((a : ℕ) → a < s .k → getD ends a 0 < s .n) ⌝ }
+    ensures { λ r. ⌜ FirstFault (s .k) (λ a. true? (now (entries .entry)) (X s t a (getD ends a 0))) r ⌝ }
 {
     let n = s.n;
     let k = s.k;
-    let size = n * (n - 1) / 2;
-    let cells = (s.m + 1) * k;
-    for i in 0..cells {
-        let t = i / k;
-        let a = i % k;
-        let r = block_d(entries, s, Step(t), Agent(a));
-        if r < size {
-            return i * size + r;
+    for a in 0..k {
+        let i = (t * k + a) * n + wide(ends[a]);
+        if passes(entries, i, false) {
+            return a;
         }
     }
-    cells * size
+    k
 }
 
-// Family E, of time t and vertex v: the place of the first two agents among the pairs.
-fn block_e(entries: &[i32], s: Sizes, t: Step, v: Vertex) -> usize
+// Family C at time t: the first agent with no vertex.
+fn fault_c(p: &[u8], s: Sizes, t: usize) -> usize
     requires { ⌜ Limits s ⌝ }
-    requires { ⌜ Valuation s (now entries) ⌝ }
-    requires { ⌜ (t .0 ≤ s .m) × (v .0 < s .n) ⌝ }
-    ensures { λ r. ⌜ Fault (now (entries .entry)) (agentPairs s (t .0) (v .0)) r ⌝ }
+    requires { ⌜ (length (now p) ≡ planBytes s) × (t ≤ s .m) ⌝ }
+    ensures { λ r. ⌜ ((es : List ℤ) → Read s es (now (p .entry)) → Fault es (row (only s) 2 t) r) ⌝ }
 {
     let k = s.k;
-    let a = agent_from(entries, s, t, v, 0);
+    conditions::first_on(p, t * k, k, s.n as u8)
+}
+
+// The number of pairs v < w below n.
+fn pairs_of(n: usize) -> usize
+    requires { ⌜ (1 ≤ n) × (n ≤ 64) ⌝ }
+    ensures { λ r. ⌜ (r ≡ n * (n - 1) / 2) × (r ≤ 2048) ⌝ }
+{
+    n * (n - 1) / 2
+}
+
+// The place of a pair among them: of v and the number that stands `gap` numbers after the next.
+fn pair_at(n: usize, v: usize, gap: usize) -> usize
+    requires { ⌜ (v < n) × (n ≤ 64) × (gap ≤ 64) ⌝ }
+    ensures { λ r. ⌜ (r ≡ v * (2 * n - v - 1) / 2 + gap) × (r ≤ 8192) ⌝ }
+{
+    v * (2 * n - v - 1) / 2 + gap
+}
+
+// Family D at time t: the first two vertices of the first agent with several.
+fn fault_d(entries: &[i32], p: &[u8], s: Sizes, t: usize) -> usize
+    requires { ⌜ Limits s ⌝ }
+    requires { ⌜ Read s (now entries) (now p) ⌝ }
+    requires { ⌜ t ≤ s .m ⌝ }
+    ensures { λ r. ⌜ Fault (now (entries .entry)) (row (only s) 3 t) r ⌝ }
+{
+    let n = s.n;
+    let k = s.k;
+    let size = pairs_of(n);
+    let row = t * k;
+    let a = conditions::first_on(p, row, k, (n + 1) as u8);
     if a == k {
-        return k * (k - 1) / 2;
+        return k * size;
     }
-    let b = agent_from(entries, s, t, v, a + 1);
-    if b == k {
-        return k * (k - 1) / 2;
-    }
-    a * (2 * k - a - 1) / 2 + (b - a - 1)
+    let base = (row + a) * n;
+    let end = base + n;
+    let first = stop_from(entries, base, end, false);
+    let second = stop_from(entries, first + 1, end, false);
+    a * size + pair_at(n, first - base, second - first - 1)
 }
 
-// Family E.
-fn fault_e(entries: &[i32], s: Sizes) -> usize
+// `low`, or the vertex of agent a of a row where it is lower and a lower agent stands on it too.
+fn lower(p: &[u8], row: usize, a: usize, low: usize) -> usize
+    requires { ⌜ row + a < length (now p) ⌝ }
+    ensures { λ r. ⌜ ((n : ℕ) → Lowest a (λ i. getD (now (p .entry)) (row + i) 0) n low → Lowest (a + 1) (λ i. getD (now (p .entry)) (row + i) 0) n r) ⌝ }
+{
+    let x = p[row + a];
+    let v = wide(x);
+    if low <= v {
+        return low;
+    }
+    if conditions::first_on(p, row, a, x) < a {
+        return v;
+    }
+    low
+}
+
+// The lowest vertex on which two of the k agents of a row stand, or n.
+fn lowest_shared(p: &[u8], row: usize, k: usize, n: usize) -> usize
+    requires { ⌜ row + k ≤ length (now p) ⌝ }
+    ensures { λ r. ⌜ Lowest k (λ a. getD (now (p .entry)) (row + a) 0) n r ⌝ }
+{
+    let mut low = n;
+    for a in 0..k {
+        low = lower(p, row, a, low);
+    }
+    low
+}
+
+// Family E at time t: the first two agents on the lowest vertex that is shared.
+fn fault_e(p: &[u8], s: Sizes, t: usize) -> usize
     requires { ⌜ Limits s ⌝ }
-    requires { ⌜ Valuation s (now entries) ⌝ }
-    ensures { λ r. ⌜ Fault (now (entries .entry)) (flat (suc (s .m)) (s .n) (agentPairs s)) r ⌝ }
+    requires { ⌜ (length (now p) ≡ planBytes s) × (t ≤ s .m) ⌝ }
+    ensures { λ r. ⌜ ((es : List ℤ) → Valuation s es → Places s (true? es) (place s (now (p .entry))) → Fault es (row (only s) 4 t) r) ⌝ }
 {
     let n = s.n;
     let k = s.k;
-    let size = k * (k - 1) / 2;
-    let cells = (s.m + 1) * n;
-    for i in 0..cells {
-        let t = i / n;
-        let v = i % n;
-        let r = block_e(entries, s, Step(t), Vertex(v));
-        if r < size {
-            return i * size + r;
-        }
+    let size = pairs_of(k);
+    let row = t * k;
+    let v = lowest_shared(p, row, k, n);
+    if v == n {
+        return n * size;
     }
-    cells * size
+    let a = conditions::first_on(p, row, k, v as u8);
+    let gap = conditions::first_on(p, row + a + 1, k - a - 1, v as u8);
+    v * size + pair_at(k, a, gap)
 }
 
-// The one vertex of agent a at time t.
-pub fn place_of(entries: &[i32], s: Sizes, t: Step, a: Agent) -> usize
-    requires { ⌜ Limits s ⌝ }
-    requires { ⌜ Valuation s (now entries) ⌝ }
-    requires { ⌜ Places s (true? (now entries)) (named s (now entries)) ⌝ }
-    requires { ⌜ (t .0 ≤ s .m) × (a .0 < s .k) ⌝ }
-    ensures { λ r. ⌜ (r ≡ named s (now (entries .entry)) (t .0) (a .0)) × (r < s .n) ⌝ }
+// Family F at time t: the vertex of the first agent that fails condition 1.
+fn fault_f(b: &[u8], c: Checked, p: &[u8], t: usize) -> usize
+    requires { ⌜ Accepted (now b) c ⌝ }
+    requires { ⌜ (length (now p) ≡ planBytes (c .sizes)) × (t < c .sizes .m) ⌝ }
+    ensures { λ r. ⌜ ((es : List ℤ) → Valuation (c .sizes) es → Places (c .sizes) (true? es) (place (c .sizes) (now (p .entry))) → Fault es (row (held (now (b .entry)) c) 5 t) r) ⌝ }
 {
-    vertex_from(entries, s, t, a, 0)
-}
-
-// Family F, of time t and agent a: only the clause of the agent's vertex can fail.
-fn block_f(b: &[u8], entries: &[i32], s: Sizes, t: Step, a: Agent) -> usize
-    requires { ⌜ Limits s ⌝ }
-    requires { ⌜ Valuation s (now entries) ⌝ }
-    requires { ⌜ Places s (true? (now entries)) (named s (now entries)) ⌝ }
-    requires { ⌜ Searchable (now b) (s .e) ⌝ }
-    requires { ⌜ (t .0 < s .m) × (a .0 < s .k) ⌝ }
-    ensures { λ r. ⌜ Fault (now (entries .entry)) (crossings s (adjacent (instance (now (b .entry)) (s .m))) (t .0) (a .0)) r ⌝ }
-{
-    let v = place_of(entries, s, t, a);
-    let w = place_of(entries, s, Step(t.0 + 1), a);
-    if v == w {
-        return s.n;
-    }
-    if edges::is_edge(b, s.e, v, w) {
-        return s.n;
-    }
-    v
-}
-
-// Family F.
-fn fault_f(b: &[u8], entries: &[i32], s: Sizes) -> usize
-    requires { ⌜ Limits s ⌝ }
-    requires { ⌜ Valuation s (now entries) ⌝ }
-    requires { ⌜ Places s (true? (now entries)) (named s (now entries)) ⌝ }
-    requires { ⌜ Searchable (now b) (s .e) ⌝ }
-    ensures { λ r. ⌜ Fault (now (entries .entry)) (flat (s .m) (s .k) (crossings s (adjacent (instance (now (b .entry)) (s .m))))) r ⌝ }
-{
+    let s = c.sizes;
     let n = s.n;
     let k = s.k;
-    let cells = s.m * k;
-    for i in 0..cells {
-        let t = i / k;
-        let a = i % k;
-        let r = block_f(b, entries, s, Step(t), Agent(a));
-        if r < n {
-            return i * n + r;
-        }
+    let a = conditions::fault_1(b, c, p, t);
+    if a == k {
+        return k * n;
     }
-    cells * n
+    a * n + wide(p[t * k + a])
 }
 
-// Family G, of time t and agent a: of each other agent, only the clause of a's next vertex can fail.
-fn block_g(entries: &[i32], s: Sizes, t: Step, a: Agent) -> usize
-    requires { ⌜ Limits s ⌝ }
-    requires { ⌜ Valuation s (now entries) ⌝ }
-    requires { ⌜ Places s (true? (now entries)) (named s (now entries)) ⌝ }
-    requires { ⌜ (t .0 < s .m) × (a .0 < s .k) ⌝ }
-    ensures { λ r. ⌜ Fault (now (entries .entry)) (others s (t .0) (a .0)) r ⌝ }
+// The place of agent b among the agents other than a.
+fn other_at(a: usize, b: usize) -> usize
+    ensures { λ r. ⌜ ((b < a → r ≡ b) × (a < b → r ≡ b - 1) × (r ≤ b)) ⌝ }
 {
-    let n = s.n;
-    let k = s.k;
-    let own = a.0;
-    let v = place_of(entries, s, Step(t.0 + 1), a);
-    let mut at: usize = 0;
-    for b in 0..k {
-        if b != own {
-            if holds(entries, s, t, Agent(b), Vertex(v)) {
-                return at + v;
-            }
-            at += n;
-        }
+    if a < b {
+        return b - 1;
     }
-    at
+    b
 }
 
-// Family G.
-fn fault_g(entries: &[i32], s: Sizes) -> usize
+// Family G at time t, where no two agents share a vertex then: the first agent that fails condition 2, the agent that stood where it
+// goes, and that vertex.
+fn fault_g(p: &[u8], s: Sizes, t: usize) -> usize
     requires { ⌜ Limits s ⌝ }
-    requires { ⌜ Valuation s (now entries) ⌝ }
-    requires { ⌜ Places s (true? (now entries)) (named s (now entries)) ⌝ }
-    ensures { λ r. ⌜ Fault (now (entries .entry)) (flat (s .m) (s .k) (others s)) r ⌝ }
+    requires { ⌜ (length (now p) ≡ planBytes s) × (t < s .m) ⌝ }
+    requires { ⌜ ((a b : ℕ) → a < b → b < s .k → place s (now p) t a ≢ place s (now p) t b) ⌝ }
+    ensures { λ r. ⌜ ((es : List ℤ) → Valuation s es → Places s (true? es) (place s (now (p .entry))) → Fault es (row (only s) 6 t) r) ⌝ }
 {
     let n = s.n;
     let k = s.k;
     let size = (k - 1) * n;
-    let cells = s.m * k;
-    for i in 0..cells {
-        let t = i / k;
-        let a = i % k;
-        let r = block_g(entries, s, Step(t), Agent(a));
-        if r < size {
-            return i * size + r;
-        }
+    let row = t * k;
+    let a = conditions::fault_2(s, p, t);
+    if a == k {
+        return k * size;
     }
-    cells * size
+    let w = p[row + k + a];
+    let b = conditions::first_on(p, row, k, w);
+    a * size + (other_at(a, b) * n + wide(w))
 }
 
-// Families A to D. The rows are the starts and the goals.
-fn fault_ad(entries: &[i32], s: Sizes, starts: [u8; 16], goals: [u8; 16]) -> usize
+// The number of rows of a family.
+fn rows_of(s: Sizes, which: usize) -> usize
     requires { ⌜ Limits s ⌝ }
-    requires { ⌜ Valuation s (now entries) ⌝ }
-    requires { ⌜ (length starts ≡ 16) × ((a : ℕ) → a < s .k → getD starts a 0 < s .n) ⌝ }
-    requires { ⌜ (length goals ≡ 16) × ((a : ℕ) → a < s .k → getD goals a 0 < s .n) ⌝ }
-    ensures { λ r. ⌜ Fault (now (entries .entry)) (familiesAD s (λ a. getD starts a 0) (λ a. getD goals a 0)) r ⌝ }
+    requires { ⌜ which < 7 ⌝ }
+    ensures { λ r. ⌜ (r ≡ steps s which) × (r ≤ 33) ⌝ }
 {
-    let k = s.k;
-    let m = s.m;
-    let a = unit_fault(entries, s, Step(0), starts);
-    if a < k {
-        return a;
+    if which < 2 {
+        return 1;
     }
-    let g = unit_fault(entries, s, Step(m), goals);
-    if g < k {
-        return k + g;
+    if which < 5 {
+        return s.m + 1;
     }
-    let cells = (m + 1) * k;
-    let v = fault_c(entries, s);
-    if v < cells {
-        return k + k + v;
-    }
-    k + k + cells + fault_d(entries, s)
+    s.m
 }
 
-// Families E to G.
-fn fault_eg(b: &[u8], entries: &[i32], s: Sizes) -> usize
-    requires { ⌜ Limits s ⌝ }
-    requires { ⌜ Valuation s (now entries) ⌝ }
-    requires { ⌜ Places s (true? (now entries)) (named s (now entries)) ⌝ }
-    requires { ⌜ Searchable (now b) (s .e) ⌝ }
-    ensures { λ r. ⌜ Fault (now (entries .entry)) (familiesEG s (adjacent (instance (now (b .entry)) (s .m)))) r ⌝ }
+// Row t of a family, where the families before it have a true literal in every clause.
+fn row_fault(b: &[u8], c: Checked, entries: &[i32], p: &[u8], which: usize, t: usize) -> Part
+    requires { ⌜ Accepted (now b) c ⌝ }
+    requires { ⌜ Read (c .sizes) (now entries) (now p) ⌝ }
+    requires { ⌜ (which < 7) × (t < steps (c .sizes) which) × Before (held (now b) c) (now entries) which ⌝ }
+    ensures { λ r. ⌜ (length (row (held (now (b .entry)) c) which t) ≡ r .size) × (r .size ≤ 32768) ⌝ }
+    ensures { λ r. ⌜ Fault (now (entries .entry)) (row (held (now (b .entry)) c) which t) (r .fault) ⌝ }
 {
+    let s = c.sizes;
     let n = s.n;
     let k = s.k;
-    let m = s.m;
-    let shared = (m + 1) * n * (k * (k - 1) / 2);
-    let e = fault_e(entries, s);
-    if e < shared {
-        return e;
+    match which {
+        0 => {
+            let starts = c.starts;
+            Part {
+                size: k,
+                fault: unit_fault(entries, s, 0, starts),
+            }
+        }
+        1 => {
+            let goals = c.goals;
+            Part {
+                size: k,
+                fault: unit_fault(entries, s, s.m, goals),
+            }
+        }
+        2 => Part {
+            size: k,
+            fault: fault_c(p, s, t),
+        },
+        3 => Part {
+            size: k * pairs_of(n),
+            fault: fault_d(entries, p, s, t),
+        },
+        4 => Part {
+            size: n * pairs_of(k),
+            fault: fault_e(p, s, t),
+        },
+        5 => Part {
+            size: k * n,
+            fault: fault_f(b, c, p, t),
+        },
+        _ => Part {
+            size: k * ((k - 1) * n),
+            fault: fault_g(p, s, t),
+        },
     }
-    let moves = m * k * n;
-    let f = fault_f(b, entries, s);
-    if f < moves {
-        return shared + f;
-    }
-    shared + moves + fault_g(entries, s)
 }
 
 // The lowest number of a clause without a true literal, or the number of clauses.
-pub fn clause_fault(b: &[u8], c: Checked, entries: &[i32]) -> usize
+pub fn clause_fault(b: &[u8], c: Checked, entries: &[i32], p: &[u8]) -> usize
     requires { ⌜ Accepted (now b) c ⌝ }
-    requires { ⌜ Valuation (c .sizes) (now entries) ⌝ }
+    requires { ⌜ Read (c .sizes) (now entries) (now p) ⌝ }
     ensures { λ r. ⌜ Fault (now (entries .entry)) (clauses (instanceOf (now (b .entry)) c)) r ⌝ }
 {
     let s = c.sizes;
-    let starts = c.starts;
-    let goals = c.goals;
-    let n = s.n;
-    let k = s.k;
-    let cells = (s.m + 1) * k;
-    let size = n * (n - 1) / 2;
-    let early = k + k + cells + cells * size;
-    let first = fault_ad(entries, s, starts, goals);
-    if first < early {
-        return first;
+    let mut at: usize = 0;
+    for which in 0..7usize {
+        let count = rows_of(s, which);
+        for t in 0..count {
+            let r = row_fault(b, c, entries, p, which, t);
+            if r.fault < r.size {
+                return at + r.fault;
+            }
+            at += r.size;
+        }
     }
-    early + fault_eg(b, entries, s)
+    at
 }

@@ -152,7 +152,7 @@ module _ (I : Instance) (es : List ℤ) (w : Valuation (I .sizes) es) where
   open Instance I using (sizes)
   open Sizes sizes using (n, k, m)
 
-  pub named-places : Sat (true? es) (C I) → Sat (true? es) (D I) → Places sizes (true? es) (named sizes es)
+  pub named-places : Sat (true? es) (C (I .sizes)) → Sat (true? es) (D (I .sizes)) → Places sizes (true? es) (named sizes es)
   unfolding C D named
   named-places c d =
       record {

@@ -51,7 +51,7 @@ module _ (I : Instance) where
   ¬X = variables.¬X sizes
 
   module _ (h : Literal → Bool) (P : ℕ → ℕ → ℕ) (c : Places sizes h P) where
-    pub read-A : ((a : ℕ) → a < k → start a < n) → Sat h (A I) ↔ ((a : ℕ) → a < k → start a ≡ P 0 a)
+    pub read-A : ((a : ℕ) → a < k → start a < n) → Sat h (A (I .sizes) (I .start)) ↔ ((a : ℕ) → a < k → start a ≡ P 0 a)
     unfolding A
     read-A s =
         simp (for-all, one-all, any-one) (
@@ -59,7 +59,7 @@ module _ (I : Instance) where
           (λ q a l. c .here 0 a (start a) (zero-lt-suc m) l (s a l) .1 (q a l)),
         )
 
-    pub read-B : ((a : ℕ) → a < k → goal a < n) → Sat h (B I) ↔ ((a : ℕ) → a < k → goal a ≡ P m a)
+    pub read-B : ((a : ℕ) → a < k → goal a < n) → Sat h (B (I .sizes) (I .goal)) ↔ ((a : ℕ) → a < k → goal a ≡ P m a)
     unfolding B
     read-B s =
         simp (for-all, one-all, any-one) (
@@ -67,17 +67,17 @@ module _ (I : Instance) where
           (λ q a l. c .here m a (goal a) (le-refl (suc m)) l (s a l) .1 (q a l)),
         )
 
-    pub read-C : Sat h (C I)
+    pub read-C : Sat h (C (I .sizes))
     unfolding C
     read-C = simp (for-all, one-all, for-any, any-one) (λ t l a r. (P t a, c .inside t a l r, c .here t a (P t a) l r (c .inside t a l r) .1 refl))
 
-    pub read-D : Sat h (D I)
+    pub read-D : Sat h (D (I .sizes))
     unfolding D
     read-D =
         simp (for-all, when-all, one-all, ltb-iff, any-two)
         (λ t l a r v p w q o f. c .elsewhere t a w l r q .1 (λ e. f (c .elsewhere t a v l r p .1 (λ e′. omega arith))))
 
-    pub read-E : Sat h (E I) ↔ ((t : ℕ) → t < suc m → (a b : ℕ) → a < b → b < k → P t a ≢ P t b)
+    pub read-E : Sat h (E (I .sizes)) ↔ ((t : ℕ) → t < suc m → (a b : ℕ) → a < b → b < k → P t a ≢ P t b)
     unfolding E
     read-E =
         simp (for-all, when-all, one-all, ltb-iff, any-two) (
@@ -89,7 +89,7 @@ module _ (I : Instance) where
               c .elsewhere t b v l s p .1 (λ e. f (c .elsewhere t a v l r p .1 (λ e′. q t l a b o s (sym e′ ∙ e))))),
         )
 
-    pub read-F : Sat h (F I) ↔ ((t : ℕ) → t < m → (a : ℕ) → a < k → P t a ≢ P (suc t) a → T (adjacent I (P t a) (P (suc t) a)))
+    pub read-F : Sat h (F (I .sizes) (adjacent I)) ↔ ((t : ℕ) → t < m → (a : ℕ) → a < k → P t a ≢ P (suc t) a → T (adjacent I (P t a) (P (suc t) a)))
     unfolding F
     read-F =
         simp (for-all, one-all, any-one, or-imp, for-any, when-any) (
@@ -112,7 +112,7 @@ module _ (I : Instance) where
               )),
         )
 
-    pub read-G : Sat h (G I) ↔ ((t : ℕ) → t < m → (a b : ℕ) → a < k → b < k → a ≢ b → P t b ≢ P (suc t) a)
+    pub read-G : Sat h (G (I .sizes)) ↔ ((t : ℕ) → t < m → (a b : ℕ) → a < k → b < k → a ≢ b → P t b ≢ P (suc t) a)
     unfolding G
     read-G =
         simp (for-all, when-all, one-all, not-iff, eqb-iff, any-two) (
@@ -146,7 +146,7 @@ module _ (I : Instance) where
     -- Family G and condition 2, where no two agents share a vertex. Of an agent that stays G says more than condition 2, and
     -- that part is E: another agent on the same vertex would share it in row t.
     second : (h : Literal → Bool) → Places sizes h P → Apart
-        → Sat h (G I) ↔ ((t : ℕ) → t < m → (a : ℕ) → a < k → P t a ≢ P (suc t) a → (b : ℕ) → b < k → P t b ≢ P (suc t) a)
+        → Sat h (G (I .sizes)) ↔ ((t : ℕ) → t < m → (a : ℕ) → a < k → P t a ≢ P (suc t) a → (b : ℕ) → b < k → P t b ≢ P (suc t) a)
     second h c o =
         simp (read-G h P c) (
           (λ q t l a r d b u e. by-cases (ℕ-discrete a b) (λ e′. d (ap (λ x. P t x) e′ ∙ e)) (λ d′. q t l a b r u d′ e)),
@@ -185,6 +185,6 @@ module _ (I : Instance) where
           )),
         )
 
-  pub sat-CD : (h : Literal → Bool) → Sat h (clauses I) → Sat h (C I) × Sat h (D I)
+  pub sat-CD : (h : Literal → Bool) → Sat h (clauses I) → Sat h (C (I .sizes)) × Sat h (D (I .sizes))
   unfolding clauses
   sat-CD h q = let r = simp all-append at q in (r .0 .0 .0 .0 .1, r .0 .0 .0 .1)

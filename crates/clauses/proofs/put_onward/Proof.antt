@@ -1,141 +1,112 @@
--- `clauses::put_onward` meets its contract. The invariant: the turns so far have written their blocks one behind another, and `at` is the number of their words. Assumes nothing.
-use mathlib.Core.Path.{_≡_, refl, sym}
-use mathlib.Core.List.{[], _∷_, _++_, List}
-use Prim.Native.Nat.{_+_, _≤_}
+-- `clauses::put_onward` meets its contract: two stores, the neighbours behind them, one store behind those. Assumes nothing.
+use mathlib.Core.Path.{_≡_, refl, sym, _∙_, ap, subst}
+use mathlib.Core.List.{List, [], _∷_, _++_}
+use Prim.Native.Nat.{_+_, _-_, _≤_}
 use native.Mathlib.Omega.{arith}
+use native.Mathlib.Numerals.{add-one}
+use mir.Syntax.{w32}
+use mir.Val.{toZ, ofZ}
 use mir.Facts.{toZ-ofZ}
+use borrow.Rule.Slice.PartMut.{putMid}
 use borrow.Author.Needs.{needs, sfits-of}
-use lib.ListN.{length, length-take, length-drop, length-append}
+use lib.ListN.{length, length-take, length-drop, length-append, length-set, set}
 use lib.IntN.{ℤ, pos}
-use Rattle.lists.proofs.Slices.{filled-nil, filled-part}
+use Rattle.lists.specs.Slice.{filled, Wrote}
+use Rattle.lists.proofs.Slices.{sets-filled, filled-part, filled-set}
 use Rattle.formula.specs.Variables.{X, ¬X}
-use Rattle.clauses.specs.Lines.{marked, nearby, onward}
+use Rattle.formula.specs.Formula.{Clause, line, nearby, onward}
+use Rattle.clauses.specs.Lines.{marked}
 use Rattle.clauses.proofs.put_onward.Statement.{statement}
 use Rattle.clauses.proofs.put_onward.Tie as tie
 
-add-put-two : tie.Need-add-put-two
-add-put-two c = search needs
+-- the literals of the neighbours, and that they fit behind two words and before one
+abbrev near : tie.Start → List ℤ
+near s = nearby (s .args .s) (marked (s .args .near .now) (s .args .from)) (s .args .t .0 + 1) (s .args .a .0)
 
-sub-put-two : tie.Need-sub-put-two
-sub-put-two c = search needs
+-- the clause with them
+clause : (s : tie.Start) → onward (s .args .s) (marked (s .args .near .now) (s .args .from)) (s .args .t .0) (s .args .a .0) (s .args .v .0)
+    ≡ ¬X (s .args .s) (s .args .t .0) (s .args .a .0) (s .args .v .0) ∷ X (s .args .s) (s .args .t .0 + 1) (s .args .a .0) (s .args .v .0) ∷ near s
+clause s = rw (add-one (s .args .t .0))
 
-part-put-two-start : tie.Need-part-put-two-start
-part-put-two-start c = search needs
+room : (s : tie.Start) → length (near s) + 3 ≤ length (s .args .f .now)
+room s = omega (arith, s .pre .1 .1, ap (λ (c : Clause). length (line c)) (clause s), length-append (near s) (pos 0 ∷ []))
 
-part-put-two-end : tie.Need-part-put-two-end
-part-put-two-end c = search needs
+add-at : tie.Need-add-at
+add-at c = search needs
 
 negative-requires : tie.Need-negative-requires
 negative-requires c κs = search needs
 
+slice-set-from-f : tie.Need-slice-set-from-f
+slice-set-from-f c = search needs
+
 positive-requires : tie.Need-positive-requires
 positive-requires c κs = search needs
 
-put-two-requires : tie.Need-put-two-requires
-unfolding onward
-put-two-requires c κs =
-    let room : length (nearby (c .before .before .before .before .before .args .s) (marked (c .before .before .before .before .before .args .near .now)) (c .before .before .before .before .before .args .t .0 + 1) (c .before .before .before .before .before .args .a .0)) + 3 ≤ length (c .before .before .before .before .before .args .f .now) = omega (arith, c .before .before .before .before .before .pre .1 .1, length-append (nearby (c .before .before .before .before .before .args .s) (marked (c .before .before .before .before .before .args .near .now)) (c .before .before .before .before .before .args .t .0 + 1) (c .before .before .before .before .before .args .a .0)) (pos 0 ∷ [])) in
-    simp (length-take, length-drop) (omega arith)
+slice-set-from-f-2 : tie.Need-slice-set-from-f-2
+slice-set-from-f-2 c = simp length-set (omega (arith, room (c .before .before .before .before)))
 
 sub-put-near : tie.Need-sub-put-near
-unfolding onward
-sub-put-near c =
-    let room : length (nearby (c .before .before .before .before .before .before .before .args .s) (marked (c .before .before .before .before .before .before .before .args .near .now)) (c .before .before .before .before .before .before .before .args .t .0 + 1) (c .before .before .before .before .before .before .before .args .a .0)) + 3 ≤ length (c .before .before .before .before .before .before .before .args .f .now) = omega (arith, c .before .before .before .before .before .before .before .pre .1 .1, length-append (nearby (c .before .before .before .before .before .before .before .args .s) (marked (c .before .before .before .before .before .before .before .args .near .now)) (c .before .before .before .before .before .before .before .args .t .0 + 1) (c .before .before .before .before .before .before .before .args .a .0)) (pos 0 ∷ [])) in
-    omega arith
+sub-put-near c = simp length-set (omega (arith, room (c .before .before .before .before)))
 
 part-put-near-start : tie.Need-part-put-near-start
-unfolding onward
-part-put-near-start c =
-    let room : length (nearby (c .before .before .before .before .before .before .before .args .s) (marked (c .before .before .before .before .before .before .before .args .near .now)) (c .before .before .before .before .before .before .before .args .t .0 + 1) (c .before .before .before .before .before .before .before .args .a .0)) + 3 ≤ length (c .before .before .before .before .before .before .before .args .f .now) = omega (arith, c .before .before .before .before .before .before .before .pre .1 .1, length-append (nearby (c .before .before .before .before .before .before .before .args .s) (marked (c .before .before .before .before .before .before .before .args .near .now)) (c .before .before .before .before .before .before .before .args .t .0 + 1) (c .before .before .before .before .before .before .before .args .a .0)) (pos 0 ∷ [])) in
-    omega arith
+part-put-near-start c = simp length-set (omega (arith, room (c .before .before .before .before)))
 
 part-put-near-end : tie.Need-part-put-near-end
 part-put-near-end c = search needs
 
 put-near-requires : tie.Need-put-near-requires
-unfolding onward
-put-near-requires c κs =
-    let room : length (nearby (c .before .before .before .before .before .before .before .before .args .s) (marked (c .before .before .before .before .before .before .before .before .args .near .now)) (c .before .before .before .before .before .before .before .before .args .t .0 + 1) (c .before .before .before .before .before .before .before .before .args .a .0)) + 3 ≤ length (c .before .before .before .before .before .before .before .before .args .f .now) = omega (arith, c .before .before .before .before .before .before .before .before .pre .1 .1, length-append (nearby (c .before .before .before .before .before .before .before .before .args .s) (marked (c .before .before .before .before .before .before .before .before .args .near .now)) (c .before .before .before .before .before .before .before .before .args .t .0 + 1) (c .before .before .before .before .before .before .before .before .args .a .0)) (pos 0 ∷ [])) in
-    simp (length-take, length-drop) (search needs)
+put-near-requires c κs = simp (length-take, length-drop, length-set) (let r = room (c .before .before .before .before .before) in search needs)
 
-add-at : tie.Need-add-at
-unfolding onward
-add-at c =
-    let room : length (nearby (c .before .before .before .before .before .before .before .before .before .before .args .s) (marked (c .before .before .before .before .before .before .before .before .before .before .args .near .now)) (c .before .before .before .before .before .before .before .before .before .before .args .t .0 + 1) (c .before .before .before .before .before .before .before .before .before .before .args .a .0)) + 3 ≤ length (c .before .before .before .before .before .before .before .before .before .before .args .f .now) = omega (arith, c .before .before .before .before .before .before .before .before .before .before .pre .1 .1, length-append (nearby (c .before .before .before .before .before .before .before .before .before .before .args .s) (marked (c .before .before .before .before .before .before .before .before .before .before .args .near .now)) (c .before .before .before .before .before .before .before .before .before .before .args .t .0 + 1) (c .before .before .before .before .before .before .before .before .before .before .args .a .0)) (pos 0 ∷ [])) in
-    let q = c .before .put-near .ensures .0 in omega arith
+add-at-2 : tie.Need-add-at-2
+add-at-2 c = omega (arith, room (c .before .before .before .before .before .before .before), c .before .put-near .ensures .0)
 
-mul-put-end : tie.Need-mul-put-end
-unfolding onward
-mul-put-end c =
-    let room : length (nearby (c .before .before .before .before .before .before .before .before .before .before .args .s) (marked (c .before .before .before .before .before .before .before .before .before .before .args .near .now)) (c .before .before .before .before .before .before .before .before .before .before .args .t .0 + 1) (c .before .before .before .before .before .before .before .before .before .before .args .a .0)) + 3 ≤ length (c .before .before .before .before .before .before .before .before .before .before .args .f .now) = omega (arith, c .before .before .before .before .before .before .before .before .before .before .pre .1 .1, length-append (nearby (c .before .before .before .before .before .before .before .before .before .before .args .s) (marked (c .before .before .before .before .before .before .before .before .before .before .args .near .now)) (c .before .before .before .before .before .before .before .before .before .before .args .t .0 + 1) (c .before .before .before .before .before .before .before .before .before .before .args .a .0)) (pos 0 ∷ [])) in
-    let q = c .before .put-near .ensures .0 in omega arith
+mul-f : tie.Need-mul-f
+mul-f c = omega (arith, room (c .before .before .before .before .before .before .before), c .before .put-near .ensures .0)
 
-sub-put-end : tie.Need-sub-put-end
-unfolding onward
-sub-put-end c =
-    let room : length (nearby (c .before .before .before .before .before .before .before .before .before .before .args .s) (marked (c .before .before .before .before .before .before .before .before .before .before .args .near .now)) (c .before .before .before .before .before .before .before .before .before .before .args .t .0 + 1) (c .before .before .before .before .before .before .before .before .before .before .args .a .0)) + 3 ≤ length (c .before .before .before .before .before .before .before .before .before .before .args .f .now) = omega (arith, c .before .before .before .before .before .before .before .before .before .before .pre .1 .1, length-append (nearby (c .before .before .before .before .before .before .before .before .before .before .args .s) (marked (c .before .before .before .before .before .before .before .before .before .before .args .near .now)) (c .before .before .before .before .before .before .before .before .before .before .args .t .0 + 1) (c .before .before .before .before .before .before .before .before .before .before .args .a .0)) (pos 0 ∷ [])) in
-    let q = c .before .put-near .ensures .0 in omega arith
-
-part-put-end-start : tie.Need-part-put-end-start
-unfolding onward
-part-put-end-start c =
-    let room : length (nearby (c .before .before .before .before .before .before .before .before .before .before .args .s) (marked (c .before .before .before .before .before .before .before .before .before .before .args .near .now)) (c .before .before .before .before .before .before .before .before .before .before .args .t .0 + 1) (c .before .before .before .before .before .before .before .before .before .before .args .a .0)) + 3 ≤ length (c .before .before .before .before .before .before .before .before .before .before .args .f .now) = omega (arith, c .before .before .before .before .before .before .before .before .before .before .pre .1 .1, length-append (nearby (c .before .before .before .before .before .before .before .before .before .before .args .s) (marked (c .before .before .before .before .before .before .before .before .before .before .args .near .now)) (c .before .before .before .before .before .before .before .before .before .before .args .t .0 + 1) (c .before .before .before .before .before .before .before .before .before .before .args .a .0)) (pos 0 ∷ [])) in
-    let q = c .before .put-near .ensures .0 in omega arith
-
-part-put-end-end : tie.Need-part-put-end-end
-part-put-end-end c = search needs
-
-put-end-requires : tie.Need-put-end-requires
-unfolding onward
-put-end-requires c κs =
-    let room : length (nearby (c .before .before .before .before .before .before .before .before .before .before .before .args .s) (marked (c .before .before .before .before .before .before .before .before .before .before .before .args .near .now)) (c .before .before .before .before .before .before .before .before .before .before .before .args .t .0 + 1) (c .before .before .before .before .before .before .before .before .before .before .before .args .a .0)) + 3 ≤ length (c .before .before .before .before .before .before .before .before .before .before .before .args .f .now) = omega (arith, c .before .before .before .before .before .before .before .before .before .before .before .pre .1 .1, length-append (nearby (c .before .before .before .before .before .before .before .before .before .before .before .args .s) (marked (c .before .before .before .before .before .before .before .before .before .before .before .args .near .now)) (c .before .before .before .before .before .before .before .before .before .before .before .args .t .0 + 1) (c .before .before .before .before .before .before .before .before .before .before .before .args .a .0)) (pos 0 ∷ [])) in
-    let q = c .before .before .put-near .ensures .0 in simp (length-take, length-drop) (omega arith)
+slice-set-of-f : tie.Need-slice-set-of-f
+slice-set-of-f c = rw (c .f .given .1, length-set, length-set) (omega (arith, room (c .before .before .before .before .before .before .before), c .before .put-near .ensures .0))
 
 add-result : tie.Need-add-result
-unfolding onward
-add-result c =
-    let room : length (nearby (c .before .before .before .before .before .before .before .before .before .before .before .before .before .args .s) (marked (c .before .before .before .before .before .before .before .before .before .before .before .before .before .args .near .now)) (c .before .before .before .before .before .before .before .before .before .before .before .before .before .args .t .0 + 1) (c .before .before .before .before .before .before .before .before .before .before .before .before .before .args .a .0)) + 3 ≤ length (c .before .before .before .before .before .before .before .before .before .before .before .before .before .args .f .now) = omega (arith, c .before .before .before .before .before .before .before .before .before .before .before .before .before .pre .1 .1, length-append (nearby (c .before .before .before .before .before .before .before .before .before .before .before .before .before .args .s) (marked (c .before .before .before .before .before .before .before .before .before .before .before .before .before .args .near .now)) (c .before .before .before .before .before .before .before .before .before .before .before .before .before .args .t .0 + 1) (c .before .before .before .before .before .before .before .before .before .before .before .before .before .args .a .0)) (pos 0 ∷ [])) in
-    let q = c .before .before .before .before .put-near .ensures .0 in omega arith
+add-result c = omega (arith, room (c .before .before .before .before .before .before .before), c .before .put-near .ensures .0)
 
 same-length : tie.Need-same-length
-same-length c = search needs
+same-length c = rw (length-set, c .f .given .1, length-set, length-set)
 
 returns : tie.Need-returns
-unfolding onward
 returns c =
-    let l = c .before .before .before .before .before .before .before .before .before .before .before .before .before .args .f .now in
-    let two : List ℤ = ¬X (c .before .before .before .before .before .before .before .before .before .before .before .before .before .args .s) (c .before .before .before .before .before .before .before .before .before .before .before .before .before .args .t .0) (c .before .before .before .before .before .before .before .before .before .before .before .before .before .args .a .0) (c .before .before .before .before .before .before .before .before .before .before .before .before .before .args .v .0) ∷ X (c .before .before .before .before .before .before .before .before .before .before .before .before .before .args .s) (c .before .before .before .before .before .before .before .before .before .before .before .before .before .args .t .0 + 1) (c .before .before .before .before .before .before .before .before .before .before .before .before .before .args .a .0) (c .before .before .before .before .before .before .before .before .before .before .before .before .before .args .v .0) ∷ [] in
-    let ns : List ℤ = nearby (c .before .before .before .before .before .before .before .before .before .before .before .before .before .args .s) (marked (c .before .before .before .before .before .before .before .before .before .before .before .before .before .args .near .now)) (c .before .before .before .before .before .before .before .before .before .before .before .before .before .args .t .0 + 1) (c .before .before .before .before .before .before .before .before .before .before .before .before .before .args .a .0) in
-    let room : length (nearby (c .before .before .before .before .before .before .before .before .before .before .before .before .before .args .s) (marked (c .before .before .before .before .before .before .before .before .before .before .before .before .before .args .near .now)) (c .before .before .before .before .before .before .before .before .before .before .before .before .before .args .t .0 + 1) (c .before .before .before .before .before .before .before .before .before .before .before .before .before .args .a .0)) + 3 ≤ length (c .before .before .before .before .before .before .before .before .before .before .before .before .before .args .f .now) = omega (arith, c .before .before .before .before .before .before .before .before .before .before .before .before .before .pre .1 .1, length-append (nearby (c .before .before .before .before .before .before .before .before .before .before .before .before .before .args .s) (marked (c .before .before .before .before .before .before .before .before .before .before .before .before .before .args .near .now)) (c .before .before .before .before .before .before .before .before .before .before .before .before .before .args .t .0 + 1) (c .before .before .before .before .before .before .before .before .before .before .before .before .before .args .a .0)) (pos 0 ∷ [])) in
-    let e1 = filled-part l l [] two (c .before .before .before .before .before .before .before .put-two .last .0) 0 (sym (filled-nil l)) refl (omega arith)
-    (rw (toZ-ofZ (sfits-of (c .before .before .before .before .before .before .before .before .before .negative .ok)), c .before .before .before .before .before .before .before .before .before .negative .ensures, toZ-ofZ (sfits-of (c .before .before .before .before .before .before .before .before .positive .ok)), c .before .before .before .before .before .before .before .before .positive .ensures) at (c .before .before .before .before .before .before .before .put-two .ensures)) in
-    let e2 = filled-part _ l two ns (c .before .before .before .before .put-near .last .0) 2 e1 refl (omega arith) (c .before .before .before .before .put-near .ensures .1) in
-    let n : length (two ++ ns) ≡ 2 + c .before .before .before .before .put-near .result = omega (arith, c .before .before .before .before .put-near .ensures .0) in (
-      omega (arith, c .before .before .before .before .put-near .ensures .0, length-append ns (pos 0 ∷ [])),
-      filled-part _ l (two ++ ns) (pos 0 ∷ []) (c .before .put-end .last .0) (2 + c .before .before .before .before .put-near .result) e2 n (omega (arith, c .before .before .before .before .put-near .ensures .0)) (c .before .put-end .ensures),
+    let s = c .before .before .before .before .before .before .before in
+    let l : List ℤ = s .args .f .now in
+    let two : List ℤ = ¬X (s .args .s) (s .args .t .0) (s .args .a .0) (s .args .v .0) ∷ X (s .args .s) (s .args .t .0 + 1) (s .args .a .0) (s .args .v .0) ∷ [] in
+    let f : List ℤ = set (set l 0 (toZ w32 (ofZ w32 (c .before .before .before .before .negative .result)))) 1 (toZ w32 (ofZ w32 (c .before .before .before .positive .result))) in
+    let e : f ≡ filled two l =
+    rw (toZ-ofZ (sfits-of (c .before .before .before .before .negative .ok)), toZ-ofZ (sfits-of (c .before .before .before .positive .ok)), c .before .before .before .before .negative .ensures, c .before .before .before .positive .ensures)
+    (sets-filled two l (omega (arith, room s))) in
+    let q : c .before .put-near .result ≡ length (near s) = c .before .put-near .ensures .0 in
+    let w = filled-part f l two (near s) (c .before .put-near .last .0) 2 e refl (omega (arith, room s)) (c .before .put-near .ensures .1) in
+    subst (λ (k : Clause). Wrote (line k) l (set (putMid 2 (length f - 2) f (c .before .put-near .last .0)) (2 + c .before .put-near .result) (pos 0)) (2 + c .before .put-near .result + 1))
+    (sym (clause s)) (
+      omega (arith, q, length-append (near s) (pos 0 ∷ [])),
+      ap (λ (x : List ℤ). set x (2 + c .before .put-near .result) (pos 0)) w
+          ∙ filled-set (two ++ near s) l (2 + c .before .put-near .result) (pos 0) (pos 0) (omega (arith, q)) (omega (arith, q, room s)),
     )
 
 pub put-onward-spec : {M : Type 1} → statement M
 put-onward-spec =
     tie.close
     (tie.spec
-    add-put-two
-    sub-put-two
-    part-put-two-start
-    part-put-two-end
+    add-at
     negative-requires
+    slice-set-from-f
     positive-requires
-    put-two-requires
+    slice-set-from-f-2
     sub-put-near
     part-put-near-start
     part-put-near-end
     put-near-requires
-    add-at
-    mul-put-end
-    sub-put-end
-    part-put-end-start
-    part-put-end-end
-    put-end-requires
+    add-at-2
+    mul-f
+    slice-set-of-f
     add-result
     same-length
     returns)

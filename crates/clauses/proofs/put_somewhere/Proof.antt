@@ -14,7 +14,7 @@ use Rattle.lists.proofs.Slices.{filled-nil, filled-set}
 use Rattle.formula.specs.Variables.{X}
 use Rattle.formula.specs.Formula.{line}
 use Rattle.lists.proofs.Blocks.{for1-length}
-use Rattle.clauses.specs.Lines.{somewhere}
+use Rattle.formula.specs.Formula.{somewhere}
 use Rattle.clauses.proofs.Laws.{somewhere-length}
 use Rattle.clauses.proofs.put_somewhere.Statement.{statement}
 use Rattle.clauses.proofs.put_somewhere.Tie as tie
@@ -79,7 +79,6 @@ same-length : tie.Need-same-length Inv-loop μ-loop
 same-length c = simp length-set (c .before .loop .inv .1 .0)
 
 returns : tie.Need-returns Inv-loop μ-loop
-unfolding somewhere
 returns c =
     let n : length (line (somewhere (c .before .before .args .s) (c .before .before .args .t .0) (c .before .before .args .a .0))) ≡ c .before .before .args .s .n + 1 = somewhere-length (c .before .before .args .s) (c .before .before .args .t .0) (c .before .before .args .a .0) in
     let s = c .before .before .args in

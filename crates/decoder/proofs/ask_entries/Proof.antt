@@ -1,9 +1,16 @@
--- `decoder::ask_entries` meets its contract: each question is answered in its order, by the law of that name. Assumes nothing.
-use Prim.Native.Nat.{_+_, _*_, _≤_}
+-- `decoder::ask_entries` meets its contract: each question is answered in its order, by the law of that name; what is read is the plan named. Assumes nothing.
+use Prim.Native.Nat.{ℕ, _+_, _-_, _*_, _≤_}
+use mathlib.Core.Path.{_≡_, sym, ap, subst}
 use native.Mathlib.Omega.{arith}
+use borrow.Author.Needs.{needs}
 use native.Mathlib.Nat.{mul-le-mul}
-use Rattle.decoder.proofs.Laws as laws
+use native.Mathlib.Numerals.{add-one}
+use lib.ListN.{take, length-replicate}
+use Rattle.answers.specs.declared.Answer.{Answer}
+use Rattle.plan.specs.Plan.{planBytes}
 use Rattle.calls.proofs.Accepted.{limits-known}
+use Rattle.satisfaction.specs.Rows.{Read}
+use Rattle.decoder.proofs.Laws as laws
 use Rattle.decoder.proofs.ask_entries.Statement.{statement}
 use Rattle.decoder.proofs.ask_entries.Tie as tie
 
@@ -16,57 +23,62 @@ small s =
     (q, mul-le-mul {n₂ = 1024} {m₂ = 33} q o, mul-le-mul {n₂ = 33} {m₂ = 16} o (l .k-most), l .m-most)
 
 mul-count : tie.Need-mul-count
-mul-count c = omega (arith, small (c .before .before))
+mul-count c = omega (arith, small (c .before .before .before))
 
 add-count : tie.Need-add-count
-add-count c = omega (arith, small (c .before .before))
+add-count c = omega (arith, small (c .before .before .before .before))
 
 mul-count-2 : tie.Need-mul-count-2
-mul-count-2 c = omega (arith, small (c .before .before))
+mul-count-2 c = omega (arith, small (c .before .before .before .before))
 
 add-bytes : tie.Need-add-bytes
-add-bytes c = omega (arith, small (c .before .before))
+add-bytes c = omega (arith, small (c .before .before .before .before .before))
 
 mul-bytes : tie.Need-mul-bytes
-mul-bytes c = omega (arith, small (c .before .before))
+mul-bytes c = omega (arith, small (c .before .before .before .before .before .before))
 
 returns : tie.Need-returns
-returns c =
-    let start = c .before .before .before in
-    laws.stop-14 (start .args .b .now) (start .args .c) (start .pre) (start .args .entries .now) (start .args .size) (c .if1 .taken)
+returns c = (laws.stop-14 (c .before .before .before .before .before .before .before .args .b .now) (c .before .before .before .before .before .before .before .args .c) (c .before .before .before .before .before .before .before .pre) (c .before .before .before .before .before .before .before .args .entries .now) (c .before .before .before .before .before .before .before .args .size) (c .if1 .taken), (length-replicate {A = ℕ} 528 0, λ e. absurd (let f : ⊥ = omega arith in f)))
 
 returns-2 : tie.Need-returns-2
-returns-2 c =
-    let start = c .before .before .before .before in
-    laws.stop-15 (start .args .b .now) (start .args .c) (start .pre) (start .args .entries .now) (start .args .size) (c .before .if1 .left) (c .if2 .taken)
+returns-2 c = (laws.stop-15 (c .before .before .before .before .before .before .before .before .args .b .now) (c .before .before .before .before .before .before .before .before .args .c) (c .before .before .before .before .before .before .before .before .pre) (c .before .before .before .before .before .before .before .before .args .entries .now) (c .before .before .before .before .before .before .before .before .args .size) (c .before .if1 .left) (c .if2 .taken), (length-replicate {A = ℕ} 528 0, λ e. absurd (let f : ⊥ = omega arith in f)))
 
-entry-fault-requires : tie.Need-entry-fault-requires
-entry-fault-requires c κs = omega (arith, small (c .before .before .before .before), c .before .if1 .left)
+read-entries-requires : tie.Need-read-entries-requires
+read-entries-requires c κs = (limits-known (c .before .before .before .before .before .before .before .before .args .b .now) (c .before .before .before .before .before .before .before .before .args .c) (c .before .before .before .before .before .before .before .before .pre), rw add-one at (c .before .if1 .left))
 
 returns-3 : tie.Need-returns-3
-returns-3 c =
-    let start = c .before .before .before .before .before .before in
-    laws.stop-23 (start .args .b .now) (start .args .c) (start .pre) (start .args .entries .now) (start .args .size) (c .before .before .before .if1 .left) (c .before .before .if2 .left) (c .before .entry-fault .result) (c .before .entry-fault .ensures) (c .if3 .taken)
+returns-3 c = (laws.stop-23 (c .before .before .before .before .before .before .before .before .before .before .before .before .args .b .now) (c .before .before .before .before .before .before .before .before .before .before .before .before .args .c) (c .before .before .before .before .before .before .before .before .before .before .before .before .pre) (c .before .before .before .before .before .before .before .before .before .before .before .before .args .entries .now) (c .before .before .before .before .before .before .before .before .before .before .before .before .args .size) (c .before .before .before .before .before .if1 .left) (c .before .before .before .before .if2 .left) (c .before .before .before .read-entries .result .wrong) (c .before .before .before .read-entries .ensures .0) (c .if3 .taken), (c .before .before .before .read-entries .ensures .1 .0, λ e. absurd (let f : ⊥ = omega arith in f)))
+
+-- what the pass has read
+reading : (c : tie.Else3) → Read (c .before .before .before .before .before .before .before .before .before .before .before .before .args .c .sizes) (c .before .before .before .before .before .before .before .before .before .before .before .before .args .entries .now) (take (planBytes (c .before .before .before .before .before .before .before .before .before .before .before .before .args .c .sizes)) (c .before .before .before .read-entries .result .places))
+reading c = c .before .before .before .read-entries .ensures .1 .1 (rw add-one at (c .if3 .left))
+
+sub-clause-fault : tie.Need-sub-clause-fault
+sub-clause-fault c = search needs
+
+part-clause-fault-start : tie.Need-part-clause-fault-start
+part-clause-fault-start c = search needs
+
+part-clause-fault-end : tie.Need-part-clause-fault-end
+part-clause-fault-end c = omega (arith, small (c .before .before .before .before .before .before .before .before .before .before .before .before .before), c .before .before .before .before .read-entries .ensures .1 .0)
 
 clause-fault-requires : tie.Need-clause-fault-requires
 clause-fault-requires c κs =
-    let start = c .before .before .before .before .before .before in
-    ((start .pre), laws.valuation (start .args .b .now) (start .args .c) (start .pre) (start .args .entries .now) (start .args .size) (c .before .before .before .if1 .left) (c .before .before .if2 .left) (c .before .entry-fault .result) (c .before .entry-fault .ensures) (c .if3 .left))
+    let q : (c .before .before .before .before .before .before .before .before .before .before .before .before .before .before .args .c .sizes .m + 1) * c .before .before .before .before .before .before .before .before .before .before .before .before .before .before .args .c .sizes .k ≡ planBytes (c .before .before .before .before .before .before .before .before .before .before .before .before .before .before .args .c .sizes) = rw add-one in
+    let e : planBytes (c .before .before .before .before .before .before .before .before .before .before .before .before .before .before .args .c .sizes) ≡ (c .before .before .before .before .before .before .before .before .before .before .before .before .before .before .args .c .sizes .m + 1) * c .before .before .before .before .before .before .before .before .before .before .before .before .before .before .args .c .sizes .k - 0 = omega arith in
+    (c .before .before .before .before .before .before .before .before .before .before .before .before .before .before .pre, subst (λ (x : ℕ). Read (c .before .before .before .before .before .before .before .before .before .before .before .before .before .before .args .c .sizes) (c .before .before .before .before .before .before .before .before .before .before .before .before .before .before .args .entries .now) (take x (c .before .before .before .before .before .read-entries .result .places))) e (reading (c .before .before)))
 
 clause-count-requires : tie.Need-clause-count-requires
-clause-count-requires c κs =
-    let start = c .before .before .before .before .before .before .before in
-    (limits-known (start .args .b .now) (start .args .c) (start .pre))
+clause-count-requires c κs = limits-known (c .before .before .before .before .before .before .before .before .before .before .before .before .before .before .before .args .b .now) (c .before .before .before .before .before .before .before .before .before .before .before .before .before .before .before .args .c) (c .before .before .before .before .before .before .before .before .before .before .before .before .before .before .before .pre)
 
 returns-4 : tie.Need-returns-4
-returns-4 c =
-    let start = c .before .before .before .before .before .before .before .before .before in
-    laws.stop-24 (start .args .b .now) (start .args .c) (start .pre) (start .args .entries .now) (start .args .size) (c .before .before .before .before .before .before .if1 .left) (c .before .before .before .before .before .if2 .left) (c .before .before .before .before .entry-fault .result) (c .before .before .before .before .entry-fault .ensures) (c .before .before .before .if3 .left) (c .before .before .clause-fault .result) (c .before .clause-count .result) (c .before .before .clause-fault .ensures) (c .before .clause-count .ensures) (c .if4 .taken)
+returns-4 c = (laws.stop-24 (c .before .before .before .before .before .before .before .before .before .before .before .before .before .before .before .before .before .args .b .now) (c .before .before .before .before .before .before .before .before .before .before .before .before .before .before .before .before .before .args .c) (c .before .before .before .before .before .before .before .before .before .before .before .before .before .before .before .before .before .pre) (c .before .before .before .before .before .before .before .before .before .before .before .before .before .before .before .before .before .args .entries .now) (c .before .before .before .before .before .before .before .before .before .before .before .before .before .before .before .before .before .args .size) (c .before .before .before .before .before .before .before .before .before .before .if1 .left) (c .before .before .before .before .before .before .before .before .before .if2 .left) (c .before .before .before .before .before .before .before .before .read-entries .result .wrong) (c .before .before .before .before .before .before .before .before .read-entries .ensures .0) (c .before .before .before .before .before .if3 .left) (c .before .before .clause-fault .result) (c .before .clause-count .result) (c .before .before .clause-fault .ensures) (c .before .clause-count .ensures) (c .if4 .taken), (c .before .before .before .before .before .before .before .before .read-entries .ensures .1 .0, λ e. absurd (let f : ⊥ = omega arith in f)))
 
 returns-5 : tie.Need-returns-5
 returns-5 c =
-    let start = c .before .before .before .before .before .before .before .before .before in
-    laws.pass-24 (start .args .b .now) (start .args .c) (start .pre) (start .args .entries .now) (start .args .size) (c .before .before .before .before .before .before .if1 .left) (c .before .before .before .before .before .if2 .left) (c .before .before .before .before .entry-fault .result) (c .before .before .before .before .entry-fault .ensures) (c .before .before .before .if3 .left) (c .before .before .clause-fault .result) (c .before .clause-count .result) (c .before .before .clause-fault .ensures) (c .before .clause-count .ensures) (c .if4 .left)
+    let q = laws.pass-24 (c .before .before .before .before .before .before .before .before .before .before .before .before .before .before .before .before .before .args .b .now) (c .before .before .before .before .before .before .before .before .before .before .before .before .before .before .before .before .before .args .c) (c .before .before .before .before .before .before .before .before .before .before .before .before .before .before .before .before .before .pre) (c .before .before .before .before .before .before .before .before .before .before .before .before .before .before .before .before .before .args .entries .now) (c .before .before .before .before .before .before .before .before .before .before .before .before .before .before .before .before .before .args .size) (c .before .before .before .before .before .before .before .before .before .before .if1 .left) (c .before .before .before .before .before .before .before .before .before .if2 .left) (c .before .before .before .before .before .before .before .before .read-entries .result .wrong) (c .before .before .before .before .before .before .before .before .read-entries .ensures .0) (c .before .before .before .before .before .if3 .left) (c .before .before .clause-fault .result) (c .before .clause-count .result) (c .before .before .clause-fault .ensures) (c .before .clause-count .ensures) (c .if4 .left) in
+    let y = laws.ready (c .before .before .before .before .before .before .before .before .before .before .before .before .before .before .before .before .before .args .b .now) (c .before .before .before .before .before .before .before .before .before .before .before .before .before .before .before .before .before .args .c) (c .before .before .before .before .before .before .before .before .before .before .before .before .before .before .before .before .before .pre) (c .before .before .before .before .before .before .before .before .before .before .before .before .before .before .before .before .before .args .entries .now) (c .before .before .before .before .before .before .before .before .before .before .before .before .before .before .before .before .before .args .size) (sym (ap (λ (x : Answer). x .number) q)) in
+    (q, (c .before .before .before .before .before .before .before .before .read-entries .ensures .1 .0, λ e. (rw add-one, laws.planned (c .before .before .before .before .before .before .before .before .before .before .before .before .before .before .before .before .before .args .b .now) (c .before .before .before .before .before .before .before .before .before .before .before .before .before .before .before .before .before .args .c) (c .before .before .before .before .before .before .before .before .before .before .before .before .before .before .before .before .before .pre) (c .before .before .before .before .before .before .before .before .before .before .before .before .before .before .before .before .before .args .entries .now) (c .before .before .before .before .before .before .before .before .before .before .before .before .before .before .before .before .before .args .size) y _ (reading (c .before .before .before .before .before)))))
 
 pub ask-entries-spec : {M : Type 1} → statement M
 ask-entries-spec =
@@ -79,8 +91,11 @@ ask-entries-spec =
     mul-bytes
     returns
     returns-2
-    entry-fault-requires
+    read-entries-requires
     returns-3
+    sub-clause-fault
+    part-clause-fault-start
+    part-clause-fault-end
     clause-fault-requires
     clause-count-requires
     returns-4

@@ -1,96 +1,108 @@
--- `satisfaction::clause_fault` meets its contract: families A to D are asked first, and where they hold E to G. Assumes nothing.
+-- `satisfaction::clause_fault` meets its contract: the rows and families before have a true literal in every clause, and at is their number of clauses. Assumes nothing.
+use Prim.Native.Nat.{_+_, _-_, _*_, _≤_}
+use mathlib.Core.Path.{_≡_, refl}
 use native.Mathlib.Omega.{arith}
-use lib.ListN.{getD}
-use Rattle.satisfaction.specs.Blocks.{familiesEG}
-use Rattle.satisfaction.proofs.Laws.{fault-within}
-use Rattle.instance.specs.Instance.{adjacent}
-use Rattle.satisfaction.proofs.Whole as whole
-use Rattle.satisfaction.proofs.Bounds.{products}
-use Rattle.calls.proofs.Accepted.{limits-known, sizes-same, starts-length, goals-length}
-use Rattle.edges.proofs.Laws.{searchable}
-use Rattle.calls.specs.Accepted.{instanceOf}
+use borrow.Author.Needs.{needs}
+use native.Mathlib.Numerals.{add-one}
+use lib.ListN.{length, length-append}
+use lib.Dec.{T}
+use Rattle.lists.specs.Loop.{for, all}
+use Rattle.lists.proofs.Loops.{for-all}
+use Rattle.valuation.specs.Valuation.{satisfied?}
+use Rattle.formula.specs.Blocks.{steps, family}
+use Rattle.calls.proofs.Accepted.{limits-known}
+use Rattle.satisfaction.specs.Rows.{Before, held, row}
+use Rattle.satisfaction.proofs.Laws.{block-passed}
+use Rattle.satisfaction.proofs.Families.{in-families, next-family, all-families, whole}
 use Rattle.satisfaction.proofs.clause_fault.Statement.{statement}
 use Rattle.satisfaction.proofs.clause_fault.Tie as tie
 
-add-cells : tie.Need-add-cells
-add-cells c =
-    let start = c .before .before .before .before .before in
-    let l = (limits-known (start .args .b .now) (start .args .c) (start .pre .0)) in let w = products (start .args .c .sizes) l in omega (arith, w .cells, w .pairs, w .D, w .squares, w .twos, w .E, w .moves, w .F, w .G, l .n-most, l .k-most, l .m-most, l .k-least, l .n-least)
+abbrev Inv-loop2 : tie.InvT-loop2
+Inv-loop2 b c entries p s at₀ which count t₀ at t =
+    (t ≤ count) × (at ≤ which * 1081344 + t * 32768) × (at ≡ length (for which (family (held b c))) + length (for t (row (held b c) which)))
+    × T (all (satisfied? entries) (for t (row (held b c) which)))
 
-mul-cells : tie.Need-mul-cells
-mul-cells c =
-    let start = c .before .before .before .before .before in
-    let l = (limits-known (start .args .b .now) (start .args .c) (start .pre .0)) in let w = products (start .args .c .sizes) l in omega (arith, w .cells, w .pairs, w .D, w .squares, w .twos, w .E, w .moves, w .F, w .G, l .n-most, l .k-most, l .m-most, l .k-least, l .n-least)
+abbrev μ-loop2 : tie.MeasureT-loop2
+μ-loop2 b c entries p s at₀ which count t₀ at t = count - t
 
-sub-size : tie.Need-sub-size
-sub-size c =
-    let start = c .before .before .before .before .before in
-    let l = (limits-known (start .args .b .now) (start .args .c) (start .pre .0)) in let w = products (start .args .c .sizes) l in omega (arith, w .cells, w .pairs, w .D, w .squares, w .twos, w .E, w .moves, w .F, w .G, l .n-most, l .k-most, l .m-most, l .k-least, l .n-least)
+abbrev Inv-loop : tie.InvT-loop
+Inv-loop b c entries p s at₀ which₀ at which = (which ≤ 7) × (at ≤ which * 1081344) × (at ≡ length (for which (family (held b c)))) × T (all (satisfied? entries) (for which (family (held b c))))
 
-mul-size : tie.Need-mul-size
-mul-size c =
-    let start = c .before .before .before .before .before in
-    let l = (limits-known (start .args .b .now) (start .args .c) (start .pre .0)) in let w = products (start .args .c .sizes) l in omega (arith, w .cells, w .pairs, w .D, w .squares, w .twos, w .E, w .moves, w .F, w .G, l .n-most, l .k-most, l .m-most, l .k-least, l .n-least)
+abbrev μ-loop : tie.MeasureT-loop
+μ-loop b c entries p s at₀ which₀ at which = 7 - which
 
-add-early : tie.Need-add-early
-add-early c =
-    let start = c .before .before .before .before .before in
-    let l = (limits-known (start .args .b .now) (start .args .c) (start .pre .0)) in let w = products (start .args .c .sizes) l in omega (arith, w .cells, w .pairs, w .D, w .squares, w .twos, w .E, w .moves, w .F, w .G, l .n-most, l .k-most, l .m-most, l .k-least, l .n-least)
+loop-holds : tie.Need-loop-holds Inv-loop2 μ-loop2 Inv-loop μ-loop
+loop-holds c = (omega arith, omega arith, refl, tt)
 
-add-early-2 : tie.Need-add-early-2
-add-early-2 c =
-    let start = c .before .before .before .before .before in
-    let l = (limits-known (start .args .b .now) (start .args .c) (start .pre .0)) in let w = products (start .args .c .sizes) l in omega (arith, w .cells, w .pairs, w .D, w .squares, w .twos, w .E, w .moves, w .F, w .G, l .n-most, l .k-most, l .m-most, l .k-least, l .n-least)
+rows-of-requires : tie.Need-rows-of-requires Inv-loop2 μ-loop2 Inv-loop μ-loop
+rows-of-requires c κs = (limits-known (c .before .before .before .before .before .args .b .now) (c .before .before .before .before .before .args .c) (c .before .before .before .before .before .pre .0), c .loop-test .taken)
 
-mul-early : tie.Need-mul-early
-mul-early c =
-    let start = c .before .before .before .before .before in
-    let l = (limits-known (start .args .b .now) (start .args .c) (start .pre .0)) in let w = products (start .args .c .sizes) l in omega (arith, w .cells, w .pairs, w .D, w .squares, w .twos, w .E, w .moves, w .F, w .G, l .n-most, l .k-most, l .m-most, l .k-least, l .n-least)
+loop2-holds : tie.Need-loop2-holds Inv-loop2 μ-loop2 Inv-loop μ-loop
+loop2-holds c = (omega arith, omega (arith, c .before .before .loop .inv .1), omega (arith, c .before .before .loop .inv .2), tt)
 
-add-early-3 : tie.Need-add-early-3
-add-early-3 c =
-    let start = c .before .before .before .before .before in
-    let l = (limits-known (start .args .b .now) (start .args .c) (start .pre .0)) in let w = products (start .args .c .sizes) l in omega (arith, w .cells, w .pairs, w .D, w .squares, w .twos, w .E, w .moves, w .F, w .G, l .n-most, l .k-most, l .m-most, l .k-least, l .n-least)
+row-fault-requires : tie.Need-row-fault-requires Inv-loop2 μ-loop2 Inv-loop μ-loop
+unfolding Before
+row-fault-requires c κs = (c .before .before .before .before .before .before .before .before .pre .0, (c .before .before .before .before .before .before .before .before .pre .1, (c .before .before .before .loop-test .taken, omega (arith, c .loop2-test .taken, c .before .before .rows-of .ensures .0), for-all (satisfied? (c .before .before .before .before .before .before .before .before .args .entries .now)) (c .before .before .before .before .loop .which) (family (held (c .before .before .before .before .before .before .before .before .args .b .now) (c .before .before .before .before .before .before .before .before .args .c))) .0 (c .before .before .before .before .loop .inv .3))))
 
-fault-ad-requires : tie.Need-fault-ad-requires
-fault-ad-requires c κs =
-    let start = c .before .before .before .before .before in
-    ((limits-known (start .args .b .now) (start .args .c) (start .pre .0)), ((start .pre .1), ((starts-length (start .args .b .now) (start .args .c) (start .pre .0), whole.starts-inside (start .args .b .now) (start .args .c) (start .pre .0) (start .args .entries .now)), (goals-length (start .args .b .now) (start .args .c) (start .pre .0), whole.goals-inside (start .args .b .now) (start .args .c) (start .pre .0) (start .args .entries .now)))))
+add-result : tie.Need-add-result Inv-loop2 μ-loop2 Inv-loop μ-loop
+add-result c = omega (arith, c .before .before .before .before .before .loop2 .inv .0, c .before .before .before .before .before .loop2 .inv .1, c .before .before .before .before .before .before .rows-of .ensures .1, c .before .before .before .row-fault .ensures .0 .1, c .before .before .before .before .before .before .before .loop-test .taken, c .before .if1 .taken)
 
-returns : tie.Need-returns
-returns c =
-    let start = c .before .before .before .before .before .before .before in
-    whole.early (start .args .b .now) (start .args .c) (start .pre .0) (start .args .entries .now) (c .before .fault-ad .result) (c .before .fault-ad .ensures) (c .if1 .taken)
+returns : tie.Need-returns Inv-loop2 μ-loop2 Inv-loop μ-loop
+returns c = whole (c .before .before .before .before .before .before .before .before .before .before .before .before .args .b .now) (c .before .before .before .before .before .before .before .before .before .before .before .before .args .c) (c .before .before .before .before .before .before .before .before .before .before .before .before .pre .0) (c .before .before .before .before .before .before .before .before .before .before .before .before .args .entries .now) _ (in-families (held (c .before .before .before .before .before .before .before .before .before .before .before .before .args .b .now) (c .before .before .before .before .before .before .before .before .before .before .before .before .args .c)) (c .before .before .before .before .before .before .before .before .before .before .before .before .args .entries .now) (c .before .before .before .before .before .before .before .before .loop .which) (c .before .before .before .before .before .loop2 .at) (c .before .before .before .before .before .loop2 .t) (c .before .before .before .before .before .before .before .before .loop .inv .3) (c .before .before .before .before .before .loop2 .inv .2) (c .before .before .before .before .before .loop2 .inv .3) (c .before .before .before .row-fault .result .fault) (c .before .before .before .before .before .before .before .loop-test .taken) (omega (arith, c .before .before .before .before .loop2-test .taken, c .before .before .before .before .before .before .rows-of .ensures .0)) (c .before .before .before .row-fault .ensures .1) (omega (arith, c .before .before .before .row-fault .ensures .0 .0, c .before .if1 .taken)))
 
-fault-eg-requires : tie.Need-fault-eg-requires
-fault-eg-requires c κs =
-    let start = c .before .before .before .before .before .before .before in
-    ((limits-known (start .args .b .now) (start .args .c) (start .pre .0)), ((start .pre .1), (whole.one-place (start .args .c .sizes) (instanceOf (start .args .b .now) (start .args .c)) (sizes-same (start .args .b .now) (start .args .c) (start .pre .0)) (start .args .entries .now) (λ a. getD (start .args .c .starts) a 0) (λ a. getD (start .args .c .goals) a 0) (start .pre .1) (whole.passed-AD (start .args .b .now) (start .args .c) (start .pre .0) (start .args .entries .now) (c .before .fault-ad .result) (c .before .fault-ad .ensures) (c .if1 .left)), searchable (start .args .b .now) (start .args .c) (start .pre .0))))
+add-at : tie.Need-add-at Inv-loop2 μ-loop2 Inv-loop μ-loop
+add-at c = omega (arith, c .before .before .before .before .before .loop2 .inv .0, c .before .before .before .before .before .loop2 .inv .1, c .before .before .before .before .before .before .rows-of .ensures .1, c .before .before .before .row-fault .ensures .0 .1, c .before .before .before .before .before .before .before .loop-test .taken)
 
-add-result : tie.Need-add-result
-add-result c =
-    let start = c .before .before .before .before .before .before .before .before in
-    let q = fault-within (start .args .entries .now) (familiesEG (start .args .c .sizes) (adjacent (instanceOf (start .args .b .now) (start .args .c)))) (c .fault-eg .result) (c .fault-eg .ensures) in let l = (limits-known (start .args .b .now) (start .args .c) (start .pre .0)) in let w = products (start .args .c .sizes) l in omega (arith, w .cells, w .pairs, w .D, w .squares, w .twos, w .E, w .moves, w .F, w .G, l .n-most, l .k-most, l .m-most, l .k-least, l .n-least, whole.size-EG (start .args .c .sizes) (adjacent (instanceOf (start .args .b .now) (start .args .c))) (l .k-least))
+add-t : tie.Need-add-t Inv-loop2 μ-loop2 Inv-loop μ-loop
+add-t c = omega (arith, c .before .before .before .before .loop2-test .taken, c .before .before .before .before .before .before .rows-of .ensures .1)
 
-returns-2 : tie.Need-returns-2
+loop2-less : tie.Need-loop2-less Inv-loop2 μ-loop2 Inv-loop μ-loop
+loop2-less c = search needs
+
+loop2-again : tie.Need-loop2-again Inv-loop2 μ-loop2 Inv-loop μ-loop
+loop2-again c = (
+  omega (arith, c .before .before .before .before .loop2-test .taken),
+  omega (arith, c .before .before .before .before .before .loop2 .inv .1, c .before .before .before .row-fault .ensures .0 .1),
+  rw add-one (rw length-append (omega (arith, c .before .before .before .before .before .loop2 .inv .2, c .before .before .before .row-fault .ensures .0 .0))),
+  block-passed (c .before .before .before .before .before .before .before .before .before .before .before .before .args .entries .now) (row (held (c .before .before .before .before .before .before .before .before .before .before .before .before .args .b .now) (c .before .before .before .before .before .before .before .before .before .before .before .before .args .c)) (c .before .before .before .before .before .before .before .before .loop .which)) (c .before .before .before .before .before .loop2 .t) (c .before .before .before .row-fault .result .fault) (c .before .before .before .before .before .loop2 .inv .3) (c .before .before .before .row-fault .ensures .1) (omega (arith, c .before .before .before .row-fault .ensures .0 .0, c .before .if1 .left)),
+)
+
+add-which : tie.Need-add-which Inv-loop2 μ-loop2 Inv-loop μ-loop
+add-which c = search needs
+
+loop-less : tie.Need-loop-less Inv-loop2 μ-loop2 Inv-loop μ-loop
+loop-less c = search needs
+
+loop-again : tie.Need-loop-again Inv-loop2 μ-loop2 Inv-loop μ-loop
+loop-again c =
+    let e : c .before .loop2 .t ≡ steps (c .before .before .before .before .before .before .before .before .args .c .sizes) (c .before .before .before .before .loop .which) = omega (arith, c .before .loop2 .inv .0, c .loop2-test .left, c .before .before .rows-of .ensures .0) in
+    let o = next-family (held (c .before .before .before .before .before .before .before .before .args .b .now) (c .before .before .before .before .before .before .before .before .args .c)) (c .before .before .before .before .before .before .before .before .args .entries .now) (c .before .before .before .before .loop .which) (c .before .loop2 .at) (c .before .loop2 .t) (c .before .before .before .before .loop .inv .3) (c .before .loop2 .inv .2) (c .before .loop2 .inv .3) e in
+    (omega (arith, c .before .before .before .loop-test .taken), omega (arith, c .before .loop2 .inv .0, c .before .loop2 .inv .1, c .before .before .rows-of .ensures .1), o .0, o .1)
+
+returns-2 : tie.Need-returns-2 Inv-loop2 μ-loop2 Inv-loop μ-loop
 returns-2 c =
-    let start = c .before .before .before .before .before .before .before .before in
-    whole.later (start .args .b .now) (start .args .c) (start .pre .0) (start .args .entries .now) (c .fault-eg .result) (whole.passed-AD (start .args .b .now) (start .args .c) (start .pre .0) (start .args .entries .now) (c .before .before .fault-ad .result) (c .before .before .fault-ad .ensures) (c .before .if1 .left)) (c .fault-eg .ensures)
+    let e : c .before .loop .which ≡ 7 = omega arith in
+    whole (c .before .before .before .before .before .args .b .now) (c .before .before .before .before .before .args .c) (c .before .before .before .before .before .pre .0) (c .before .before .before .before .before .args .entries .now) _ (all-families (held (c .before .before .before .before .before .args .b .now) (c .before .before .before .before .before .args .c)) (c .before .before .before .before .before .args .entries .now) (c .before .loop .at) (rw e at (c .before .loop .inv .2)) (rw e at (c .before .loop .inv .3)))
 
 pub clause-fault-spec : {M : Type 1} → statement M
 clause-fault-spec =
     tie.close
     (tie.spec
-    add-cells
-    mul-cells
-    sub-size
-    mul-size
-    add-early
-    add-early-2
-    mul-early
-    add-early-3
-    fault-ad-requires
-    returns
-    fault-eg-requires
+    Inv-loop2
+    μ-loop2
+    Inv-loop
+    μ-loop
+    loop-holds
+    rows-of-requires
+    loop2-holds
+    row-fault-requires
     add-result
+    returns
+    add-at
+    add-t
+    loop2-less
+    loop2-again
+    add-which
+    loop-less
+    loop-again
     returns-2)

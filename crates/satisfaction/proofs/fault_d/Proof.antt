@@ -1,118 +1,116 @@
--- `satisfaction::fault_d` meets its contract: the blocks before i have a true literal in every clause; the first fault is in the first block with one. Assumes nothing.
-use mathlib.Core.Path.{_≡_, subst}
-use Prim.Native.Nat.{ℕ, suc, _+_, _-_, _*_, _/_, _%_, _≤_, _<_}
-use native.Mathlib.Nat.{mul-le-mul-right}
-use native.Mathlib.Numerals.{add-one}
+-- `satisfaction::fault_d` meets its contract: the first two vertices of the first agent with several. Assumes nothing.
+use Prim.Native.Nat.{_+_, _-_, _*_, _/_, _≤_, _<_}
 use native.Mathlib.Omega.{arith}
-use lib.Dec.{T}
-use Rattle.lists.specs.Loop.{for, all}
-use Rattle.valuation.specs.Valuation.{satisfied?}
-use Rattle.satisfaction.specs.Blocks.{vertexPairs}
-use Rattle.satisfaction.proofs.Bounds.{Products, products}
-use Rattle.satisfaction.proofs.Laws.{cell-at, blocks-stop, blocks-pass, block-passed}
-use Rattle.satisfaction.proofs.Truth.{length-D}
-use borrow.Author.Needs.{needs}
+use native.Mathlib.Numerals.{add-one}
+use lib.ListN.{length}
+use Rattle.satisfaction.proofs.Bounds.{Products, products, row-fits, blocks-fit, entries-fit}
+use Rattle.satisfaction.proofs.Truth.{none-D, first-D, second-D, here-D}
 use Rattle.satisfaction.proofs.fault_d.Statement.{statement}
 use Rattle.satisfaction.proofs.fault_d.Tie as tie
 
-abbrev Inv-loop : tie.InvT-loop
-Inv-loop entries s n k size cells i₀ i = (i ≤ cells) × T (all (satisfied? entries) (for i λ j. vertexPairs s (j / k) (j % k)))
-
-abbrev μ-loop : tie.MeasureT-loop
-μ-loop entries s n k size cells i₀ i = cells - i
-
-known : (s : tie.Start Inv-loop μ-loop) → Products (s .args .s)
+known : (s : tie.Start) → Products (s .args .s)
 known s = products (s .args .s) (s .pre .0)
 
--- item i is one of the block's
-cell : (c : tie.In-loop Inv-loop μ-loop) → (c .before .loop .i / c .before .before .before .args .s .k < suc (c .before .before .before .args .s .m)) × (c .before .loop .i % c .before .before .before .args .s .k < c .before .before .before .args .s .k)
-cell c =
-    let start = c .before .before .before in
-    cell-at (suc (start .args .s .m)) (start .args .s .k) (c .before .loop .i) (start .pre .0 .k-least) (rw add-one at (c .loop-test .taken))
+-- row t stands within the plan
+room : (s : tie.Start) → (s .args .t * s .args .s .k + s .args .s .k ≤ length (s .args .p .now)) × (length (s .args .p .now) ≤ 528)
+room s = let e = s .pre .1 .0 .size in (omega (arith, row-fits (s .args .s) (s .args .t) (s .pre .1 .1)), omega (arith, known s .cells))
 
-sub-size : tie.Need-sub-size Inv-loop μ-loop
-sub-size c = omega (arith, c .pre .0 .n-least)
+pairs-of-requires : tie.Need-pairs-of-requires
+pairs-of-requires c κs = (c .before .pre .0 .n-least, c .before .pre .0 .n-most)
 
-mul-size : tie.Need-mul-size Inv-loop μ-loop
-mul-size c = omega (arith, known c .pairs)
+mul-row : tie.Need-mul-row
+mul-row c = omega (arith, room (c .before .before))
 
-add-cells : tie.Need-add-cells Inv-loop μ-loop
-add-cells c = omega (arith, c .before .pre .0 .m-most)
+add-first-on : tie.Need-add-first-on
+add-first-on c = omega (arith, c .before .before .pre .0 .n-most)
 
-mul-cells : tie.Need-mul-cells Inv-loop μ-loop
-mul-cells c = omega (arith, known (c .before) .cells)
+cast-first-on : tie.Need-cast-first-on
+cast-first-on c = omega (arith, c .before .before .pre .0 .n-most)
 
-loop-holds : tie.Need-loop-holds Inv-loop μ-loop
-loop-holds c = (omega arith, tt)
+first-on-requires : tie.Need-first-on-requires
+first-on-requires c κs = room (c .before .before) .0
 
-div-t : tie.Need-div-t Inv-loop μ-loop
-div-t c = omega (arith, c .before .before .before .pre .0 .k-least)
+mul-result : tie.Need-mul-result
+mul-result c = rw (c .before .before .pairs-of .ensures .0) (omega (arith, known (c .before .before .before .before) .D))
 
-rem-a : tie.Need-rem-a Inv-loop μ-loop
-rem-a c = omega (arith, c .before .before .before .pre .0 .k-least)
+returns : tie.Need-returns
+returns c = rw (c .before .before .pairs-of .ensures .0) (none-D (c .before .before .before .before .args .s) (c .before .before .before .before .args .entries .now) (c .before .before .before .before .pre .1 .0 .valid) (c .before .before .before .before .args .p .now) (c .before .before .before .before .pre .1 .0) (c .before .before .before .before .args .t) (let h = c .before .before .before .before .pre .1 .1 in omega arith) (c .before .before .before .before .args .s .n + 1) (c .before .first-on .result) (add-one _) (c .before .first-on .ensures) (c .if1 .taken))
 
-block-d-requires : tie.Need-block-d-requires Inv-loop μ-loop
-block-d-requires c κs =
-    let start = c .before .before .before in
-    (start .pre .0, (start .pre .1, (omega (arith, cell c .0), cell c .1)))
+-- the agent's entries
+ends : (c : tie.Else1) → ((c .before .before .before .before .args .t * c .before .before .before .before .args .s .k + c .before .first-on .result) * c .before .before .before .before .args .s .n + c .before .before .before .before .args .s .n ≤ length (c .before .before .before .before .args .entries .now)) × (length (c .before .before .before .before .args .entries .now) ≤ 33792) × (c .before .first-on .result < c .before .before .before .before .args .s .k) × (c .before .before .before .before .args .t * c .before .before .before .before .args .s .k + c .before .first-on .result < 528)
+ends c =
+    let l : c .before .first-on .result < c .before .before .before .before .args .s .k = omega (arith, c .before .first-on .ensures .within, c .if1 .left) in
+    let o = entries-fit (c .before .before .before .before .args .s) (c .before .before .before .before .args .t * c .before .before .before .before .args .s .k + c .before .first-on .result) (c .before .before .before .before .pre .0) (omega (arith, room (c .before .before .before .before) .0, c .before .before .before .before .pre .1 .0 .size)) in
+    let e = c .before .before .before .before .pre .1 .0 .valid .size in
+    (omega (arith, o .0), omega (arith, o .1), l, omega (arith, room (c .before .before .before .before)))
 
-mul-result : tie.Need-mul-result Inv-loop μ-loop
-mul-result c =
-    let start = c .before .before .before .before .before in
-    omega (arith, known start .D, mul-le-mul-right (start .args .s .n * (start .args .s .n - 1) / 2) (c .before .before .before .loop .inv .0))
+add-base : tie.Need-add-base
+add-base c = omega (arith, ends c)
 
-add-result : tie.Need-add-result Inv-loop μ-loop
-add-result c =
-    let start = c .before .before .before .before .before in
-    omega (arith, known start .D, mul-le-mul-right (start .args .s .n * (start .args .s .n - 1) / 2) (c .before .before .before .loop .inv .0), known start .pairs, c .if1 .taken)
+mul-base : tie.Need-mul-base
+mul-base c = omega (arith, ends c)
 
-returns : tie.Need-returns Inv-loop μ-loop
-returns c =
-    let start = c .before .before .before .before .before in
-    let turn = c .before .before .before .loop in
-    blocks-stop (start .args .entries .now) (λ i. vertexPairs (start .args .s) (i / start .args .s .k) (i % start .args .s .k)) (start .args .s .n * (start .args .s .n - 1) / 2) (suc (start .args .s .m) * start .args .s .k) (turn .i) (c .before .block-d .result) (λ j. length-D (start .args .s) (j / start .args .s .k) (j % start .args .s .k)) (rw add-one at (c .before .before .loop-test .taken)) (turn .inv .1) (c .before .block-d .ensures) (c .if1 .taken)
+add-end : tie.Need-add-end
+add-end c = omega (arith, ends c)
 
-add-i : tie.Need-add-i Inv-loop μ-loop
-add-i c = omega (arith, known (c .before .before .before .before .before) .cells)
+stop-from-requires : tie.Need-stop-from-requires
+stop-from-requires c κs = (omega arith, omega (arith, ends c), omega (arith, ends c))
 
-loop-less : tie.Need-loop-less Inv-loop μ-loop
-loop-less c = search needs
+-- the first two vertices
+first : (c : tie.After-stop-from) → c .stop-from .result < (c .before .before .before .before .before .args .t * c .before .before .before .before .before .args .s .k + c .before .before .first-on .result) * c .before .before .before .before .before .args .s .n + c .before .before .before .before .before .args .s .n
+first c = first-D (c .before .before .before .before .before .args .s) (c .before .before .before .before .before .args .entries .now) (c .before .before .before .before .before .pre .1 .0 .valid) (c .before .before .before .before .before .args .p .now) (c .before .before .before .before .before .pre .1 .0) (c .before .before .before .before .before .args .t) (let h = c .before .before .before .before .before .pre .1 .1 in omega arith) (c .before .before .before .before .before .args .s .n + 1) (c .before .before .first-on .result) (add-one _) (c .before .before .first-on .ensures) (c .before .if1 .left) (c .stop-from .result) 0 (c .stop-from .ensures)
 
-loop-again : tie.Need-loop-again Inv-loop μ-loop
-loop-again c =
-    let start = c .before .before .before .before .before in
-    let turn = c .before .before .before .loop in
-    (omega arith, block-passed (start .args .entries .now) (λ i. vertexPairs (start .args .s) (i / start .args .s .k) (i % start .args .s .k)) (turn .i) (c .before .block-d .result) (turn .inv .1) (c .before .block-d .ensures) (omega (arith, (length-D (start .args .s) (turn .i / start .args .s .k) (turn .i % start .args .s .k)), c .if1 .left)))
+second : (c : tie.After-stop-from2) → c .stop-from2 .result < (c .before .before .before .before .before .before .args .t * c .before .before .before .before .before .before .args .s .k + c .before .before .before .first-on .result) * c .before .before .before .before .before .before .args .s .n + c .before .before .before .before .before .before .args .s .n
+second c = second-D (c .before .before .before .before .before .before .args .s) (c .before .before .before .before .before .before .args .entries .now) (c .before .before .before .before .before .before .pre .1 .0 .valid) (c .before .before .before .before .before .before .args .p .now) (c .before .before .before .before .before .before .pre .1 .0) (c .before .before .before .before .before .before .args .t) (let h = c .before .before .before .before .before .before .pre .1 .1 in omega arith) (c .before .before .before .before .before .before .args .s .n + 1) (c .before .before .before .first-on .result) (add-one _) (c .before .before .before .first-on .ensures) (c .before .before .if1 .left) (c .before .stop-from .result) (c .stop-from2 .result) (c .before .stop-from .ensures) (c .stop-from2 .ensures)
 
-mul-result-2 : tie.Need-mul-result-2 Inv-loop μ-loop
-mul-result-2 c = omega (arith, known (c .before .before .before) .D)
+add-stop-from : tie.Need-add-stop-from
+add-stop-from c = omega (arith, first c, ends (c .before))
 
-returns-2 : tie.Need-returns-2 Inv-loop μ-loop
-returns-2 c =
-    let start = c .before .before .before in
-    let turn = c .before .loop in
-    let e : turn .i ≡ suc (start .args .s .m) * start .args .s .k = rw add-one at (let e : turn .i ≡ (start .args .s .m + 1) * start .args .s .k = omega arith in e) in
-    rw add-one (blocks-pass (start .args .entries .now) (λ i. vertexPairs (start .args .s) (i / start .args .s .k) (i % start .args .s .k)) (start .args .s .n * (start .args .s .n - 1) / 2) (suc (start .args .s .m) * start .args .s .k) (λ j. length-D (start .args .s) (j / start .args .s .k) (j % start .args .s .k)) (subst (λ (j : ℕ). T (all (satisfied? (start .args .entries .now)) (for j (λ i. vertexPairs (start .args .s) (i / start .args .s .k) (i % start .args .s .k))))) e (turn .inv .1)))
+stop-from-requires-2 : tie.Need-stop-from-requires-2
+stop-from-requires-2 c κs = (omega (arith, first c), omega (arith, ends (c .before)), omega (arith, ends (c .before)))
+
+mul-result-2 : tie.Need-mul-result-2
+mul-result-2 c = rw (c .before .before .before .before .pairs-of .ensures .0) (omega (arith, known (c .before .before .before .before .before .before) .D, blocks-fit _ _ (c .before .before .before .before .before .before .args .s .n * (c .before .before .before .before .before .before .args .s .n - 1) / 2) (c .before .before .before .first-on .ensures .within)))
+
+sub-pair-at : tie.Need-sub-pair-at
+sub-pair-at c = omega (arith, c .before .stop-from .ensures .least)
+
+sub-pair-at-2 : tie.Need-sub-pair-at-2
+sub-pair-at-2 c = omega (arith, c .stop-from2 .ensures .least)
+
+sub-pair-at-3 : tie.Need-sub-pair-at-3
+sub-pair-at-3 c = omega (arith, c .stop-from2 .ensures .least)
+
+pair-at-requires : tie.Need-pair-at-requires
+pair-at-requires c κs = (omega (arith, c .before .stop-from .ensures .least, first (c .before)), c .before .before .before .before .before .before .pre .0 .n-most, omega (arith, c .before .stop-from .ensures .least, c .stop-from2 .ensures .least, second c, c .before .before .before .before .before .before .pre .0 .n-most))
+
+add-result : tie.Need-add-result
+add-result c = rw (c .before .before .before .before .before .pairs-of .ensures .0) (omega (arith, known (c .before .before .before .before .before .before .before) .D, blocks-fit _ _ (c .before .before .before .before .before .before .before .args .s .n * (c .before .before .before .before .before .before .before .args .s .n - 1) / 2) (c .before .before .before .before .first-on .ensures .within), c .pair-at .ensures .1))
+
+returns-2 : tie.Need-returns-2
+returns-2 c = rw (c .before .before .before .before .before .pairs-of .ensures .0, c .pair-at .ensures .0) (here-D (c .before .before .before .before .before .before .before .args .s) (c .before .before .before .before .before .before .before .args .entries .now) (c .before .before .before .before .before .before .before .pre .1 .0 .valid) (c .before .before .before .before .before .before .before .args .p .now) (c .before .before .before .before .before .before .before .pre .1 .0) (c .before .before .before .before .before .before .before .args .t) (let h = c .before .before .before .before .before .before .before .pre .1 .1 in omega arith) (c .before .before .before .before .before .before .before .args .s .n + 1) (c .before .before .before .before .first-on .result) (add-one _) (c .before .before .before .before .first-on .ensures) (c .before .before .before .if1 .left) (c .before .before .stop-from .result) (c .before .stop-from2 .result) (c .before .before .stop-from .ensures) (c .before .stop-from2 .ensures))
 
 pub fault-d-spec : {M : Type 1} → statement M
 fault-d-spec =
     tie.close
     (tie.spec
-    Inv-loop
-    μ-loop
-    sub-size
-    mul-size
-    add-cells
-    mul-cells
-    loop-holds
-    div-t
-    rem-a
-    block-d-requires
+    pairs-of-requires
+    mul-row
+    add-first-on
+    cast-first-on
+    first-on-requires
     mul-result
-    add-result
     returns
-    add-i
-    loop-less
-    loop-again
+    add-base
+    mul-base
+    add-end
+    stop-from-requires
+    add-stop-from
+    stop-from-requires-2
     mul-result-2
+    sub-pair-at
+    sub-pair-at-2
+    sub-pair-at-3
+    pair-at-requires
+    add-result
     returns-2)

@@ -1,118 +1,105 @@
--- `satisfaction::fault_e` meets its contract: the blocks before i have a true literal in every clause; the first fault is in the first block with one. Assumes nothing.
-use mathlib.Core.Path.{_≡_, subst}
-use Prim.Native.Nat.{ℕ, suc, _+_, _-_, _*_, _/_, _%_, _≤_, _<_}
-use native.Mathlib.Nat.{mul-le-mul-right}
-use native.Mathlib.Numerals.{add-one}
+-- `satisfaction::fault_e` meets its contract: the first shared vertex, its first agent and the next. Assumes nothing.
+use Prim.Native.Nat.{ℕ, _+_, _-_, _*_, _/_, _≤_, _<_}
+use mathlib.Core.Path.{_≡_, refl, ap}
 use native.Mathlib.Omega.{arith}
-use lib.Dec.{T}
-use Rattle.lists.specs.Loop.{for, all}
-use Rattle.valuation.specs.Valuation.{satisfied?}
-use Rattle.satisfaction.specs.Blocks.{agentPairs}
-use Rattle.satisfaction.proofs.Bounds.{Products, products}
-use Rattle.satisfaction.proofs.Laws.{cell-at, blocks-stop, blocks-pass, block-passed}
-use Rattle.satisfaction.proofs.Truth.{length-E}
-use borrow.Author.Needs.{needs}
+use mathlib.Core.Bool.{not}
+use lib.ListN.{length, getD}
+use lib.Dec.{eqb}
+use Rattle.answers.specs.Fault.{FirstFault}
+use Rattle.plan.specs.Plan.{place}
+use Rattle.satisfaction.proofs.Bounds.{Products, products, row-fits, blocks-fit}
+use Rattle.satisfaction.proofs.Steps.{shared-agent, fault-cong}
+use Rattle.satisfaction.proofs.Truth.{none-E, here-E}
 use Rattle.satisfaction.proofs.fault_e.Statement.{statement}
 use Rattle.satisfaction.proofs.fault_e.Tie as tie
 
-abbrev Inv-loop : tie.InvT-loop
-Inv-loop entries s n k size cells i₀ i = (i ≤ cells) × T (all (satisfied? entries) (for i λ j. agentPairs s (j / n) (j % n)))
-
-abbrev μ-loop : tie.MeasureT-loop
-μ-loop entries s n k size cells i₀ i = cells - i
-
-known : (s : tie.Start Inv-loop μ-loop) → Products (s .args .s)
+known : (s : tie.Start) → Products (s .args .s)
 known s = products (s .args .s) (s .pre .0)
 
--- item i is one of the block's
-cell : (c : tie.In-loop Inv-loop μ-loop) → (c .before .loop .i / c .before .before .before .args .s .n < suc (c .before .before .before .args .s .m)) × (c .before .loop .i % c .before .before .before .args .s .n < c .before .before .before .args .s .n)
-cell c =
-    let start = c .before .before .before in
-    cell-at (suc (start .args .s .m)) (start .args .s .n) (c .before .loop .i) (start .pre .0 .n-least) (rw add-one at (c .loop-test .taken))
+-- row t stands within the plan
+room : (s : tie.Start) → (s .args .t * s .args .s .k + s .args .s .k ≤ length (s .args .p .now)) × (length (s .args .p .now) ≤ 528)
+room s = let e = s .pre .1 .0 in (omega (arith, row-fits (s .args .s) (s .args .t) (s .pre .1 .1)), omega (arith, known s .cells))
 
-sub-size : tie.Need-sub-size Inv-loop μ-loop
-sub-size c = omega (arith, c .pre .0 .k-least)
+pairs-of-requires : tie.Need-pairs-of-requires
+pairs-of-requires c κs = (c .before .pre .0 .k-least, omega (arith, c .before .pre .0 .k-most))
 
-mul-size : tie.Need-mul-size Inv-loop μ-loop
-mul-size c = omega (arith, known c .twos)
+mul-row : tie.Need-mul-row
+mul-row c = omega (arith, room (c .before .before))
 
-add-cells : tie.Need-add-cells Inv-loop μ-loop
-add-cells c = omega (arith, c .before .pre .0 .m-most)
+lowest-shared-requires : tie.Need-lowest-shared-requires
+lowest-shared-requires c κs = room (c .before .before) .0
 
-mul-cells : tie.Need-mul-cells Inv-loop μ-loop
-mul-cells c = omega (arith, known (c .before) .squares)
+mul-result : tie.Need-mul-result
+mul-result c = rw (c .before .before .pairs-of .ensures .0) (omega (arith, known (c .before .before .before .before) .E))
 
-loop-holds : tie.Need-loop-holds Inv-loop μ-loop
-loop-holds c = (omega arith, tt)
+returns : tie.Need-returns
+returns c = λ es w c′. rw (c .before .before .pairs-of .ensures .0) (none-E (c .before .before .before .before .args .s) es w (place (c .before .before .before .before .args .s) (c .before .before .before .before .args .p .now)) c′ (c .before .before .before .before .args .t) (let h = c .before .before .before .before .pre .1 .1 in omega arith) (c .before .lowest-shared .result) (c .before .lowest-shared .ensures) (c .if1 .taken))
 
-div-t : tie.Need-div-t Inv-loop μ-loop
-div-t c = omega (arith, c .before .before .before .pre .0 .n-least)
+cast-first-on : tie.Need-cast-first-on
+cast-first-on c = omega (arith, c .before .lowest-shared .ensures .within, c .before .before .before .before .pre .0 .n-most)
 
-rem-v : tie.Need-rem-v Inv-loop μ-loop
-rem-v c = omega (arith, c .before .before .before .pre .0 .n-least)
+first-on-requires : tie.Need-first-on-requires
+first-on-requires c κs = room (c .before .before .before .before) .0
 
-block-e-requires : tie.Need-block-e-requires Inv-loop μ-loop
-block-e-requires c κs =
-    let start = c .before .before .before in
-    (start .pre .0, (start .pre .1, (omega (arith, cell c .0), cell c .1)))
+-- the first agent on that vertex
+agent : (c : tie.After-first-on) → c .first-on .result < c .before .before .before .before .before .args .s .k
+agent c = shared-agent (c .before .before .before .before .before .args .s .k) _ (c .before .before .before .before .before .args .s .n) (c .before .before .lowest-shared .result) (c .before .before .lowest-shared .ensures) (c .before .if1 .left) (c .before .before .lowest-shared .result) (c .first-on .result) refl (c .first-on .ensures)
 
-mul-result : tie.Need-mul-result Inv-loop μ-loop
-mul-result c =
-    let start = c .before .before .before .before .before in
-    omega (arith, known start .E, mul-le-mul-right (start .args .s .k * (start .args .s .k - 1) / 2) (c .before .before .before .loop .inv .0))
+add-first-on : tie.Need-add-first-on
+add-first-on c = omega (arith, agent c, room (c .before .before .before .before .before))
 
-add-result : tie.Need-add-result Inv-loop μ-loop
-add-result c =
-    let start = c .before .before .before .before .before in
-    omega (arith, known start .E, mul-le-mul-right (start .args .s .k * (start .args .s .k - 1) / 2) (c .before .before .before .loop .inv .0), known start .twos, c .if1 .taken)
+add-first-on-2 : tie.Need-add-first-on-2
+add-first-on-2 c = omega (arith, agent c, room (c .before .before .before .before .before))
 
-returns : tie.Need-returns Inv-loop μ-loop
-returns c =
-    let start = c .before .before .before .before .before in
-    let turn = c .before .before .before .loop in
-    blocks-stop (start .args .entries .now) (λ i. agentPairs (start .args .s) (i / start .args .s .n) (i % start .args .s .n)) (start .args .s .k * (start .args .s .k - 1) / 2) (suc (start .args .s .m) * start .args .s .n) (turn .i) (c .before .block-e .result) (λ j. length-E (start .args .s) (j / start .args .s .n) (j % start .args .s .n)) (rw add-one at (c .before .before .loop-test .taken)) (turn .inv .1) (c .before .block-e .ensures) (c .if1 .taken)
+sub-first-on : tie.Need-sub-first-on
+sub-first-on c = omega (arith, agent c, room (c .before .before .before .before .before))
 
-add-i : tie.Need-add-i Inv-loop μ-loop
-add-i c = omega (arith, known (c .before .before .before .before .before) .squares)
+sub-first-on-2 : tie.Need-sub-first-on-2
+sub-first-on-2 c = omega (arith, agent c, room (c .before .before .before .before .before))
 
-loop-less : tie.Need-loop-less Inv-loop μ-loop
-loop-less c = search needs
+cast-first-on-2 : tie.Need-cast-first-on-2
+cast-first-on-2 c = omega (arith, c .before .before .lowest-shared .ensures .within, c .before .before .before .before .before .pre .0 .n-most)
 
-loop-again : tie.Need-loop-again Inv-loop μ-loop
-loop-again c =
-    let start = c .before .before .before .before .before in
-    let turn = c .before .before .before .loop in
-    (omega arith, block-passed (start .args .entries .now) (λ i. agentPairs (start .args .s) (i / start .args .s .n) (i % start .args .s .n)) (turn .i) (c .before .block-e .result) (turn .inv .1) (c .before .block-e .ensures) (omega (arith, (length-E (start .args .s) (turn .i / start .args .s .n) (turn .i % start .args .s .n)), c .if1 .left)))
+first-on-requires-2 : tie.Need-first-on-requires-2
+first-on-requires-2 c κs = omega (arith, agent c, room (c .before .before .before .before .before))
 
-mul-result-2 : tie.Need-mul-result-2 Inv-loop μ-loop
-mul-result-2 c = omega (arith, known (c .before .before .before) .E)
+mul-result-2 : tie.Need-mul-result-2
+mul-result-2 c = rw (c .before .before .before .before .pairs-of .ensures .0) (omega (arith, known (c .before .before .before .before .before .before) .E, blocks-fit _ _ (c .before .before .before .before .before .before .args .s .k * (c .before .before .before .before .before .before .args .s .k - 1) / 2) (c .before .before .before .lowest-shared .ensures .within)))
 
-returns-2 : tie.Need-returns-2 Inv-loop μ-loop
-returns-2 c =
-    let start = c .before .before .before in
-    let turn = c .before .loop in
-    let e : turn .i ≡ suc (start .args .s .m) * start .args .s .n = rw add-one at (let e : turn .i ≡ (start .args .s .m + 1) * start .args .s .n = omega arith in e) in
-    rw add-one (blocks-pass (start .args .entries .now) (λ i. agentPairs (start .args .s) (i / start .args .s .n) (i % start .args .s .n)) (start .args .s .k * (start .args .s .k - 1) / 2) (suc (start .args .s .m) * start .args .s .n) (λ j. length-E (start .args .s) (j / start .args .s .n) (j % start .args .s .n)) (subst (λ (j : ℕ). T (all (satisfied? (start .args .entries .now)) (for j (λ i. agentPairs (start .args .s) (i / start .args .s .n) (i % start .args .s .n))))) e (turn .inv .1)))
+pair-at-requires : tie.Need-pair-at-requires
+pair-at-requires c κs = (agent (c .before), omega (arith, c .before .before .before .before .before .before .pre .0 .k-most), omega (arith, c .first-on2 .ensures .within, c .before .before .before .before .before .before .pre .0 .k-most))
+
+add-result : tie.Need-add-result
+add-result c = rw (c .before .before .before .before .before .pairs-of .ensures .0) (omega (arith, known (c .before .before .before .before .before .before .before) .E, blocks-fit _ _ (c .before .before .before .before .before .before .before .args .s .k * (c .before .before .before .before .before .before .before .args .s .k - 1) / 2) (c .before .before .before .before .lowest-shared .ensures .within), c .pair-at .ensures .1))
+
+-- the agents behind the first, counted from there
+next : (c : tie.After-pair-at) → FirstFault (c .before .before .before .before .before .before .before .args .s .k - c .before .before .first-on .result - 1) (λ i. not (eqb (place (c .before .before .before .before .before .before .before .args .s) (c .before .before .before .before .before .before .before .args .p .now) (c .before .before .before .before .before .before .before .args .t) (c .before .before .first-on .result + 1 + i)) (c .before .before .before .before .lowest-shared .result))) (c .before .first-on2 .result)
+next c =
+    fault-cong _ _ _ _ (λ i.
+    let e : c .before .before .before .before .before .before .before .args .t * c .before .before .before .before .before .before .before .args .s .k + c .before .before .first-on .result + 1 + i ≡ c .before .before .before .before .before .before .before .args .t * c .before .before .before .before .before .before .before .args .s .k + (c .before .before .first-on .result + 1 + i) = omega arith in
+    ap (λ (x : ℕ). not (eqb (getD (c .before .before .before .before .before .before .before .args .p .now) x 0) (c .before .before .before .before .lowest-shared .result))) e) (c .before .first-on2 .ensures)
+
+returns-2 : tie.Need-returns-2
+returns-2 c = λ es w c′. rw (c .before .before .before .before .before .pairs-of .ensures .0, c .pair-at .ensures .0) (here-E (c .before .before .before .before .before .before .before .args .s) es w (place (c .before .before .before .before .before .before .before .args .s) (c .before .before .before .before .before .before .before .args .p .now)) c′ (c .before .before .before .before .before .before .before .args .t) (let h = c .before .before .before .before .before .before .before .pre .1 .1 in omega arith) (c .before .before .before .before .lowest-shared .result) (c .before .before .before .before .lowest-shared .ensures) (c .before .before .before .if1 .left) (c .before .before .before .before .lowest-shared .result) (c .before .before .first-on .result) (c .before .first-on2 .result) refl (c .before .before .first-on .ensures) (next c))
 
 pub fault-e-spec : {M : Type 1} → statement M
 fault-e-spec =
     tie.close
     (tie.spec
-    Inv-loop
-    μ-loop
-    sub-size
-    mul-size
-    add-cells
-    mul-cells
-    loop-holds
-    div-t
-    rem-v
-    block-e-requires
+    pairs-of-requires
+    mul-row
+    lowest-shared-requires
     mul-result
-    add-result
     returns
-    add-i
-    loop-less
-    loop-again
+    cast-first-on
+    first-on-requires
+    add-first-on
+    add-first-on-2
+    sub-first-on
+    sub-first-on-2
+    cast-first-on-2
+    first-on-requires-2
     mul-result-2
+    pair-at-requires
+    add-result
     returns-2)

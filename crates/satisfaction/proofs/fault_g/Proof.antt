@@ -1,113 +1,100 @@
--- `satisfaction::fault_g` meets its contract: the blocks before i have a true literal in every clause; the first fault is in the first block with one. Assumes nothing.
-use mathlib.Core.Path.{_≡_, subst}
-use Prim.Native.Nat.{ℕ, _-_, _*_, _/_, _%_, _≤_, _<_}
-use native.Mathlib.Nat.{mul-le-mul-right, mod-lt}
+-- `satisfaction::fault_g` meets its contract: the first agent that fails condition 2, and the first that stood where it goes. Assumes nothing.
+use Prim.Native.Nat.{suc, _+_, _-_, _*_, _≤_, _<_}
+use mathlib.Core.Path.{refl}
 use native.Mathlib.Omega.{arith}
-use lib.Dec.{T}
-use Rattle.lists.specs.Loop.{for, all}
-use Rattle.valuation.specs.Valuation.{satisfied?}
-use Rattle.satisfaction.specs.Blocks.{others}
-use Rattle.satisfaction.proofs.Bounds.{Products, products}
-use Rattle.satisfaction.proofs.Laws.{cell-at, blocks-stop, blocks-pass, block-passed}
-use Rattle.satisfaction.proofs.Truth.{length-G}
 use borrow.Author.Needs.{needs}
+use lib.ListN.{length}
+use Rattle.plan.specs.Plan.{place}
+use Rattle.satisfaction.proofs.Bounds.{Products, products, two-fit, blocks-fit}
+use Rattle.satisfaction.proofs.Steps.{sized, Enters, enters, plain-2, next-row}
+use Rattle.satisfaction.proofs.Truth.{none-rowG, here-rowG}
 use Rattle.satisfaction.proofs.fault_g.Statement.{statement}
 use Rattle.satisfaction.proofs.fault_g.Tie as tie
 
-abbrev Inv-loop : tie.InvT-loop
-Inv-loop entries s n k size cells i₀ i = (i ≤ cells) × T (all (satisfied? entries) (for i λ j. others s (j / k) (j % k)))
-
-abbrev μ-loop : tie.MeasureT-loop
-μ-loop entries s n k size cells i₀ i = cells - i
-
-known : (s : tie.Start Inv-loop μ-loop) → Products (s .args .s)
+known : (s : tie.Start) → Products (s .args .s)
 known s = products (s .args .s) (s .pre .0)
 
--- item i is one of the block's
-cell : (c : tie.In-loop Inv-loop μ-loop) → (c .before .loop .i / c .before .before .before .args .s .k < c .before .before .before .args .s .m) × (c .before .loop .i % c .before .before .before .args .s .k < c .before .before .before .args .s .k)
-cell c =
-    let start = c .before .before .before in
-    cell-at (start .args .s .m) (start .args .s .k) (c .before .loop .i) (start .pre .0 .k-least) (c .loop-test .taken)
+-- rows t and t + 1 stand within the plan
+room : (s : tie.Start) → (s .args .t * s .args .s .k + s .args .s .k + s .args .s .k ≤ length (s .args .p .now)) × (length (s .args .p .now) ≤ 528)
+room s = let e = s .pre .1 .0 .0 in let h = s .pre .1 .0 .1 in (omega (arith, two-fit (s .args .s) (s .args .t) h), omega (arith, known s .cells))
 
-sub-size : tie.Need-sub-size Inv-loop μ-loop
-sub-size c = omega (arith, c .pre .0 .k-least)
+sub-size : tie.Need-sub-size
+sub-size c = omega (arith, c .before .pre .0 .k-least)
 
-mul-size : tie.Need-mul-size Inv-loop μ-loop
-mul-size c = omega (arith, known c .rest)
+mul-size : tie.Need-mul-size
+mul-size c = omega (arith, known (c .before) .rest)
 
-mul-cells : tie.Need-mul-cells Inv-loop μ-loop
-mul-cells c = omega (arith, known (c .before) .moves)
+mul-row : tie.Need-mul-row
+mul-row c = omega (arith, room (c .before))
 
-loop-holds : tie.Need-loop-holds Inv-loop μ-loop
-loop-holds c = (omega arith, tt)
+fault-2-requires : tie.Need-fault-2-requires
+fault-2-requires c κs = search needs
 
-div-t : tie.Need-div-t Inv-loop μ-loop
-div-t c = omega (arith, c .before .before .before .pre .0 .k-least)
+mul-result : tie.Need-mul-result
+mul-result c = omega (arith, known (c .before .before .before) .G)
 
-rem-a : tie.Need-rem-a Inv-loop μ-loop
-rem-a c = omega (arith, c .before .before .before .pre .0 .k-least)
+returns : tie.Need-returns
+returns c = λ es w c′. none-rowG (c .before .before .before .args .s) es w (place (c .before .before .before .args .s) (c .before .before .before .args .p .now)) c′ (c .before .before .before .args .t) (c .before .before .before .pre .1 .0 .1) (c .before .before .before .pre .1 .1) (c .before .fault-2 .result) (plain-2 (c .before .before .before .args .s) (c .before .before .before .args .p .now) (c .before .before .before .args .t) (c .before .fault-2 .result) (c .before .fault-2 .ensures (sized (c .before .before .before .args .s)) refl)) (c .if1 .taken)
 
-block-g-requires : tie.Need-block-g-requires Inv-loop μ-loop
-block-g-requires c κs =
-    let start = c .before .before .before in
-    (start .pre .0, (start .pre .1 .0, (start .pre .1 .1, (cell c .0, cell c .1))))
+agent : (c : tie.Else1) → c .before .fault-2 .result < c .before .before .before .args .s .k
+agent c = omega (arith, c .before .fault-2 .ensures (sized (c .before .before .before .args .s)) refl .within, c .if1 .left)
 
-mul-result : tie.Need-mul-result Inv-loop μ-loop
-mul-result c =
-    let start = c .before .before .before .before .before in
-    omega (arith, known start .G, mul-le-mul-right ((start .args .s .k - 1) * start .args .s .n) (c .before .before .before .loop .inv .0))
+add-w : tie.Need-add-w
+add-w c = omega (arith, room (c .before .before .before))
 
-add-result : tie.Need-add-result Inv-loop μ-loop
-add-result c =
-    let start = c .before .before .before .before .before in
-    omega (arith, known start .G, mul-le-mul-right ((start .args .s .k - 1) * start .args .s .n) (c .before .before .before .loop .inv .0), known start .rest, c .if1 .taken)
+add-w-2 : tie.Need-add-w-2
+add-w-2 c = omega (arith, room (c .before .before .before), agent c)
 
-returns : tie.Need-returns Inv-loop μ-loop
-returns c =
-    let start = c .before .before .before .before .before in
-    let turn = c .before .before .before .loop in
-    blocks-stop (start .args .entries .now) (λ i. others (start .args .s) (i / start .args .s .k) (i % start .args .s .k)) ((start .args .s .k - 1) * start .args .s .n) (start .args .s .m * start .args .s .k) (turn .i) (c .before .block-g .result) (λ j. length-G (start .args .s) (j / start .args .s .k) (j % start .args .s .k) (mod-lt (j) (start .pre .0 .k-least))) (c .before .before .loop-test .taken) (turn .inv .1) (c .before .block-g .ensures) (c .if1 .taken)
+shared-slice-read-w : tie.Need-shared-slice-read-w
+shared-slice-read-w c = omega (arith, room (c .before .before .before .before), agent (c .before))
 
-add-i : tie.Need-add-i Inv-loop μ-loop
-add-i c = omega (arith, known (c .before .before .before .before .before) .moves)
+first-on-requires : tie.Need-first-on-requires
+first-on-requires c κs = omega (arith, room (c .before .before .before .before))
 
-loop-less : tie.Need-loop-less Inv-loop μ-loop
-loop-less c = search needs
+mul-result-2 : tie.Need-mul-result-2
+mul-result-2 c = omega (arith, known (c .before .before .before .before .before) .G, agent (c .before .before), blocks-fit (c .before .before .before .fault-2 .result) (c .before .before .before .before .before .args .s .k) ((c .before .before .before .before .before .args .s .k - 1) * c .before .before .before .before .before .args .s .n) (c .before .before .before .fault-2 .ensures (sized (c .before .before .before .before .before .args .s)) refl .within))
 
-loop-again : tie.Need-loop-again Inv-loop μ-loop
-loop-again c =
-    let start = c .before .before .before .before .before in
-    let turn = c .before .before .before .loop in
-    (omega arith, block-passed (start .args .entries .now) (λ i. others (start .args .s) (i / start .args .s .k) (i % start .args .s .k)) (turn .i) (c .before .block-g .result) (turn .inv .1) (c .before .block-g .ensures) (omega (arith, (length-G (start .args .s) (turn .i / start .args .s .k) (turn .i % start .args .s .k) (mod-lt (turn .i) (start .pre .0 .k-least))), c .if1 .left)))
+-- the agent that stood where the first goes
+entered : (c : tie.After-first-on) → Enters (c .before .before .before .before .before .args .s .k) (place (c .before .before .before .before .before .args .s) (c .before .before .before .before .before .args .p .now) (c .before .before .before .before .before .args .t)) (place (c .before .before .before .before .before .args .s) (c .before .before .before .before .before .args .p .now) (suc (c .before .before .before .before .before .args .t))) (c .before .before .before .fault-2 .result) (c .first-on .result)
+entered c =
+    enters (c .before .before .before .before .before .args .s .k) (place (c .before .before .before .before .before .args .s) (c .before .before .before .before .before .args .p .now) (c .before .before .before .before .before .args .t)) (place (c .before .before .before .before .before .args .s) (c .before .before .before .before .before .args .p .now) (suc (c .before .before .before .before .before .args .t))) (c .before .before .before .fault-2 .result) (plain-2 (c .before .before .before .before .before .args .s) (c .before .before .before .before .before .args .p .now) (c .before .before .before .before .before .args .t) (c .before .before .before .fault-2 .result) (c .before .before .before .fault-2 .ensures (sized (c .before .before .before .before .before .args .s)) refl)) (c .before .before .if1 .left) _ (c .first-on .result) (next-row (c .before .before .before .before .before .args .s) (c .before .before .before .before .before .args .p .now) (c .before .before .before .before .before .args .t) (c .before .before .before .fault-2 .result)) (c .first-on .ensures)
 
-mul-result-2 : tie.Need-mul-result-2 Inv-loop μ-loop
-mul-result-2 c = omega (arith, known (c .before .before .before) .G)
+other-at-requires : tie.Need-other-at-requires
+other-at-requires c κs = search needs
 
-returns-2 : tie.Need-returns-2 Inv-loop μ-loop
-returns-2 c =
-    let start = c .before .before .before in
-    let turn = c .before .loop in
-    let e : turn .i ≡ start .args .s .m * start .args .s .k = omega arith in
-    (blocks-pass (start .args .entries .now) (λ i. others (start .args .s) (i / start .args .s .k) (i % start .args .s .k)) ((start .args .s .k - 1) * start .args .s .n) (start .args .s .m * start .args .s .k) (λ j. length-G (start .args .s) (j / start .args .s .k) (j % start .args .s .k) (mod-lt (j) (start .pre .0 .k-least))) (subst (λ (j : ℕ). T (all (satisfied? (start .args .entries .now)) (for j (λ i. others (start .args .s) (i / start .args .s .k) (i % start .args .s .k))))) e (turn .inv .1)))
+mul-result-3 : tie.Need-mul-result-3
+mul-result-3 c = omega (arith, blocks-fit (c .other-at .result) (c .before .before .before .before .before .before .args .s .k) (c .before .before .before .before .before .before .args .s .n) (omega (arith, c .other-at .ensures .2, c .before .first-on .ensures .within)), known (c .before .before .before .before .before .before) .F)
+
+wide-requires : tie.Need-wide-requires
+wide-requires c κs = search needs
+
+add-result : tie.Need-add-result
+add-result c = omega (arith, blocks-fit (c .before .other-at .result) (c .before .before .before .before .before .before .before .args .s .k) (c .before .before .before .before .before .before .before .args .s .n) (omega (arith, c .before .other-at .ensures .2, c .before .before .first-on .ensures .within)), known (c .before .before .before .before .before .before .before) .F, c .wide .ensures .1)
+
+add-result-2 : tie.Need-add-result-2
+add-result-2 c = omega (arith, blocks-fit (c .before .other-at .result) (c .before .before .before .before .before .before .before .args .s .k) (c .before .before .before .before .before .before .before .args .s .n) (omega (arith, c .before .other-at .ensures .2, c .before .before .first-on .ensures .within)), known (c .before .before .before .before .before .before .before) .F, c .wide .ensures .1, known (c .before .before .before .before .before .before .before) .G, blocks-fit (c .before .before .before .before .before .fault-2 .result) (c .before .before .before .before .before .before .before .args .s .k) ((c .before .before .before .before .before .before .before .args .s .k - 1) * c .before .before .before .before .before .before .before .args .s .n) (c .before .before .before .before .before .fault-2 .ensures (sized (c .before .before .before .before .before .before .before .args .s)) refl .within))
+
+returns-2 : tie.Need-returns-2
+returns-2 c = λ es w c′. rw (c .wide .ensures .0, next-row (c .before .before .before .before .before .before .before .args .s) (c .before .before .before .before .before .before .before .args .p .now) (c .before .before .before .before .before .before .before .args .t) (c .before .before .before .before .before .fault-2 .result)) (here-rowG (c .before .before .before .before .before .before .before .args .s) es w (place (c .before .before .before .before .before .before .before .args .s) (c .before .before .before .before .before .before .before .args .p .now)) c′ (c .before .before .before .before .before .before .before .args .t) (c .before .before .before .before .before .before .before .pre .1 .0 .1) (c .before .before .before .before .before .before .before .pre .1 .1) (c .before .before .before .before .before .fault-2 .result) (plain-2 (c .before .before .before .before .before .before .before .args .s) (c .before .before .before .before .before .before .before .args .p .now) (c .before .before .before .before .before .before .before .args .t) (c .before .before .before .before .before .fault-2 .result) (c .before .before .before .before .before .fault-2 .ensures (sized (c .before .before .before .before .before .before .before .args .s)) refl)) (c .before .before .first-on .result) (c .before .other-at .result) (entered (c .before .before)) (c .before .other-at .ensures .0) (c .before .other-at .ensures .1))
 
 pub fault-g-spec : {M : Type 1} → statement M
 fault-g-spec =
     tie.close
     (tie.spec
-    Inv-loop
-    μ-loop
     sub-size
     mul-size
-    mul-cells
-    loop-holds
-    div-t
-    rem-a
-    block-g-requires
+    mul-row
+    fault-2-requires
     mul-result
-    add-result
     returns
-    add-i
-    loop-less
-    loop-again
+    add-w
+    add-w-2
+    shared-slice-read-w
+    first-on-requires
     mul-result-2
+    other-at-requires
+    mul-result-3
+    wide-requires
+    add-result
+    add-result-2
     returns-2)

@@ -1,0 +1,17 @@
+-- `entries::is_negation` meets its contract: stored numbers are equal exactly where the signed numbers are. Assumes nothing.
+use lib.IntN.{pos, negℤ}
+use Rattle.entries.proofs.Laws.{neg-fits, bits-same}
+use borrow.Author.Needs.{needs}
+use Rattle.entries.proofs.is_negation.Statement.{statement}
+use Rattle.entries.proofs.is_negation.Tie as tie
+
+negation-of-requires : tie.Need-negation-of-requires
+negation-of-requires c κs = search needs
+
+returns : tie.Need-returns
+returns c =
+    let start = c .before in
+    rw (c .negation-of .ensures) (bits-same (start .args .entry) (negℤ (pos (start .args .x .0))) (start .fits .entry) (neg-fits _ (start .pre)))
+
+pub is-negation-spec : {M : Type 1} → statement M
+is-negation-spec = tie.close (tie.spec negation-of-requires returns)

@@ -1,0 +1,68 @@
+-- Each family is its blocks one after another, the formula is the seven families, and it depends on what it is given only for
+-- agents below k and vertices below n.
+use mathlib.Core.Path.{_≡_, refl, sym, _∙_, ap}
+use mathlib.Core.List.{List, [], _∷_, _++_}
+use mathlib.Core.Bool.{Bool}
+use Prim.Native.Nat.{ℕ, zero, suc, _*_, _/_, _%_, _<_}
+use Rattle.lists.specs.Loop.{for, when}
+use Rattle.lists.proofs.Loops.{for-ext}
+use Rattle.lists.proofs.Blocks.{for-flat}
+use Rattle.instance.specs.declared.Sizes.{Sizes}
+use Rattle.instance.specs.Instance.{Instance}
+use Rattle.formula.specs.Variables.{X, ¬X}
+use Rattle.formula.specs.Formula.{Clause, A, B, C, D, E, F, G, clauses}
+use Rattle.formula.specs.Blocks.{Given, given, family, steps, cells, groups, group, block}
+
+pub family-blocks : (g : Given) (j : ℕ) → family g j ≡ for (steps (g .sizes) j) λ t. for (cells (g .sizes) j) (block g j t)
+unfolding family block group steps cells groups A B C D E F G
+family-blocks g zero = refl
+family-blocks g (suc zero) = refl
+family-blocks g (suc (suc zero)) = refl
+family-blocks g (suc (suc (suc zero))) = refl
+family-blocks g (suc (suc (suc (suc zero)))) = refl
+family-blocks g (suc (suc (suc (suc (suc zero))))) = refl
+family-blocks g (suc (suc (suc (suc (suc (suc zero)))))) = refl
+family-blocks g (suc (suc (suc (suc (suc (suc (suc j))))))) = refl
+
+-- with one number for t and x
+pub family-flat : (g : Given) (j : ℕ)
+    → family g j ≡ for (steps (g .sizes) j * cells (g .sizes) j) λ i. block g j (i / cells (g .sizes) j) (i % cells (g .sizes) j)
+family-flat g j = family-blocks g j ∙ for-flat (steps (g .sizes) j) (cells (g .sizes) j) (block g j)
+
+pub clauses-families : (I : Instance) → clauses I ≡ for 7 (family (given I))
+unfolding clauses family
+clauses-families I = refl
+
+-- the same sizes, and the same as far as the sizes go
+pub record Same (g h : Given) : Type 0 where
+  pub sizes : g .sizes ≡ h .sizes
+  pub start : (a : ℕ) → a < g .sizes .k → g .start a ≡ h .start a
+  pub goal : (a : ℕ) → a < g .sizes .k → g .goal a ≡ h .goal a
+  pub near : (v w : ℕ) → v < g .sizes .n → w < g .sizes .n → g .near v w ≡ h .near v w
+
+module _ (g h : Given) (e : Same g h) where
+  open Sizes (g .sizes) using (n, k, m)
+
+  -- with the sizes of g
+  again : Given
+  again = record { sizes = g .sizes; start = h .start; goal = h .goal; near = h .near }
+
+  family-again : (j : ℕ) → family g j ≡ family again j
+  unfolding family A B F again
+  family-again zero = for-ext k _ _ (λ a l. ap (λ (v : ℕ). (X (g .sizes) 0 a v ∷ []) ∷ []) (e .start a l))
+  family-again (suc zero) = for-ext k _ _ (λ a l. ap (λ (v : ℕ). (X (g .sizes) m a v ∷ []) ∷ []) (e .goal a l))
+  family-again (suc (suc zero)) = refl
+  family-again (suc (suc (suc zero))) = refl
+  family-again (suc (suc (suc (suc zero)))) = refl
+  family-again (suc (suc (suc (suc (suc zero))))) =
+      for-ext m _ _ (λ t l.
+      for-ext k _ _ (λ a r.
+      for-ext n _ _ (λ v p.
+      ap (λ (c : Clause). (¬X (g .sizes) t a v ∷ X (g .sizes) (suc t) a v ∷ c) ∷ [])
+      (for-ext n _ _ (λ w q. ap (λ (b : Bool). when b (X (g .sizes) (suc t) a w ∷ [])) (e .near v w p q))))))
+  family-again (suc (suc (suc (suc (suc (suc zero)))))) = refl
+  family-again (suc (suc (suc (suc (suc (suc (suc j))))))) = refl
+
+  pub family-same : (j : ℕ) → family g j ≡ family h j
+  unfolding again
+  family-same j = family-again j ∙ ap (λ (s : Sizes). family (record { sizes = s; start = h .start; goal = h .goal; near = h .near }) j) (e .sizes)

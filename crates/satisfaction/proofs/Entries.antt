@@ -1,0 +1,242 @@
+-- What one row of entries says, what all rows together say, and that this is what a valuation makes true.
+use mathlib.Core.Path.{_≡_, refl}
+use mathlib.Core.Logic.{_↔_, _≢_, _⊎_, inl, inr, ⊎-elim, by-cases, Iff·trans, Iff·symm}
+use mathlib.Core.List.{List}
+use mathlib.Core.Bool.{Bool, true, false}
+use Prim.Native.Nat.{ℕ, suc, _+_, _*_, _-_, _≤_, _<_}
+use native.Mathlib.Nat.{le-refl, zero-mul, suc-mul, mul-comm, mul-left-comm}
+use native.Mathlib.Numerals.{add-one}
+use native.Mathlib.Decide.{decLt, ℕ-discrete}
+use native.Mathlib.Omega.{arith}
+use lib.ListN.{length, getD, set, take, length-set}
+use lib.Seq.{getD-set-same, getD-set-other, getD-take, length-take-le}
+use lib.Dec.{T}
+use lib.IntN.{ℤ, pos, negsuc}
+use Rattle.lists.proofs.Tests.{or-iff}
+use Rattle.lists.proofs.Blocks.{place-lt}
+use Rattle.answers.specs.Fault.{FirstFault}
+use Rattle.answers.proofs.Faults.{fault-none}
+use Rattle.instance.specs.declared.Sizes.{Sizes}
+use Rattle.formula.specs.Variables.{X, index, variableCount}
+use Rattle.plan.specs.Plan.{planBytes}
+use Rattle.valuation.specs.Valuation.{entry, rightEntry, true?}
+use Rattle.valuation.specs.Satisfying.{Valuation}
+use Rattle.valuation.proofs.Entries.{sameNumber-iff, true-yes, index-lt}
+use Rattle.satisfaction.specs.Rows.{Stop, Tallied, says, denies, Seen, Read}
+
+module _ (es : List ℤ) where
+  -- an entry is right where it says its variable or denies it, and never does both
+  denied-right : (i : ℕ) → T (denies es i) → T (rightEntry es i)
+  denied-right i t = or-iff (says es i) (denies es i) .1 (inr t)
+
+  pub right-says : (i : ℕ) → T (rightEntry es i) → (T (denies es i) → ⊥) → T (says es i)
+  right-says i t f = ⊎-elim (λ u. u) (λ u. absurd (f u)) (or-iff (says es i) (denies es i) .0 t)
+
+  not-both : (i : ℕ) → T (says es i) → T (denies es i) → ⊥
+  not-both i t u =
+      let a : entry es i ≡ pos (suc i) = sameNumber-iff (entry es i) (pos (suc i)) .0 t in
+      let b : entry es i ≡ negsuc i = sameNumber-iff (entry es i) (negsuc i) .0 u in
+      let z : _≡_ {A = ℕ} 0 1 = cc in
+      omega arith
+
+  -- what is skipped says nothing
+  pub skip-le : (low n r i : ℕ) → Stop (denies es) low n r → low ≤ i → T (says es i) → r ≤ i
+  skip-le low n r i f h t = by-cases (decLt i r) (λ l. absurd (not-both i t (f .before i h l))) (λ l. omega arith)
+
+  -- the entries of one row
+  module _ (base n : ℕ) where
+    abbrev q : ℕ → Bool
+    q v = says es (base + v)
+
+    abbrev Right : ℕ → Type 0
+    Right r = Stop (rightEntry es) base (base + n) r
+
+    -- what a row comes to: its first wrong entry, and its vertex where there is none
+    abbrev pub Came : ℕ → ℕ → Type 0
+    Came r x = Right r × (base + n ≤ r → Seen n q x)
+
+    module _ (count v : ℕ) (o : Tallied (denies es) base (base + n) count v) where
+      pub came-none : count ≡ 0 → Came (base + n) n
+      came-none e =
+          let (z, g) = o .none e in (
+            record { least = omega arith; within = le-refl _; before = λ i h l. denied-right i (g i h l); here = λ l. absurd (let f : ⊥ = omega arith in f) },
+            λ h. record {
+              most = omega arith;
+              one = λ l. absurd (let z : ⊥ = omega arith in z);
+              none = λ d u l t. not-both (base + u) t (g (base + u) (omega arith) (omega arith));
+              several = λ d. absurd (let z : ⊥ = omega arith in z);
+            },
+          )
+
+      module _ (e : count ≡ 1) where
+        abbrev least : base ≤ v
+        least = o .one e .0
+
+        abbrev most : v < base + n
+        most = o .one e .1
+
+        pub came-one : T (rightEntry es v) → Came (base + n) (v - base)
+        came-one r =
+            let t = right-says v r (o .one e .2) in
+            let l = least in
+            let b = most in
+            let rest = o .one e .3 in (
+              record {
+                least = omega arith;
+                within = le-refl _;
+                before = λ i h o. by-cases (ℕ-discrete i v) (λ p. or-iff (says es i) (denies es i) .1 (inl (rw p t))) (λ p. denied-right i (rest i h o p));
+                here = λ r. absurd (let z : ⊥ = omega arith in z);
+              },
+              λ h.
+                  record {
+                    most = omega arith;
+                    one = λ x u o. (
+                      (λ y. by-cases (ℕ-discrete (base + u) v) (λ p. omega arith) (λ p. absurd (not-both (base + u) y (rest (base + u) (omega arith) (omega arith) p)))),
+                      (λ y. let e″ : base + u ≡ v = omega arith in rw e″ t),
+                    );
+                    none = λ x. absurd (let z : ⊥ = omega arith in z);
+                    several = λ x. absurd (let z : ⊥ = omega arith in z);
+                  },
+            )
+
+        pub came-wrong : (T (rightEntry es v) → ⊥) → Came v 0
+        came-wrong t =
+            let l = least in
+            let b = most in (
+              record {
+                least = l;
+                within = omega arith;
+                before = λ i h p. denied-right i (o .one e .3 i h (omega arith) (λ q. omega arith));
+                here = λ r. t;
+              },
+              λ h. absurd (let z : ⊥ = omega arith in z),
+            )
+
+      pub came-several : count ≢ 0 → count ≢ 1 → (u : ℕ) → Right u → Came u (n + 1)
+      came-several d d′ u r = (
+        r,
+        λ h.
+            let (x, y, a, b, c, f, g) = o .more (omega arith) in
+            let e : base + (x - base) ≡ x = omega arith in
+            let e′ : base + (y - base) ≡ y = omega arith in
+            record {
+              most = omega arith;
+              one = λ l. absurd (let z : ⊥ = omega arith in z);
+              none = λ d. absurd (let z : ⊥ = omega arith in z);
+              several = λ q. (
+                x - base,
+                y - base,
+                omega arith,
+                omega arith,
+                rw e (right-says x (r .before x a (omega arith)) f),
+                rw e′ (right-says y (r .before y (omega arith) (omega arith)) g),
+              );
+            },
+      )
+
+-- ---- the rows before row i are read
+pub record Sofar (n : ℕ) (es : List ℤ) (places : List ℕ) (i : ℕ) : Type 0 where
+  pub size : length places ≡ 528
+  pub right : (j : ℕ) → j < i * n → T (rightEntry es j)
+  pub seen : (j : ℕ) → j < i → Seen n (λ v. says es (j * n + v)) (getD places j 0)
+
+module _ (n : ℕ) (es : List ℤ) (places : List ℕ) where
+  pub sofar-none : length places ≡ 528 → Sofar n es places 0
+  sofar-none e =
+      record {
+        size = e;
+        right = λ j l. absurd (let f : ⊥ = omega (arith, zero-mul n) in f);
+        seen = λ j l. absurd (let f : ⊥ = omega arith in f);
+      }
+
+  module _ (i : ℕ) (o : Sofar n es places i) (r x : ℕ) (c : Came es (i * n) n r x) where
+    pub sofar-more : i < 528 → i * n + n ≤ r → Sofar n es (set places i x) (i + 1)
+    sofar-more l h =
+        record {
+          size = simp length-set (o .size);
+          right = λ j b. by-cases (decLt j (i * n)) (λ p. o .right j p) (λ p. c .0 .before j (omega arith) (omega (arith, step)));
+          seen = λ j b.
+              by-cases (ℕ-discrete j i)
+              (λ p. rw (p, getD-set-same places i x 0 (omega (arith, o .size))) (c .1 h))
+              (λ p. rw (getD-set-other places i j x 0 p) (o .seen j (omega arith)));
+        }
+      where
+        step : (i + 1) * n ≡ i * n + n
+        step = rw (add-one, suc-mul)
+
+    pub sofar-wrong : (N : ℕ) → i * n + n ≤ N → r < i * n + n → FirstFault N (rightEntry es) r
+    sofar-wrong N h l =
+        record {
+          within = omega arith;
+          before = λ j b. by-cases (decLt j (i * n)) (λ p. o .right j p) (λ p. c .0 .before j (omega arith) b);
+          here = λ b. c .0 .here l;
+        }
+
+pub cells-count : (s : Sizes) → suc (s .m) * s .k * s .n ≡ variableCount s
+cells-count s = simp (mul-comm, mul-left-comm)
+
+-- ---- truth under a valuation goes by one entry
+bool-same : (a b : Bool) → T a ↔ T b → a ≡ b
+bool-same true true h = refl
+bool-same true false h = absurd (h .0 tt)
+bool-same false true h = absurd (h .1 tt)
+bool-same false false h = refl
+
+module _ (s : Sizes) (es : List ℤ) (w : Valuation s es) where
+  open Sizes s using (n, k, m)
+
+  -- one entry tells
+  pub read-true : (t a v : ℕ) → t < suc m → a < k → v < n → says es (index s t a v) ≡ true? es (X s t a v)
+  read-true t a v x y z =
+      bool-same _ _ (Iff·trans (sameNumber-iff (getD es (index s t a v) (pos 0)) (pos (suc (index s t a v)))) (Iff·symm (true-yes s es w t a v x y z)))
+
+  pub right-at : (i : ℕ) → i < variableCount s → T (rightEntry es i)
+  right-at i l =
+      or-iff (says es i) (denies es i) .1 (⊎-elim (λ e. inl (sameNumber-iff (getD es i (pos 0)) (pos (suc i)) .1 e)) (λ e. inr (sameNumber-iff (getD es i (pos 0)) (negsuc i) .1 e)) (w .each i l))
+
+  -- an entry that is not its variable's negative makes it true
+  pub denied-or-true : (t a v i : ℕ) → t < suc m → a < k → v < n → i ≡ index s t a v → (T (denies es i) → T (true? es (X s t a v)) → ⊥) × ((T (denies es i) → ⊥) → T (true? es (X s t a v)))
+  denied-or-true t a v i x y z e =
+      let q = read-true t a v x y z in
+      rw e ((λ h h′. not-both es (index s t a v) (rw q h′) h), (λ f. rw q at (right-says es (index s t a v) (right-at (index s t a v) (index-lt s t a v x y z)) f)))
+
+seen-cong : (n : ℕ) (f g : ℕ → Bool) (x : ℕ) → ((v : ℕ) → v < n → f v ≡ g v) → Seen n f x → Seen n g x
+seen-cong n f g x e c =
+    record {
+      most = c .most;
+      one = λ l v h. rw (e v h) at (c .one l v h);
+      none = λ o v h t. c .none o v h (rw (e v h) t);
+      several = λ o.
+          let (v, u, a, b, y, z) = c .several o in
+          (v, u, a, b, rw (e v (omega arith)) at y, rw (e u b) at z);
+    }
+
+-- ---- all rows are read
+module _ (s : Sizes) (es : List ℤ) (e : length es ≡ variableCount s) (places : List ℕ) (o : Sofar (s .n) es places (suc (s .m) * s .k)) where
+  open Sizes s using (n, k, m)
+
+  pub done-right : FirstFault (variableCount s) (rightEntry es) (suc m * k * n)
+  done-right = rw (cells-count s) (fault-none refl (λ j l. o .right j (omega (arith, cells-count s))))
+
+  valid : Valuation s es
+  valid =
+      record {
+        size = e;
+        each = λ i l.
+            ⊎-elim
+            (λ u. inl (sameNumber-iff (entry es i) (pos (suc i)) .0 u))
+            (λ u. inr (sameNumber-iff (entry es i) (negsuc i) .0 u))
+            (or-iff (says es i) (denies es i) .0 (o .right i (omega (arith, cells-count s))));
+      }
+
+  pub done-read : suc m * k ≤ 528 → Read s es (take (planBytes s) places)
+  unfolding index
+  done-read h =
+      record {
+        size = length-take-le (planBytes s) places (omega (arith, o .size));
+        valid = valid;
+        cells = λ t a x y.
+            let l = place-lt (suc m) k t a x y in
+            rw (getD-take (planBytes s) places (t * k + a) 0 l)
+            (seen-cong n _ _ _ (λ v z. read-true s es valid t a v x y z) (o .seen (t * k + a) l));
+      }

@@ -1,0 +1,165 @@
+-- The families row by row: their numbers and lengths; the formula is they; and what the families before a row say.
+use mathlib.Core.Path.{_≡_, refl, sym, _∙_, ap, subst}
+use mathlib.Core.Logic.{_≢_, by-cases}
+use mathlib.Core.List.{List}
+use Prim.Native.Nat.{ℕ, suc, _+_, _*_, _-_, _/_, _≤_, _<_}
+use native.Mathlib.Decide.{decLt, ℕ-discrete}
+use native.Mathlib.Numerals.{add-one}
+use native.Mathlib.Omega.{arith}
+use lib.ListN.{length, length-append}
+use lib.Dec.{T}
+use lib.IntN.{ℤ}
+use Rattle.lists.specs.Loop.{for, all}
+use Rattle.lists.proofs.Loops.{for-length, for-ext, all-append}
+use Rattle.lists.proofs.Slices.{for-room}
+use Rattle.lists.proofs.Blocks.{for1-length}
+use Rattle.instance.specs.declared.Sizes.{Sizes}
+use Rattle.instance.specs.declared.Checked.{Checked}
+use Rattle.formula.specs.Formula.{Clause, clauses}
+use Rattle.formula.specs.Blocks.{Given, given, steps, cells, groups, group, block, family}
+use Rattle.formula.proofs.Blocks.{Same, family-blocks, family-same, clauses-families}
+use Rattle.plan.specs.Plan.{place}
+use Rattle.valuation.specs.Valuation.{true?, satisfied?, named}
+use Rattle.valuation.specs.Places.{Places}
+use Rattle.valuation.proofs.Families.{places-cong, read-E}
+use Rattle.valuation.proofs.Entries.{named-places}
+use Rattle.calls.specs.Accepted.{Accepted, instanceOf}
+use Rattle.calls.proofs.Accepted.{sizes-same, start-at, goal-at}
+use Rattle.satisfaction.specs.Rows.{Fault, Read, held, row, Before}
+use Rattle.satisfaction.proofs.Laws.{for-stop, fault-all}
+use Rattle.satisfaction.proofs.Truth.{length-D, length-E, length-F, length-G}
+use Rattle.satisfaction.proofs.Steps.{sized}
+
+-- the last of the seven
+past-two : (f : ℕ) → f ≢ 0 → f ≢ 1 → f ≢ 2 → 3 ≤ f
+past-two f p q r = omega arith
+
+pub last-family : (f : ℕ) → f < 7 → f ≢ 0 → f ≢ 1 → f ≢ 2 → f ≢ 3 → f ≢ 4 → f ≢ 5 → f ≡ 6
+last-family f l p q r x y z = let h = past-two f p q r in omega arith
+
+-- the number of rows
+module _ (s : Sizes) where
+  open Sizes s using (m)
+
+  pub steps-ends : (j : ℕ) → j < 2 → 1 ≡ steps s j
+  unfolding steps
+  steps-ends j l = by-cases (ℕ-discrete j 0) (λ e. ap (steps s) (sym e)) (λ d. let e : j ≡ 1 = omega arith in ap (steps s) (sym e))
+
+  pub steps-times : (j : ℕ) → 2 ≤ j → j < 5 → suc m ≡ steps s j
+  unfolding steps
+  steps-times j h l =
+      by-cases (ℕ-discrete j 2) (λ e. ap (steps s) (sym e))
+      (λ c. by-cases (ℕ-discrete j 3) (λ e. ap (steps s) (sym e)) (λ d. let e : j ≡ 4 = omega arith in ap (steps s) (sym e)))
+
+  pub steps-moves : (j : ℕ) → 5 ≤ j → j < 7 → m ≡ steps s j
+  unfolding steps
+  steps-moves j h l =
+      by-cases (ℕ-discrete j 5) (λ e. ap (steps s) (sym e)) (λ d. let e : j ≡ 6 = omega arith in ap (steps s) (sym e))
+
+-- the lengths of the rows
+module _ (g : Given) (t : ℕ) where
+  open Given g using (sizes)
+  open Sizes sizes using (n, k)
+
+  pub size-A : length (row g 0 t) ≡ k
+  unfolding row block group cells groups
+  size-A = for1-length k _
+
+  pub size-B : length (row g 1 t) ≡ k
+  unfolding row block group cells groups
+  size-B = for1-length k _
+
+  pub size-C : length (row g 2 t) ≡ k
+  unfolding row block group cells groups
+  size-C = for1-length k _
+
+  pub size-D : length (row g 3 t) ≡ k * (n * (n - 1) / 2)
+  unfolding row cells
+  size-D = for-length k _ _ (λ a l. length-D g t a)
+
+  pub size-E : length (row g 4 t) ≡ n * (k * (k - 1) / 2)
+  unfolding row cells
+  size-E = for-length n _ _ (λ v l. length-E g t v)
+
+  pub size-F : length (row g 5 t) ≡ k * n
+  unfolding row cells
+  size-F = for-length k _ _ (λ a l. length-F g t a)
+
+  pub size-G : length (row g 6 t) ≡ k * ((k - 1) * n)
+  unfolding row cells
+  size-G = for-length k _ _ (λ a l. length-G g t a l)
+
+module _ (g : Given) where
+  family-rows : (j : ℕ) → family g j ≡ for (steps (g .sizes) j) (row g j)
+  unfolding row
+  family-rows j = family-blocks g j
+
+  -- where the families before the one with this number are satisfied, and its rows before row t
+  module _ (es : List ℤ) (which at t : ℕ) (h : T (all (satisfied? es) (for which (family g))))
+      (q : at ≡ length (for which (family g)) + length (for t (row g which))) (h′ : T (all (satisfied? es) (for t (row g which)))) where
+    -- the first clause without a true literal is in row t
+    pub in-families : (r : ℕ) → which < 7 → t < steps (g .sizes) which → Fault es (row g which t) r → r < length (row g which t)
+        → Fault es (for 7 (family g)) (at + r)
+    in-families r l x f o =
+        let f′ = for-stop es (row g which) (steps (g .sizes) which) t r x h′ f o in
+        let o′ = for-room (row g which) x in
+        let a : length (for which (family g)) + (length (for t (row g which)) + r) ≡ at + r = omega arith in
+        subst (Fault es (for 7 (family g))) a
+        (for-stop es (family g) 7 which (length (for t (row g which)) + r) l h
+        (subst (λ (L : List Clause). Fault es L (length (for t (row g which)) + r)) (sym (family-rows which)) f′)
+        (omega (arith, ap length (family-rows which))))
+
+    -- there was none
+    pub next-family : t ≡ steps (g .sizes) which → (at ≡ length (for (which + 1) (family g))) × T (all (satisfied? es) (for (which + 1) (family g)))
+    next-family x =
+        let e : for t (row g which) ≡ family g which = ap (λ (y : ℕ). for y (row g which)) x ∙ sym (family-rows which) in
+        rw add-one (
+          q ∙ ap (λ (L : List Clause). length (for which (family g)) + length L) e ∙ sym (length-append (for which (family g)) _),
+          all-append (satisfied? es) (for which (family g)) _ .1 (h, subst (λ (L : List Clause). T (all (satisfied? es) L)) e h′),
+        )
+
+  pub all-families : (es : List ℤ) (at : ℕ) → at ≡ length (for 7 (family g)) → T (all (satisfied? es) (for 7 (family g))) → Fault es (for 7 (family g)) at
+  all-families es at e h = rw e (fault-all es (for 7 (family g)) h)
+
+-- the formula's families are those of what the code has
+pub whole : (b : List ℕ) (c : Checked) → Accepted b c → (es : List ℤ) (r : ℕ) → Fault es (for 7 (family (held b c))) r → Fault es (clauses (instanceOf b c)) r
+whole b c w es r f =
+    let I = instanceOf b c in
+    let e : Same (held b c) (given I) = record { sizes = sizes-same b c w; start = start-at b c w; goal = goal-at b c w; near = λ u v p q. refl } in
+    subst (λ (L : List Clause). Fault es L r) (for-ext 7 _ _ (λ j l. family-same (held b c) (given I) e j) ∙ sym (clauses-families I)) f
+
+-- ---- of entries that have been read
+-- where one vertex is left to each agent at each time, the pass has found it
+module _ (s : Sizes) (es : List ℤ) (p : List ℕ) (rd : Read s es p) where
+  pub place-named : Places s (true? es) (named s es) → (t a : ℕ) → t < suc (s .m) → a < s .k → named s es t a ≡ place s p t a
+  place-named o t a x y =
+      let i = o .inside t a x y in
+      let q = o .here t a (named s es t a) x y i .1 refl in
+      let v = rd .cells t a x y in
+      by-cases (decLt (place s p t a) (s .n))
+      (λ l. v .one l (named s es t a) i .0 q)
+      (λ g.
+      by-cases (ℕ-discrete (place s p t a) (s .n))
+      (λ e. absurd (v .none e (named s es t a) i q))
+      (λ d.
+      let m = v .most in
+      let (u, u′, l, l′, h, h′) = v .several (omega arith) in
+      let e = o .here t a u x y (omega arith) .0 h in
+      let e′ = o .here t a u′ x y l′ .0 h′ in
+      absurd (let f : ⊥ = omega arith in f)))
+
+module _ (g : Given) (es : List ℤ) (p : List ℕ) (rd : Read (g .sizes) es p) where
+  abbrev s : Sizes
+  s = g .sizes
+
+  -- C and D leave one
+  pub places : (which : ℕ) → 4 ≤ which → Before g es which → Places s (true? es) (place s p)
+  unfolding Before family
+  places which l h =
+      let o = named-places (sized s) es (rd .valid) (h 2 (omega arith)) (h 3 (omega arith)) in
+      places-cong s (true? es) (named s es) (place s p) o (place-named s es p rd o)
+
+  -- E leaves no vertex to two agents
+  pub apart : (which : ℕ) → 5 ≤ which → Before g es which → (t : ℕ) → t < suc (s .m) → (i j : ℕ) → i < j → j < s .k → place s p t i ≢ place s p t j
+  unfolding Before family
+  apart which l h = read-E (sized s) (true? es) (place s p) (places which (omega arith) h) .0 (h 4 (omega arith))

@@ -1,0 +1,57 @@
+-- `satisfaction::read_row` meets its contract: its four ends, one law each. Assumes nothing.
+use Prim.Native.Nat.{_-_}
+use native.Mathlib.Omega.{arith}
+use borrow.Author.Needs.{needs}
+use Rattle.answers.proofs.Faults.{holds, fails}
+use Rattle.satisfaction.proofs.Entries as laws
+use Rattle.satisfaction.proofs.read_row.Statement.{statement}
+use Rattle.satisfaction.proofs.read_row.Tie as tie
+
+add-end : tie.Need-add-end
+add-end c = search needs
+
+tally-row-requires : tie.Need-tally-row-requires
+tally-row-requires c κs = search needs
+
+returns : tie.Need-returns
+returns c = laws.came-none (c .before .before .before .args .entries .now) (c .before .before .before .args .base) (c .before .before .before .args .n) (c .before .before .tally-row .result .count) (c .before .before .tally-row .result .sum) (c .before .before .tally-row .ensures) (c .if1 .taken)
+
+cast-v : tie.Need-cast-v
+cast-v c = search needs
+
+passes-requires : tie.Need-passes-requires
+passes-requires c κs = let o = c .before .before .before .before .before .tally-row .ensures .one (c .before .if2 .taken) in omega (arith, o .0, o .1, c .before .before .before .before .before .before .pre)
+
+sub-t10 : tie.Need-sub-t10
+sub-t10 c = let o = c .before .before .before .before .before .before .before .tally-row .ensures .one (c .before .before .before .if2 .taken) in omega (arith, o .0, o .1, c .before .before .before .before .before .before .before .before .pre)
+
+returns-2 : tie.Need-returns-2
+returns-2 c = laws.came-one (c .before .before .before .before .before .before .before .before .args .entries .now) (c .before .before .before .before .before .before .before .before .args .base) (c .before .before .before .before .before .before .before .before .args .n) (c .before .before .before .before .before .before .before .tally-row .result .count) (c .before .before .before .before .before .before .before .tally-row .result .sum) (c .before .before .before .before .before .before .before .tally-row .ensures) (c .before .before .before .if2 .taken) (holds (c .before .passes .ensures) (c .if3 .taken))
+
+returns-3 : tie.Need-returns-3
+returns-3 c = laws.came-wrong (c .before .before .before .before .before .before .before .before .args .entries .now) (c .before .before .before .before .before .before .before .before .args .base) (c .before .before .before .before .before .before .before .before .args .n) (c .before .before .before .before .before .before .before .tally-row .result .count) (c .before .before .before .before .before .before .before .tally-row .result .sum) (c .before .before .before .before .before .before .before .tally-row .ensures) (c .before .before .before .if2 .taken) (fails (c .before .passes .ensures) (c .if3 .left))
+
+stop-from-requires : tie.Need-stop-from-requires
+stop-from-requires c κs = search needs
+
+add-t11 : tie.Need-add-t11
+add-t11 c = search needs
+
+returns-4 : tie.Need-returns-4
+returns-4 c = laws.came-several (c .before .before .before .before .before .before .args .entries .now) (c .before .before .before .before .before .before .args .base) (c .before .before .before .before .before .before .args .n) (c .before .before .before .before .before .tally-row .result .count) (c .before .before .before .before .before .tally-row .result .sum) (c .before .before .before .before .before .tally-row .ensures) (c .before .before .before .if1 .left) (c .before .if2 .left) (c .stop-from .result) (c .stop-from .ensures)
+
+pub read-row-spec : {M : Type 1} → statement M
+read-row-spec =
+    tie.close
+    (tie.spec
+    add-end
+    tally-row-requires
+    returns
+    cast-v
+    passes-requires
+    sub-t10
+    returns-2
+    returns-3
+    stop-from-requires
+    add-t11
+    returns-4)

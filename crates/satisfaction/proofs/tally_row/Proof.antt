@@ -1,0 +1,73 @@
+-- `satisfaction::tally_row` meets its contract: before turn i the entries from low to i are tallied. Assumes nothing.
+use Prim.Native.Nat.{_+_, _-_, _*_, _≤_}
+use mathlib.Core.Path.{_≡_}
+use native.Mathlib.Omega.{arith}
+use borrow.Author.Needs.{needs}
+use mathlib.Core.Logic.{⊎-elim}
+use borrow.Author.Tests.{not-true, not-false}
+use Rattle.answers.proofs.Faults.{holds, fails}
+use Rattle.satisfaction.specs.Rows.{Tallied, denies}
+use Rattle.satisfaction.proofs.Laws.{tallied-none, tallied-pass, tallied-fail}
+use Rattle.satisfaction.proofs.tally_row.Statement.{statement}
+use Rattle.satisfaction.proofs.tally_row.Tie as tie
+
+abbrev Inv-loop : tie.InvT-loop
+Inv-loop entries low end count₀ sum₀ i₀ count sum i = (low ≤ i) × (i ≤ end) × (count ≤ i) × (sum ≤ i * 33792) × Tallied (denies entries) low i count sum
+
+abbrev μ-loop : tie.MeasureT-loop
+μ-loop entries low end count₀ sum₀ i₀ count sum i = end - i
+
+loop-holds : tie.Need-loop-holds Inv-loop μ-loop
+loop-holds c = (omega arith, omega arith, omega arith, omega arith, tallied-none _ _)
+
+passes-requires : tie.Need-passes-requires Inv-loop μ-loop
+passes-requires c κs = search needs
+
+add-count : tie.Need-add-count Inv-loop μ-loop
+add-count c = omega (arith, c .before .before .before .loop .inv, c .before .before .loop-test .taken, c .before .before .before .before .pre)
+
+cast-sum : tie.Need-cast-sum Inv-loop μ-loop
+cast-sum c = omega (arith, c .before .before .before .loop .inv, c .before .before .loop-test .taken, c .before .before .before .before .pre)
+
+add-sum : tie.Need-add-sum Inv-loop μ-loop
+add-sum c = omega (arith, c .before .before .before .loop .inv, c .before .before .loop-test .taken, c .before .before .before .before .pre)
+
+add-i : tie.Need-add-i Inv-loop μ-loop
+add-i c = search needs
+
+loop-less : tie.Need-loop-less Inv-loop μ-loop
+loop-less c = search needs
+
+loop-again : tie.Need-loop-again Inv-loop μ-loop
+loop-again c =
+    let l = c .before .before .before .loop in
+    let t = denies (c .before .before .before .before .args .entries .now) in
+    ⊎-elim
+    (λ w.
+    let o : Tallied t (c .before .before .before .before .args .low) (l .i + 1) (c .if1 .count) (c .if1 .sum) =
+    rw (w .1, w .2) (tallied-fail (denies (c .before .before .before .before .args .entries .now)) (c .before .before .before .before .args .low) (l .i) (l .count) (l .sum) (l .inv .4) (l .inv .0) (fails (c .before .passes .ensures) (not-true _ (w .0 .taken)))) in
+    (omega arith, omega arith, omega (arith, w .1, l .inv .2), omega (arith, w .2, l .inv .3, l .inv .1, c .before .before .before .before .pre), o))
+    (λ w.
+    let o : Tallied t (c .before .before .before .before .args .low) (l .i + 1) (c .if1 .count) (c .if1 .sum) =
+    rw (w .1, w .2) (tallied-pass (denies (c .before .before .before .before .args .entries .now)) (c .before .before .before .before .args .low) (l .i) (l .count) (l .sum) (l .inv .4) (holds (c .before .passes .ensures) (not-false _ (w .0 .left)))) in
+    (omega arith, omega arith, omega (arith, w .1, l .inv .2), omega (arith, w .2, l .inv .3), o))
+    (c .if1 .came)
+
+returns : tie.Need-returns Inv-loop μ-loop
+returns c = let e : c .before .loop .i ≡ c .before .before .args .end = omega arith in rw e at (c .before .loop .inv .4)
+
+pub tally-row-spec : {M : Type 1} → statement M
+tally-row-spec =
+    tie.close
+    (tie.spec
+    Inv-loop
+    μ-loop
+    loop-holds
+    passes-requires
+    add-count
+    cast-sum
+    add-sum
+    add-i
+    loop-less
+    loop-again
+    returns)

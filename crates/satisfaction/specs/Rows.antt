@@ -1,0 +1,90 @@
+-- The clauses of a family, one time after another, and what a pass over the entries finds. They stand in the contracts of inner functions.
+use mathlib.Core.Path.{_≡_}
+use mathlib.Core.Logic.{_↔_, _≢_}
+use mathlib.Core.List.{List, []}
+use mathlib.Core.Bool.{Bool, false}
+use Prim.Native.Nat.{ℕ, suc, _≤_, _<_}
+use lib.ListN.{length, getD}
+use lib.Dec.{T}
+use lib.IntN.{ℤ, pos, negℤ}
+use Rattle.lists.specs.Loop.{for, all}
+use Rattle.answers.specs.Fault.{FirstFault}
+use Rattle.instance.specs.declared.Sizes.{Sizes}
+use Rattle.instance.specs.declared.Checked.{Checked}
+use Rattle.instance.specs.Instance.{adjacent}
+use Rattle.formula.specs.Variables.{X}
+use Rattle.formula.specs.Formula.{Clause}
+use Rattle.formula.specs.Blocks.{Given, cells, family, block}
+use Rattle.plan.specs.Plan.{planBytes, place}
+use Rattle.valuation.specs.Valuation.{entry, sameNumber, true?, satisfied?}
+use Rattle.valuation.specs.Satisfying.{Valuation}
+use Rattle.calls.specs.Accepted.{instanceOf}
+
+-- r is the place of the first of the clauses without a true literal, or their number where each has one
+unfoldable pub Fault : List ℤ → List Clause → ℕ → Type 0
+Fault entries clauses r = FirstFault (length clauses) (λ i. satisfied? entries (getD clauses i [])) r
+
+-- r is the first number from `low` on, below n, that fails the test, or n
+pub record Stop (test : ℕ → Bool) (low n r : ℕ) : Type 0 where
+  pub least : low ≤ r
+  pub within : r ≤ n
+  pub before : (i : ℕ) → low ≤ i → i < r → T (test i)
+  pub here : r < n → T (test r) → ⊥
+
+-- of the numbers from `low` on, below n: how many fail the test, and the sum of those that do
+pub record Tallied (test : ℕ → Bool) (low n count sum : ℕ) : Type 0 where
+  pub none : count ≡ 0 → (sum ≡ 0) × ((i : ℕ) → low ≤ i → i < n → T (test i))
+  pub one : count ≡ 1 → (low ≤ sum) × (sum < n) × (T (test sum) → ⊥) × ((i : ℕ) → low ≤ i → i < n → i ≢ sum → T (test i))
+  pub more : 2 ≤ count → (v w : ℕ) × (low ≤ v) × (v < w) × (w < n) × (T (test v) → ⊥) × (T (test w) → ⊥)
+
+-- entry i is the variable number i + 1; entry i is its negative
+module _ (entries : List ℤ) where
+  abbrev pub says : ℕ → Bool
+  says i = sameNumber (entry entries i) (pos (suc i))
+
+  abbrev pub denies : ℕ → Bool
+  denies i = sameNumber (entry entries i) (negℤ (pos (suc i)))
+
+-- x is the one number below n that passes the test; n where none does, n + 1 where several do
+pub record Seen (n : ℕ) (test : ℕ → Bool) (x : ℕ) : Type 0 where
+  pub most : x ≤ suc n
+  pub one : x < n → (v : ℕ) → v < n → T (test v) ↔ (v ≡ x)
+  pub none : x ≡ n → (v : ℕ) → v < n → T (test v) → ⊥
+  pub several : x ≡ suc n → (v w : ℕ) × (v < w) × (w < n) × T (test v) × T (test w)
+
+-- r is the lowest number below n that P has at two places below k, or n
+pub record Lowest (k : ℕ) (P : ℕ → ℕ) (n r : ℕ) : Type 0 where
+  pub within : r ≤ n
+  pub before : (a b : ℕ) → a < b → b < k → P a ≡ P b → r ≤ P a
+  pub here : r < n → (a b : ℕ) × (a < b) × (b < k) × (P a ≡ r) × (P b ≡ r)
+
+module _ (s : Sizes) where
+  open Sizes s using (n, k, m)
+
+  -- byte t·k + a of p is what the entries say of agent a at time t
+  pub record Read (entries : List ℤ) (p : List ℕ) : Type 0 where
+    pub size : length p ≡ planBytes s
+    pub valid : Valuation s entries
+    pub cells : (t a : ℕ) → t < suc m → a < k → Seen n (λ v. true? entries (X s t a v)) (place s p t a)
+
+-- what the families are given: by sizes alone, for those that need no more; and as the code has it
+abbrev pub only : Sizes → Given
+only s = record { sizes = s; start = λ a. 0; goal = λ a. 0; near = λ v w. false }
+
+abbrev pub held : List ℕ → Checked → Given
+held b c =
+    record {
+      sizes = c .sizes;
+      start = λ a. getD (c .starts) a 0;
+      goal = λ a. getD (c .goals) a 0;
+      near = adjacent (instanceOf b c);
+    }
+
+module _ (g : Given) where
+  -- row t of the family with a number: its blocks of time t
+  unfoldable pub row : ℕ → ℕ → List Clause
+  row j t = for (cells (g .sizes) j) (block g j t)
+
+  -- the entries satisfy the families before the one with this number
+  unfoldable pub Before : List ℤ → ℕ → Type 0
+  Before entries j = (i : ℕ) → i < j → T (all (satisfied? entries) (family g i))
