@@ -3,6 +3,7 @@
 use mathlib.Core.List.{List, [], _∷_}
 use mathlib.Core.Bool.{Bool, true, false}
 use Prim.Native.Nat.{ℕ, zero, suc}
+use Rattle.lists.specs.Loop.{for, unless}
 use Rattle.lists.specs.Slice.{filled}
 use Rattle.answers.specs.declared.Answer.{Answer}
 use Rattle.answers.specs.declared.Written.{Written}
@@ -17,6 +18,14 @@ accept count = record { number = 0; second = count }
 
 abbrev pub Question : Type 0
 Question = List Answer
+
+-- A question about n items, asked of item 0, then of item 1, and so on: an item that fails its test gives its refusal.
+abbrev pub askEach : ℕ → (ℕ → Bool) → (ℕ → Answer) → Question
+askEach n test refusal = for n λ i. unless (test i) (refusal i)
+
+-- a question about one thing: the same with one item
+abbrev pub ask : Bool → Answer → Question
+ask test refusal = unless test refusal
 
 -- a question is answered yes
 abbrev pub clear : Question → Bool

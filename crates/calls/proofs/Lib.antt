@@ -1,4 +1,2 @@
-pub mod Instance
-pub mod Accepted
 pub mod Plan
 pub mod Valuation

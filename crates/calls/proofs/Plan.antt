@@ -16,21 +16,18 @@ use Rattle.instance.specs.Instance.{Instance, instance, adjacent, Edge}
 use Rattle.instance.proofs.Graph.{adjacent-iff}
 use Rattle.plan.specs.Plan.{condition1, condition2, condition3, place}
 use Rattle.plan.specs.Passing.{Passes}
-use Rattle.calls.specs.Questions.{question13, question19, question20, question21}
-use Rattle.calls.specs.Calls.{instanceQuestions, planQuestions, checkAnswer}
+use Rattle.calls.specs.Questions.{question13}
+use Rattle.instance.specs.Questions.{instanceQuestions}
+use Rattle.calls.specs.Calls.{stepQuestions, planQuestions, checkAnswer}
 
 module _ (I : Instance) (p : List ℕ) where
   open Instance I using (sizes)
   open Sizes sizes using (k, m)
 
-  -- the three questions of step t
-  abbrev stepQuestions : ℕ → List Question
-  stepQuestions t = question19 I p t ∷ question20 I p t ∷ question21 I p t ∷ []
-
   pub numbered-plan : T (all numbered (question13 I p ∷ planQuestions I p))
   unfolding planQuestions
   numbered-plan =
-      simp (and-iff, all-append numbered (for m stepQuestions), for-all, unless-all) (
+      simp (and-iff, all-append numbered (for m (stepQuestions I p)), for-all, unless-all) (
         (λ f. tt),
         (
           (λ i l f. tt),
@@ -57,7 +54,7 @@ module _ (I : Instance) (p : List ℕ) where
   unfolding planQuestions condition1 condition2 condition3
   clear-plan =
       let P : ℕ → ℕ → ℕ = place sizes p in
-      simp (and-iff, all-append clear (for m stepQuestions), for-all, clear-iff, for-nil, unless-nil, or-imp, not-iff, eqb-iff, ltb-iff, every-iff) (
+      simp (and-iff, all-append clear (for m (stepQuestions I p)), for-all, clear-iff, for-nil, unless-nil, or-imp, not-iff, eqb-iff, ltb-iff, every-iff) (
         (λ h. record {
           size = h .0;
           inside = h .1 .0;

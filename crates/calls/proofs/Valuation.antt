@@ -11,9 +11,8 @@ use Rattle.lists.proofs.Tests.{and-iff, or-iff, eqb-iff}
 use Rattle.lists.proofs.Loops.{for-all, for-nil, unless-nil, unless-all, all-getD, any-mem, all-mem}
 use Rattle.answers.specs.Answers.{clear}
 use Rattle.answers.proofs.Laws.{numbered, clear-iff}
-use Rattle.instance.specs.Instance.{Instance}
 use Rattle.formula.specs.Variables.{Literal}
-use Rattle.formula.specs.Formula.{clauses}
+use Rattle.formula.specs.Formula.{Formula}
 use Rattle.valuation.specs.Valuation.{sameNumber, entry, rightEntry, true?, satisfied?}
 use Rattle.valuation.specs.Satisfying.{True, Valuation, Satisfies}
 use Rattle.valuation.proofs.Families.{Sat}
@@ -36,21 +35,23 @@ module _ (es : List ℤ) where
         (λ o. or-iff (sameNumber z (pos (suc i))) _ .1 (⊎-elim (λ e. inl (sameNumber-iff z (pos (suc i)) .1 e)) (λ e. inr (sameNumber-iff z (negsuc i) .1 e)) o)),
       )
 
-module _ (I : Instance) (es : List ℤ) where
-  pub satisfies-mem : Sat (true? es) (clauses I) ↔ Satisfies I es
+module _ (f : Formula) (es : List ℤ) where
+  open Formula f using (variables, clauses)
+
+  pub satisfies-mem : Sat (true? es) clauses ↔ Satisfies f es
   satisfies-mem = (
-    (λ h c i. let (l, j, t) = any-mem (true? es) c .0 (all-mem (any (true? es)) (clauses I) .0 h c i) in (l, j, true-iff es l .0 t)),
-    (λ h. all-mem (any (true? es)) (clauses I) .1 (λ c i. let (l, j, t) = h c i in any-mem (true? es) c .1 (l, j, true-iff es l .1 t))),
+    (λ h c i. let (l, j, t) = any-mem (true? es) c .0 (all-mem (any (true? es)) clauses .0 h c i) in (l, j, true-iff es l .0 t)),
+    (λ h. all-mem (any (true? es)) clauses .1 (λ c i. let (l, j, t) = h c i in any-mem (true? es) c .1 (l, j, true-iff es l .1 t))),
   )
 
-  pub numbered-valuation : T (all numbered (question14 I es ∷ question23 I es ∷ question24 I es ∷ []))
+  pub numbered-valuation : T (all numbered (question14 f es ∷ question23 f es ∷ question24 f es ∷ []))
   numbered-valuation = simp (and-iff, for-all, unless-all) ((λ f. tt), ((λ i l f. tt), ((λ i l f. tt), tt)))
 
-  pub clear-valuation : T (all clear (question14 I es ∷ question23 I es ∷ question24 I es ∷ []))
-      ↔ (Valuation (I .sizes) es × Sat (true? es) (clauses I))
+  pub clear-valuation : T (all clear (question14 f es ∷ question23 f es ∷ question24 f es ∷ []))
+      ↔ (Valuation variables es × Sat (true? es) clauses)
   clear-valuation =
-      let g : Sat (true? es) (clauses I) ↔ ((i : ℕ) → i < length (clauses I) → T (satisfied? es (getD (clauses I) i []))) =
-      all-getD [] (satisfied? es) (clauses I) in
+      let g : Sat (true? es) clauses ↔ ((i : ℕ) → i < length clauses → T (satisfied? es (getD clauses i []))) =
+      all-getD [] (satisfied? es) clauses in
       simp (and-iff, clear-iff, for-nil, unless-nil, eqb-iff) (
         (λ h. (record { size = h .0; each = λ i l. right-iff es i .0 (h .1 .0 i l) }, g .1 (h .1 .1 .0))),
         (λ h. (h .0 .size, ((λ i l. right-iff es i .1 (h .0 .each i l)), (g .0 (h .1), tt)))),

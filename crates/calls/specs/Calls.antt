@@ -7,68 +7,47 @@ use lib.IntN.{ℤ}
 use Rattle.lists.specs.Loop.{for}
 use Rattle.answers.specs.declared.Answer.{Answer}
 use Rattle.answers.specs.declared.Written.{Written}
-use Rattle.answers.specs.Answers.{Question, decide, lent, withClauses, byNumber}
+use Rattle.answers.specs.Answers.{Question, decide, lent, withClauses}
 use Rattle.instance.specs.declared.Sizes.{Sizes}
-use Rattle.instance.specs.declared.Checked.{Checked}
-use Rattle.instance.specs.Instance.{Instance, instance, checked, unchecked}
-use Rattle.formula.specs.Variables.{variableCount}
-use Rattle.formula.specs.Formula.{Clause, clauses, line, words}
+use Rattle.instance.specs.Instance.{Instance, instance}
+use Rattle.instance.specs.Questions.{instanceQuestions}
+use Rattle.formula.specs.Formula.{Formula, formula, line, words}
 use Rattle.plan.specs.Plan.{planBytes, cost}
 use Rattle.valuation.specs.Valuation.{namedPlan, planValuation}
-use Rattle.calls.specs.Questions.{question1, question2, question3, question4, question5, question6, question7, question8, question9, question10, question11, question12, question13, question14, question15, question16, question17, question18, question19, question20, question21, question22, question23, question24}
+use Rattle.calls.specs.Questions.{question11, question12, question13, question14, question15, question16, question17, question18, question19, question20, question21, question22, question23, question24}
+
+-- the three questions of step t
+abbrev pub stepQuestions : Instance → List ℕ → ℕ → List Question
+stepQuestions I p t = question19 I p t ∷ question20 I p t ∷ question21 I p t ∷ []
 
 -- 17 to 22: 19, 20 and 21 are asked of step 0, then of step 1, and so on
 unfoldable pub planQuestions : Instance → List ℕ → List Question
-planQuestions I p =
-    question17 I p
-    ∷ question18 I p
-    ∷ (for (I .sizes .m) λ t. question19 I p t ∷ question20 I p t ∷ question21 I p t ∷ [])
-    ++ question22 I p
-    ∷ []
+planQuestions I p = question17 I p ∷ question18 I p ∷ for (I .sizes .m) (stepQuestions I p) ++ question22 I p ∷ []
 
 module _ (b : List ℕ) (m : ℕ) where
   abbrev I : Instance
   I = instance b m
 
-  -- ---- the instance and the horizon: 1 to 10
-  unfoldable pub instanceQuestions : List Question
-  instanceQuestions =
-      question1 b
-      ∷ question2 b
-      ∷ question3 b
-      ∷ question4 b
-      ∷ question5 b
-      ∷ question6 b
-      ∷ question7 b
-      ∷ question8 b
-      ∷ question9 b
-      ∷ question10 m
-      ∷ []
-
-  unfoldable pub instanceAnswer : Answer
-  instanceAnswer = decide instanceQuestions 0
-
-  -- the checked instance, of zeros where it is refused
-  unfoldable pub instanceChecked : Checked
-  instanceChecked = byNumber (instanceAnswer .number) (checked b m) unchecked
+  abbrev F : Formula
+  F = formula I
 
   -- ---- the formula writer: 1 to 10, 12
   abbrev pub writeQuestions : ℕ → List Question
-  writeQuestions size = instanceQuestions ++ question12 (length (words I)) size ∷ []
+  writeQuestions size = instanceQuestions b m ++ question12 (length (words F)) size ∷ []
 
   unfoldable pub writeAnswer : ℕ → Written
-  writeAnswer size = withClauses (decide (writeQuestions size) (length (words I))) (length (clauses I))
+  writeAnswer size = withClauses (decide (writeQuestions size) (length (words F))) (length (F .clauses))
 
   unfoldable pub writeSlice : List ℤ → List ℤ
-  writeSlice s = lent (decide (writeQuestions (length s)) (length (words I))) (words I) s
+  writeSlice s = lent (decide (writeQuestions (length s)) (length (words F))) (words F) s
 
   -- ---- one clause: 1 to 12
   -- the clause at a number, with its 0
   abbrev pub clauseLine : ℕ → List ℤ
-  clauseLine c = line (getD (clauses I) c [])
+  clauseLine c = line (getD (F .clauses) c [])
 
   abbrev pub clauseQuestions : ℕ → ℕ → List Question
-  clauseQuestions c size = instanceQuestions ++ question11 I c ∷ question12 (length (clauseLine c)) size ∷ []
+  clauseQuestions c size = instanceQuestions b m ++ question11 F c ∷ question12 (length (clauseLine c)) size ∷ []
 
   unfoldable pub clauseAnswer : ℕ → ℕ → Answer
   clauseAnswer c size = decide (clauseQuestions c size) (length (clauseLine c))
@@ -78,15 +57,15 @@ module _ (b : List ℕ) (m : ℕ) where
 
   -- ---- the plan check: 1 to 10, 13, 17 to 22
   abbrev pub checkQuestions : List ℕ → List Question
-  checkQuestions p = instanceQuestions ++ question13 I p ∷ planQuestions I p
+  checkQuestions p = instanceQuestions b m ++ question13 I p ∷ planQuestions I p
 
   unfoldable pub checkAnswer : List ℕ → Answer
-  checkAnswer p = decide (checkQuestions p) (cost I p)
+  checkAnswer p = decide (checkQuestions p) (cost (I .sizes) p)
 
   -- ---- the decoder: 1 to 10, 14, 15, 23, 24
   abbrev pub decodeQuestions : List ℤ → ℕ → List Question
   decodeQuestions entries size =
-      instanceQuestions ++ question14 I entries ∷ question15 I size ∷ question23 I entries ∷ question24 I entries ∷ []
+      instanceQuestions b m ++ question14 F entries ∷ question15 I size ∷ question23 F entries ∷ question24 F entries ∷ []
 
   unfoldable pub decodeAnswer : List ℤ → ℕ → Answer
   decodeAnswer entries size = decide (decodeQuestions entries size) (planBytes (I .sizes))
@@ -96,10 +75,10 @@ module _ (b : List ℕ) (m : ℕ) where
 
   -- ---- the encoder: 1 to 10, 13, 16 to 22
   abbrev pub encodeQuestions : List ℕ → ℕ → List Question
-  encodeQuestions p size = instanceQuestions ++ question13 I p ∷ question16 I size ∷ planQuestions I p
+  encodeQuestions p size = instanceQuestions b m ++ question13 I p ∷ question16 F size ∷ planQuestions I p
 
   unfoldable pub encodeAnswer : List ℕ → ℕ → Answer
-  encodeAnswer p size = decide (encodeQuestions p size) (variableCount (I .sizes))
+  encodeAnswer p size = decide (encodeQuestions p size) (F .variables)
 
   unfoldable pub encodeSlice : List ℕ → List ℤ → List ℤ
   encodeSlice p s = lent (encodeAnswer p (length s)) (planValuation (I .sizes) p) s

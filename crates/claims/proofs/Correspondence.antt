@@ -28,8 +28,9 @@ use Rattle.valuation.specs.Places.{Places}
 use Rattle.valuation.proofs.Families.{Sat, Sound, satisfies-iff, sat-CD, places-cong, places-unique}
 use Rattle.valuation.proofs.Entries.{index-onto, true-yes, named-places, named-size, named-at, written-size, written-valuation, written-places}
 use Rattle.calls.specs.Questions.{question13, question14, question15, question16, question23, question24}
-use Rattle.calls.specs.Calls.{instanceQuestions, planQuestions, decodeAnswer, decodeSlice, encodeAnswer, encodeSlice}
-use Rattle.calls.proofs.Instance.{instance-iff, sound}
+use Rattle.instance.specs.Questions.{instanceQuestions}
+use Rattle.calls.specs.Calls.{planQuestions, decodeAnswer, decodeSlice, encodeAnswer, encodeSlice}
+use Rattle.instance.proofs.Instance.{instance-iff, sound}
 use Rattle.calls.proofs.Plan.{numbered-plan, clear-plan, check-iff}
 use Rattle.calls.proofs.Valuation.{true-iff, satisfies-mem, numbered-valuation, clear-valuation}
 use Rattle.claims.specs.Correspondence.{Accepts, Correspondence, Claim, bytes, N, handedBack, written}

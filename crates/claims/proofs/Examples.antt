@@ -7,7 +7,8 @@ use Rattle.formula.specs.Variables.{index}
 use Rattle.formula.specs.Formula.{A, B, C, D, E, F, G, clauses, words}
 use Rattle.plan.specs.Plan.{condition1, condition2, condition3, cost}
 use Rattle.valuation.specs.Valuation.{true?, named, namedPlan, planValuation}
-use Rattle.calls.specs.Calls.{instanceQuestions, planQuestions, writeAnswer, writeSlice, checkAnswer, decodeAnswer, decodeSlice, encodeAnswer, encodeSlice}
+use Rattle.instance.specs.Questions.{instanceQuestions}
+use Rattle.calls.specs.Calls.{planQuestions, writeAnswer, writeSlice, checkAnswer, decodeAnswer, decodeSlice, encodeAnswer, encodeSlice}
 use Rattle.claims.specs.Examples.{Claim}
 
 pub examples : Claim

@@ -14,8 +14,9 @@ use Rattle.formula.specs.Counts.{wordCount}
 use Rattle.formula.proofs.Counts.{count-A, count-B, count-C, count-D, count-E, count-F, count-G, words-A, words-B, words-C, words-D, words-E, words-F, words-G, clause-count, word-count, largest}
 use Rattle.formula.proofs.Limits.{words-most, clause-most}
 use Rattle.plan.specs.Plan.{cost}
-use Rattle.calls.specs.Calls.{instanceQuestions, checkQuestions, checkAnswer}
-use Rattle.calls.proofs.Instance.{instance-iff, edges-known, limits}
+use Rattle.instance.specs.Questions.{instanceQuestions}
+use Rattle.calls.specs.Calls.{checkQuestions, checkAnswer}
+use Rattle.instance.proofs.Instance.{instance-iff, edges-known, limits}
 use Rattle.calls.proofs.Plan.{check-iff}
 use Rattle.claims.proofs.Refusals.{numbered-check}
 use Rattle.claims.specs.Formula.{Claim}

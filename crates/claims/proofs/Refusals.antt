@@ -17,8 +17,9 @@ use Rattle.answers.specs.Answers.{Question, refuse, decide, lent, withClauses, 
 use Rattle.answers.proofs.Laws.{numbered, decide-iff, lent-refused, byNumber-refused, numbered-second}
 use Rattle.instance.specs.Instance.{Instance, instance}
 use Rattle.calls.specs.Questions.{question11, question12, question13, question14, question15, question16, question23, question24}
-use Rattle.calls.specs.Calls.{instanceQuestions, planQuestions, writeQuestions, writeAnswer, writeSlice, clauseQuestions, clauseAnswer, clauseSlice, clauseLine, checkQuestions, checkAnswer, decodeQuestions, decodeAnswer, decodeSlice, encodeQuestions, encodeAnswer, encodeSlice}
-use Rattle.calls.proofs.Instance.{numbered-instance}
+use Rattle.instance.specs.Questions.{instanceQuestions}
+use Rattle.calls.specs.Calls.{planQuestions, writeQuestions, writeAnswer, writeSlice, clauseQuestions, clauseAnswer, clauseSlice, clauseLine, checkQuestions, checkAnswer, decodeQuestions, decodeAnswer, decodeSlice, encodeQuestions, encodeAnswer, encodeSlice}
+use Rattle.instance.proofs.Instance.{numbered-instance}
 use Rattle.calls.proofs.Plan.{numbered-plan}
 use Rattle.calls.proofs.Valuation.{numbered-valuation}
 use Rattle.claims.specs.Refusals.{FirstNo, FirstItem, Items, Honest, Claim}

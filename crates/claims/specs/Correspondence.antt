@@ -11,7 +11,8 @@ use Rattle.instance.specs.Instance.{Instance, instance}
 use Rattle.formula.specs.Variables.{variableCount}
 use Rattle.plan.specs.Plan.{planBytes}
 use Rattle.valuation.specs.Satisfying.{Valuation, Satisfies, Names}
-use Rattle.calls.specs.Calls.{instanceAnswer, checkAnswer, decodeAnswer, decodeSlice, encodeAnswer, encodeSlice}
+use Rattle.instance.specs.Questions.{instanceAnswer}
+use Rattle.calls.specs.Calls.{checkAnswer, decodeAnswer, decodeSlice, encodeAnswer, encodeSlice}
 
 -- a call accepts when its answer's number is 0
 abbrev pub Accepts : Answer → Type 0

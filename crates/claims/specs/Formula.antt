@@ -10,7 +10,8 @@ use Rattle.formula.specs.Formula.{Clause, A, B, C, D, E, F, G, clauses, line, w
 use Rattle.formula.specs.Counts.{Families, clausesBy, wordsBy, clauseCount, wordCount}
 use Rattle.plan.specs.Plan.{cost}
 use Rattle.plan.specs.Passing.{Passes}
-use Rattle.calls.specs.Calls.{instanceAnswer, checkAnswer}
+use Rattle.instance.specs.Questions.{instanceAnswer}
+use Rattle.calls.specs.Calls.{checkAnswer}
 
 -- the closed numbers are the lengths of the families
 pub record Lengths (numbers : Families) (length′ : List Clause → ℕ) (I : Instance) : Type 0 where

@@ -1,8 +1,8 @@
 // The words of single clauses, each written to the start of the slice that is lent. The answer is the number of words.
-use entries::Agent;
-use entries::Step;
-use entries::Vertex;
 use instance::Sizes;
+use variables::Agent;
+use variables::Step;
+use variables::Vertex;
 ghost use mathlib.Core.Path.{_≡_};
 ghost use mathlib.Core.List.{[], _∷_};
 ghost use Prim.Native.Nat.{_+_, _≤_, _<_};
@@ -11,7 +11,7 @@ ghost use Rattle.lists.specs.Loop.{when};
 ghost use Rattle.lists.specs.Slice.{Wrote};
 ghost use Rattle.formula.specs.Variables.{X, ¬X};
 ghost use Rattle.formula.specs.Formula.{line, somewhere, nearby, onward};
-ghost use Rattle.formula.specs.Limits.{Limits};
+ghost use Rattle.instance.specs.Limits.{Limits};
 ghost use Rattle.clauses.specs.Lines.{marked};
 
 // The literal X(t,a,v).
@@ -20,7 +20,7 @@ pub fn positive(s: Sizes, t: Step, a: Agent, v: Vertex) -> i32
     requires { ⌜ (t .0 ≤ s .m) × (a .0 < s .k) × (v .0 < s .n) ⌝ }
     ensures { λ r. ⌜ r ≡ X s (t .0) (a .0) (v .0) ⌝ }
 {
-    entries::literal_of(entries::variable_of(s, t, a, v))
+    variables::literal_of(variables::variable_of(s, t, a, v))
 }
 
 // The literal not X(t,a,v).
@@ -29,7 +29,7 @@ pub fn negative(s: Sizes, t: Step, a: Agent, v: Vertex) -> i32
     requires { ⌜ (t .0 ≤ s .m) × (a .0 < s .k) × (v .0 < s .n) ⌝ }
     ensures { λ r. ⌜ r ≡ ¬X s (t .0) (a .0) (v .0) ⌝ }
 {
-    entries::negation_of(entries::variable_of(s, t, a, v))
+    variables::negation_of(variables::variable_of(s, t, a, v))
 }
 
 // A clause of one literal: families A and B.

@@ -9,7 +9,7 @@ ghost use lib.Dec.{eqb};
 ghost use Rattle.answers.specs.Fault.{FirstFault};
 ghost use Rattle.instance.specs.Instance.{Instance};
 ghost use Rattle.plan.specs.Plan.{planBytes, condition1, condition2, condition3};
-ghost use Rattle.calls.specs.Accepted.{Accepted, instanceOf};
+ghost use Rattle.instance.specs.Accepted.{Accepted, instanceOf};
 
 // A byte as a number.
 fn wide(x: u8) -> usize

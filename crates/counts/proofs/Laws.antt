@@ -5,11 +5,13 @@ use native.Mathlib.Numerals.{add-one}
 use native.Mathlib.Omega.{arith}
 use Rattle.instance.specs.declared.Sizes.{Sizes}
 use Rattle.formula.specs.Counts.{pairs}
-use Rattle.formula.specs.Limits.{Limits}
-use Rattle.formula.proofs.Limits.{rows, moves, count-D-most, count-E-most, count-F-most, count-G-most}
+use Rattle.instance.specs.Limits.{Limits}
+use Rattle.formula.proofs.Limits.{rows, variables-most, moves, count-D-most, count-E-most, count-F-most, count-G-most}
 
 pub record Products (s : Sizes) : Type 0 where
   pub rows′ : (s .m + 1) * s .k ≤ 528
+  pub places : s .n * s .k ≤ 1024
+  pub variables : s .n * s .k * (s .m + 1) ≤ 33792
   pub c : (s .m + 1) * s .k * (s .n + 1) ≤ 34320
   pub d : (s .m + 1) * s .k * pairs (s .n) ≤ 1064448
   pub columns : (s .m + 1) * s .n ≤ 2112
@@ -25,6 +27,8 @@ products s w =
     let r : (s .m + 1) * s .k ≤ 528 = rw add-one (rows s w) in
     record {
       rows′ = r;
+      places = mul-le-mul {n₂ = 64} {m₂ = 16} (w .n-most) (w .k-most);
+      variables = rw add-one (variables-most s w);
       c = mul-le-mul {n₂ = 528} {m₂ = 65} r (omega (arith, w .n-most));
       d = rw add-one (count-D-most s w);
       columns = mul-le-mul {n₂ = 33} {m₂ = 64} (omega (arith, w .m-most)) (w .n-most);

@@ -1,9 +1,13 @@
-// How many clauses and words a formula has, worked out from the sizes.
+// What is worked out from the sizes: how many bytes a plan has, how many variables, clauses and words a formula, and how many blocks
+// a family.
 use instance::Sizes;
 ghost use mathlib.Core.Path.{_≡_};
-ghost use Prim.Native.Nat.{_*_, _-_, _/_, _≤_};
+ghost use Prim.Native.Nat.{_*_, _-_, _/_, _≤_, _<_};
+ghost use Rattle.formula.specs.Variables.{variableCount};
+ghost use Rattle.formula.specs.Blocks.{steps, cells};
+ghost use Rattle.plan.specs.Plan.{planBytes};
 ghost use Rattle.formula.specs.Counts.{pairs, clausesBy, clauseCount, wordCount};
-ghost use Rattle.formula.specs.Limits.{Limits};
+ghost use Rattle.instance.specs.Limits.{Limits};
 
 // A number for each family.
 pub struct Families {
@@ -14,6 +18,49 @@ pub struct Families {
     pub e: usize,
     pub f: usize,
     pub g: usize,
+}
+
+// The bytes of a plan, (m+1)·k.
+pub fn plan_bytes(s: Sizes) -> usize
+    requires { ⌜ Limits s ⌝ }
+    ensures { λ r. ⌜ (r ≡ planBytes s) × (r ≤ 528) ⌝ }
+{
+    (s.m + 1) * s.k
+}
+
+// The variables of the formula, N.
+pub fn variable_count(s: Sizes) -> usize
+    requires { ⌜ Limits s ⌝ }
+    ensures { λ r. ⌜ (r ≡ variableCount s) × (r ≤ 33792) ⌝ }
+{
+    s.n * s.k * (s.m + 1)
+}
+
+// How many times t a family has, A 0 to G 6.
+pub fn steps_of(s: Sizes, which: usize) -> usize
+    requires { ⌜ Limits s ⌝ }
+    requires { ⌜ which < 7 ⌝ }
+    ensures { λ r. ⌜ (r ≡ steps s which) × (r ≤ 33) ⌝ }
+{
+    if which < 2 {
+        return 1;
+    }
+    if which < 5 {
+        return s.m + 1;
+    }
+    s.m
+}
+
+// How many blocks it has for each: of an agent, or in E of a vertex.
+pub fn cells_of(s: Sizes, which: usize) -> usize
+    requires { ⌜ Limits s ⌝ }
+    requires { ⌜ which < 7 ⌝ }
+    ensures { λ r. ⌜ (r ≡ cells s which) × (r ≤ 64) ⌝ }
+{
+    if which == 4 {
+        return s.n;
+    }
+    s.k
 }
 
 // Pairs of two different numbers below n.

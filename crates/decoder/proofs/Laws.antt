@@ -30,10 +30,11 @@ use Rattle.valuation.specs.Places.{Places}
 use Rattle.valuation.proofs.Families.{sat-CD}
 use Rattle.valuation.proofs.Entries.{named-places, named-size, named-at}
 use Rattle.calls.specs.Questions.{question14, question15, question23, question24}
-use Rattle.calls.specs.Calls.{instanceAnswer, instanceChecked, decodeAnswer, decodeSlice}
-use Rattle.calls.specs.Accepted.{Accepted, instanceOf}
-use Rattle.calls.proofs.Instance.{first-refused, first-passed}
-use Rattle.calls.proofs.Accepted.{sizes-same, horizon-of, accepted}
+use Rattle.instance.specs.Questions.{instanceAnswer, instanceChecked}
+use Rattle.calls.specs.Calls.{decodeAnswer, decodeSlice}
+use Rattle.instance.specs.Accepted.{Accepted, instanceOf}
+use Rattle.instance.proofs.Instance.{first-refused, first-passed}
+use Rattle.instance.proofs.Accepted.{sizes-same, horizon-of, accepted}
 use Rattle.calls.proofs.Valuation.{numbered-valuation, clear-valuation}
 use Rattle.satisfaction.specs.Rows.{Fault, Read}
 use Rattle.satisfaction.proofs.Families.{place-named}

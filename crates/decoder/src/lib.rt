@@ -9,7 +9,7 @@ ghost use Rattle.lists.specs.Slice.{filled};
 ghost use Rattle.answers.specs.Answers.{decide};
 ghost use Rattle.plan.specs.Plan.{planBytes};
 ghost use Rattle.valuation.specs.Valuation.{namedPlan};
-ghost use Rattle.calls.specs.Accepted.{Accepted, instanceOf};
+ghost use Rattle.instance.specs.Accepted.{Accepted, instanceOf};
 ghost use Rattle.calls.specs.Questions.{question14, question15, question23, question24};
 ghost use Rattle.calls.specs.Calls.{decodeAnswer, decodeSlice};
 

@@ -14,8 +14,8 @@ use Rattle.answers.specs.Fault.{FirstFault}
 use Rattle.answers.proofs.Faults.{T-false}
 use Rattle.instance.specs.declared.Checked.{Checked}
 use Rattle.instance.specs.Instance.{instance, edges, lowEnd, highEnd, adjacent}
-use Rattle.calls.specs.Accepted.{Accepted}
-use Rattle.calls.proofs.Accepted.{graph, e-same, long}
+use Rattle.instance.specs.Accepted.{Accepted}
+use Rattle.instance.proofs.Accepted.{graph, e-same, long}
 use Rattle.edges.specs.Search.{Searchable, earlier, between}
 
 pub or-false : (a : Bool) → a || false ≡ a

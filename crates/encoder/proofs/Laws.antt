@@ -14,7 +14,7 @@ use Rattle.lists.proofs.Loops.{for-length}
 use Rattle.lists.proofs.Blocks.{for1-length, place-lt}
 use Rattle.instance.specs.declared.Sizes.{Sizes}
 use Rattle.formula.specs.Variables.{variableCount}
-use Rattle.formula.specs.Limits.{Limits}
+use Rattle.instance.specs.Limits.{Limits}
 use Rattle.formula.proofs.Limits.{variables-most}
 
 module _ {A : Type 0} where

@@ -21,10 +21,11 @@ use Rattle.formula.specs.Variables.{variableCount}
 use Rattle.plan.specs.Plan.{planBytes}
 use Rattle.valuation.specs.Valuation.{planValuation}
 use Rattle.calls.specs.Questions.{question13, question16}
-use Rattle.calls.specs.Calls.{instanceQuestions, instanceAnswer, instanceChecked, planQuestions, encodeAnswer, encodeSlice}
-use Rattle.calls.specs.Accepted.{Accepted, instanceOf}
-use Rattle.calls.proofs.Instance.{first-refused, first-passed}
-use Rattle.calls.proofs.Accepted.{sizes-same, horizon-of, accepted}
+use Rattle.instance.specs.Questions.{instanceQuestions, instanceAnswer, instanceChecked}
+use Rattle.calls.specs.Calls.{planQuestions, encodeAnswer, encodeSlice}
+use Rattle.instance.specs.Accepted.{Accepted, instanceOf}
+use Rattle.instance.proofs.Instance.{first-refused, first-passed}
+use Rattle.instance.proofs.Accepted.{sizes-same, horizon-of, accepted}
 use Rattle.calls.proofs.Plan.{numbered-plan}
 use Rattle.plan_check.proofs.Laws.{count-free}
 

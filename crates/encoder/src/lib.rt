@@ -1,11 +1,11 @@
 // The encoder: the valuation of a plan.
 use answers::Answer;
-use entries::Agent;
-use entries::Step;
-use entries::Variable;
-use entries::Vertex;
 use instance::Checked;
 use instance::Sizes;
+use variables::Agent;
+use variables::Step;
+use variables::Variable;
+use variables::Vertex;
 ghost use mathlib.Core.Path.{_≡_};
 ghost use mathlib.Core.Bool.{cond};
 ghost use mathlib.Core.List.{[], _∷_};
@@ -16,11 +16,11 @@ ghost use lib.IntN.{pos, negℤ};
 ghost use Rattle.lists.specs.Loop.{for};
 ghost use Rattle.lists.specs.Slice.{filled};
 ghost use Rattle.formula.specs.Variables.{X, ¬X, variableCount};
-ghost use Rattle.formula.specs.Limits.{Limits};
+ghost use Rattle.instance.specs.Limits.{Limits};
 ghost use Rattle.answers.specs.Answers.{decide};
 ghost use Rattle.plan.specs.Plan.{planBytes};
 ghost use Rattle.valuation.specs.Valuation.{entryFor, planValuation};
-ghost use Rattle.calls.specs.Accepted.{Accepted, instanceOf};
+ghost use Rattle.instance.specs.Accepted.{Accepted, instanceOf};
 ghost use Rattle.calls.specs.Questions.{question13, question16};
 ghost use Rattle.calls.specs.Calls.{planQuestions, encodeAnswer, encodeSlice};
 
@@ -37,9 +37,9 @@ fn entry_for(x: Variable, holds: bool) -> i32
     ensures { λ r. ⌜ r ≡ cond holds (pos (x .0)) (negℤ (pos (x .0))) ⌝ }
 {
     if holds {
-        return entries::literal_of(x);
+        return variables::literal_of(x);
     }
-    entries::negation_of(x)
+    variables::negation_of(x)
 }
 
 // The entries of agent a at time t, where it is at the given vertex.
@@ -51,7 +51,7 @@ fn write_agent(z: &mut [i32], s: Sizes, t: Step, a: Agent, at: Vertex)
     let n = s.n;
     let place = at.0;
     for v in 0..n {
-        let x = entries::variable_of(s, t, a, Vertex(v));
+        let x = variables::variable_of(s, t, a, Vertex(v));
         z[v] = entry_for(x, place == v);
     }
 }

@@ -7,7 +7,7 @@ use lib.ListN.{length, getD}
 use Rattle.instance.specs.declared.Sizes.{Sizes}
 use Rattle.instance.specs.declared.Checked.{Checked}
 use Rattle.formula.specs.Blocks.{Given, steps, cells, groups}
-use Rattle.formula.specs.Limits.{Limits}
+use Rattle.instance.specs.Limits.{Limits}
 use Rattle.clauses.specs.Lines.{marked}
 use Rattle.families.specs.declared.Family.{Family}
 

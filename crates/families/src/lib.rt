@@ -1,11 +1,11 @@
 // The writers of the families. Each writes the words of its clauses to the start of the slice that it is lent, and answers how
 // many they are: the next begin at the word after them. A family is its blocks, a block its groups, and only `write_group` asks
 // which family it is.
-use entries::Agent;
-use entries::Step;
-use entries::Vertex;
 use instance::Checked;
 use instance::Sizes;
+use variables::Agent;
+use variables::Step;
+use variables::Vertex;
 ghost use mathlib.Core.Path.{_≡_};
 ghost use mathlib.Core.List.{[], _∷_};
 ghost use Prim.Native.Nat.{_≤_, _<_};
@@ -15,7 +15,7 @@ ghost use Rattle.lists.specs.Slice.{Wrote};
 ghost use Rattle.formula.specs.Variables.{X};
 ghost use Rattle.formula.specs.Formula.{line, groupD, groupE, groupG};
 ghost use Rattle.formula.specs.Blocks.{steps, cells, groups, group, block, family};
-ghost use Rattle.formula.specs.Limits.{Limits};
+ghost use Rattle.instance.specs.Limits.{Limits};
 ghost use Rattle.families.specs.Held.{held, Ready, Counted};
 
 // A family: its number, and how many values its three indexes have.

@@ -3,7 +3,10 @@
 use mathlib.Core.Path.{_≡_, refl, sym, _∙_, ap}
 use mathlib.Core.List.{List, [], _∷_, _++_}
 use mathlib.Core.Bool.{Bool}
-use Prim.Native.Nat.{ℕ, zero, suc, _*_, _/_, _%_, _<_}
+use mathlib.Core.Logic.{_≢_, by-cases}
+use Prim.Native.Nat.{ℕ, zero, suc, _*_, _/_, _%_, _≤_, _<_}
+use native.Mathlib.Decide.{ℕ-discrete}
+use native.Mathlib.Omega.{arith}
 use Rattle.lists.specs.Loop.{for, when}
 use Rattle.lists.proofs.Loops.{for-ext}
 use Rattle.lists.proofs.Blocks.{for-flat}
@@ -11,10 +14,10 @@ use Rattle.instance.specs.declared.Sizes.{Sizes}
 use Rattle.instance.specs.Instance.{Instance}
 use Rattle.formula.specs.Variables.{X, ¬X}
 use Rattle.formula.specs.Formula.{Clause, A, B, C, D, E, F, G, clauses}
-use Rattle.formula.specs.Blocks.{Given, given, family, steps, cells, groups, group, block}
+use Rattle.formula.specs.Blocks.{Given, given, family, steps, cells, block}
 
 pub family-blocks : (g : Given) (j : ℕ) → family g j ≡ for (steps (g .sizes) j) λ t. for (cells (g .sizes) j) (block g j t)
-unfolding family block group steps cells groups A B C D E F G
+unfolding family block steps cells A B C D E F G
 family-blocks g zero = refl
 family-blocks g (suc zero) = refl
 family-blocks g (suc (suc zero)) = refl
@@ -28,6 +31,45 @@ family-blocks g (suc (suc (suc (suc (suc (suc (suc j))))))) = refl
 pub family-flat : (g : Given) (j : ℕ)
     → family g j ≡ for (steps (g .sizes) j * cells (g .sizes) j) λ i. block g j (i / cells (g .sizes) j) (i % cells (g .sizes) j)
 family-flat g j = family-blocks g j ∙ for-flat (steps (g .sizes) j) (cells (g .sizes) j) (block g j)
+
+-- the counts by number
+module _ (s : Sizes) where
+  open Sizes s using (n, k, m)
+
+  pub steps-ends : (j : ℕ) → j < 2 → 1 ≡ steps s j
+  unfolding steps
+  steps-ends zero l = refl
+  steps-ends (suc zero) l = refl
+  steps-ends (suc (suc j)) l = absurd (let f : ⊥ = omega arith in f)
+
+  pub steps-times : (j : ℕ) → 2 ≤ j → j < 5 → suc m ≡ steps s j
+  unfolding steps
+  steps-times zero h l = absurd (let f : ⊥ = omega arith in f)
+  steps-times (suc zero) h l = absurd (let f : ⊥ = omega arith in f)
+  steps-times (suc (suc zero)) h l = refl
+  steps-times (suc (suc (suc zero))) h l = refl
+  steps-times (suc (suc (suc (suc zero)))) h l = refl
+  steps-times (suc (suc (suc (suc (suc j))))) h l = absurd (let f : ⊥ = omega arith in f)
+
+  pub steps-moves : (j : ℕ) → 5 ≤ j → j < 7 → m ≡ steps s j
+  unfolding steps
+  steps-moves j h l =
+      by-cases (ℕ-discrete j 5) (λ e. ap (steps s) (sym e)) (λ d. let e : j ≡ 6 = omega arith in ap (steps s) (sym e))
+
+  pub cells-agents : (j : ℕ) → j < 7 → j ≢ 4 → k ≡ cells s j
+  unfolding cells
+  cells-agents zero l d = refl
+  cells-agents (suc zero) l d = refl
+  cells-agents (suc (suc zero)) l d = refl
+  cells-agents (suc (suc (suc zero))) l d = refl
+  cells-agents (suc (suc (suc (suc zero)))) l d = absurd (d refl)
+  cells-agents (suc (suc (suc (suc (suc zero))))) l d = refl
+  cells-agents (suc (suc (suc (suc (suc (suc zero)))))) l d = refl
+  cells-agents (suc (suc (suc (suc (suc (suc (suc j))))))) l d = absurd (let f : ⊥ = omega arith in f)
+
+  pub cells-vertices : (j : ℕ) → j ≡ 4 → n ≡ cells s j
+  unfolding cells
+  cells-vertices j e = ap (cells s) (sym e)
 
 pub clauses-families : (I : Instance) → clauses I ≡ for 7 (family (given I))
 unfolding clauses family

@@ -14,7 +14,7 @@ use Rattle.instance.specs.declared.Sizes.{Sizes}
 use Rattle.instance.specs.Instance.{Instance, adjacent, Edges}
 use Rattle.instance.proofs.Graph.{degree, handshake}
 use Rattle.formula.specs.Variables.{X}
-use Rattle.formula.specs.Formula.{Clause, A, B, C, D, E, F, G, clauses, line, words}
+use Rattle.formula.specs.Formula.{Clause, A, B, C, D, E, F, G, clauses, formula, line, words}
 use Rattle.formula.specs.Counts.{pairs, clausesBy, wordsBy, clauseCount, wordCount}
 
 pub one-line : (c : Clause) → length (each line (c ∷ [])) ≡ suc (length c)
@@ -117,7 +117,7 @@ module _ (I : Instance) where
       ∙ thrice m (k * (k - 1)) n
       ∙ ap (λ x. 3 * (x * n)) (sym (mul-assoc m k (k - 1))))
 
-  pub word-count : Edges I → length (words I) ≡ wordCount sizes
+  pub word-count : Edges I → length (words (formula I)) ≡ wordCount sizes
   unfolding words clauses wordCount
   word-count g = simp (each-append, length-append, words-A, words-B, words-C, words-D, words-E, words-F g, words-G)
 

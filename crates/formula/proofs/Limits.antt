@@ -18,7 +18,7 @@ use Rattle.instance.specs.Instance.{Instance, adjacent, Edges}
 use Rattle.instance.proofs.Graph.{adjacent-iff, degree}
 use Rattle.formula.specs.Variables.{X, variableCount}
 use Rattle.formula.specs.Formula.{Clause, A, B, C, D, E, F, G, clauses, line}
-use Rattle.formula.specs.Limits.{Limits}
+use Rattle.instance.specs.Limits.{Limits}
 use Rattle.formula.specs.Counts.{pairs, clausesBy, clauseCount, wordCount}
 
 module _ (s : Sizes) (w : Limits s) where

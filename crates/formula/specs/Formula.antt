@@ -1,5 +1,6 @@
 -- The seven families of clauses, in their order. Inside one, the first index runs slowest, and each from its lowest number on.
--- Each family is over what it uses, and stands in two lines: its clauses for all but its last index, and "for each".
+-- A family is over what it uses. It stands in two parts: the clauses of one block, that is of one t and a, or of one t and v; and
+-- its blocks, one after another.
 use mathlib.Core.List.{List, [], _∷_, _++_}
 use mathlib.Core.Bool.{Bool, not}
 use Prim.Native.Nat.{ℕ, suc}
@@ -9,10 +10,14 @@ use Rattle.lists.specs.Loop.{for, when, each}
 use Rattle.instance.specs.declared.Sizes.{Sizes}
 use Rattle.instance.specs.Instance.{Instance, adjacent}
 use Rattle.formula.specs.Variables as variables
-use Rattle.formula.specs.Variables.{Literal}
+use Rattle.formula.specs.Variables.{Literal, variableCount}
 
 abbrev pub Clause : Type 0
 Clause = List Literal
+
+-- of things numbered below n no two hold, v and w with v < w: ¬x v says that v does not
+abbrev pub noTwo : ℕ → (ℕ → Literal) → List Clause
+noTwo n ¬x = for n λ v. for n λ w. when (ltb v w) ((¬x v ∷ ¬x w ∷ []) ∷ [])
 
 module _ (s : Sizes) where
   open Sizes s using (n, k, m)
@@ -24,42 +29,42 @@ module _ (s : Sizes) where
   ¬X = variables.¬X s
 
   -- agent a is at its start at time 0
-  abbrev pub groupA : (ℕ → ℕ) → ℕ → List Clause
-  groupA start a = (X 0 a (start a) ∷ []) ∷ []
+  abbrev pub blockA : (ℕ → ℕ) → ℕ → List Clause
+  blockA start a = (X 0 a (start a) ∷ []) ∷ []
 
   unfoldable pub A : (ℕ → ℕ) → List Clause
-  A start = for k λ a. groupA start a
+  A start = for k λ a. blockA start a
 
   -- agent a is at its goal at time m
-  abbrev pub groupB : (ℕ → ℕ) → ℕ → List Clause
-  groupB goal a = (X m a (goal a) ∷ []) ∷ []
+  abbrev pub blockB : (ℕ → ℕ) → ℕ → List Clause
+  blockB goal a = (X m a (goal a) ∷ []) ∷ []
 
   unfoldable pub B : (ℕ → ℕ) → List Clause
-  B goal = for k λ a. groupB goal a
+  B goal = for k λ a. blockB goal a
 
   -- at time t agent a is at some vertex
   abbrev pub somewhere : ℕ → ℕ → Clause
   somewhere t a = for n λ v. X t a v ∷ []
 
-  abbrev pub groupC : ℕ → ℕ → List Clause
-  groupC t a = somewhere t a ∷ []
+  abbrev pub blockC : ℕ → ℕ → List Clause
+  blockC t a = somewhere t a ∷ []
 
   unfoldable pub C : List Clause
-  C = for (suc m) λ t. for k λ a. groupC t a
+  C = for (suc m) λ t. for k λ a. blockC t a
 
   -- at time t agent a is not at two vertices v < w
-  abbrev pub groupD : ℕ → ℕ → ℕ → List Clause
-  groupD t a v = for n λ w. when (ltb v w) ((¬X t a v ∷ ¬X t a w ∷ []) ∷ [])
+  abbrev pub blockD : ℕ → ℕ → List Clause
+  blockD t a = noTwo n λ v. ¬X t a v
 
   unfoldable pub D : List Clause
-  D = for (suc m) λ t. for k λ a. for n λ v. groupD t a v
+  D = for (suc m) λ t. for k λ a. blockD t a
 
   -- at time t two agents a < b are not both at v
-  abbrev pub groupE : ℕ → ℕ → ℕ → List Clause
-  groupE t v a = for k λ b. when (ltb a b) ((¬X t a v ∷ ¬X t b v ∷ []) ∷ [])
+  abbrev pub blockE : ℕ → ℕ → List Clause
+  blockE t v = noTwo k λ a. ¬X t a v
 
   unfoldable pub E : List Clause
-  E = for (suc m) λ t. for n λ v. for k λ a. groupE t v a
+  E = for (suc m) λ t. for n λ v. blockE t v
 
   -- agent a at v at time t keeps v or goes to a neighbour w of v, in rising order
   abbrev pub nearby : (ℕ → Bool) → ℕ → ℕ → List Literal
@@ -68,30 +73,39 @@ module _ (s : Sizes) where
   abbrev pub onward : (ℕ → Bool) → ℕ → ℕ → ℕ → Clause
   onward near t a v = ¬X t a v ∷ X (suc t) a v ∷ nearby near (suc t) a
 
-  abbrev pub groupF : (ℕ → ℕ → Bool) → ℕ → ℕ → ℕ → List Clause
-  groupF near t a v = onward (near v) t a v ∷ []
+  abbrev pub blockF : (ℕ → ℕ → Bool) → ℕ → ℕ → List Clause
+  blockF near t a = for n λ v. onward (near v) t a v ∷ []
 
   unfoldable pub F : (ℕ → ℕ → Bool) → List Clause
-  F near = for m λ t. for k λ a. for n λ v. groupF near t a v
+  F near = for m λ t. for k λ a. blockF near t a
 
-  -- where agent b is at v at time t, no other agent a is at v at time t + 1
-  abbrev pub groupG : ℕ → ℕ → ℕ → List Clause
-  groupG t a b = when (not (eqb a b)) (for n λ v. (¬X t b v ∷ ¬X (suc t) a v ∷ []) ∷ [])
+  -- where another agent b is at v at time t, agent a is not at v at time t + 1
+  abbrev pub blockG : ℕ → ℕ → List Clause
+  blockG t a = for k λ b. when (not (eqb a b)) (for n λ v. (¬X t b v ∷ ¬X (suc t) a v ∷ []) ∷ [])
 
   unfoldable pub G : List Clause
-  G = for m λ t. for k λ a. for k λ b. groupG t a b
+  G = for m λ t. for k λ a. blockG t a
 
--- the formula's clauses; a clause's number is its place here, from 0
+-- all clauses; a clause's number is its place here, from 0
 module _ (I : Instance) where
   open Instance I using (sizes, start, goal)
 
   unfoldable pub clauses : List Clause
   clauses = A sizes start ++ B sizes goal ++ C sizes ++ D sizes ++ E sizes ++ F sizes (adjacent I) ++ G sizes
 
+-- a formula is its number of variables, and its clauses
+pub record Formula : Type 0 where
+  pub variables : ℕ
+  pub clauses : List Clause
+
+-- the formula of an instance and a horizon
+abbrev pub formula : Instance → Formula
+formula I = record { variables = variableCount (I .sizes); clauses = clauses I }
+
 -- a clause in a formula: its literals and then 0
 abbrev pub line : Clause → List ℤ
 line clause = clause ++ pos 0 ∷ []
 
--- the formula's words
-unfoldable pub words : Instance → List ℤ
-words I = each line (clauses I)
+-- a formula's words
+unfoldable pub words : Formula → List ℤ
+words f = each line (f .clauses)

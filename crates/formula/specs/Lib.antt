@@ -2,4 +2,3 @@ pub mod Variables
 pub mod Formula
 pub mod Blocks
 pub mod Counts
-pub mod Limits

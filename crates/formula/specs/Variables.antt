@@ -7,6 +7,10 @@ use Rattle.instance.specs.declared.Sizes.{Sizes}
 abbrev pub Literal : Type 0
 Literal = ℤ
 
+-- It is a signed number of 32 bits, so no variable number is above this.
+abbrev pub highest : ℕ
+highest = 2147483647
+
 module _ (s : Sizes) where
   open Sizes s using (n, k, m)
 

@@ -14,7 +14,7 @@ use Rattle.instance.specs.declared.Sizes.{Sizes}
 use Rattle.formula.specs.Variables.{X, ¬X}
 use Rattle.formula.specs.Formula.{Clause, line, somewhere, nearby, onward}
 use Rattle.formula.specs.Blocks.{Given, groups, group, block}
-use Rattle.formula.specs.Limits.{Limits}
+use Rattle.instance.specs.Limits.{Limits}
 use Rattle.formula.proofs.Counts.{one-line}
 use Rattle.clauses.proofs.Laws.{somewhere-length}
 

@@ -6,7 +6,7 @@ use lib.ListN.{getD, take, drop}
 use Rattle.answers.specs.Answers.{byNumber}
 use Rattle.instance.specs.Instance.{instance}
 use Rattle.dimacs.specs.Text.{formulaText, refusalText}
-use Rattle.calls.specs.Calls.{instanceAnswer}
+use Rattle.instance.specs.Questions.{instanceAnswer}
 
 -- of an instance and a horizon: the formula's text, or the one line of a refusal
 unfoldable pub answerText : List ℕ → ℕ → List ℕ

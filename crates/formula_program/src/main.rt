@@ -4,8 +4,8 @@ use instance::Checked;
 use instance::Sizes;
 ghost use Prim.Native.Nat.{_*_, _≤_, _<_};
 ghost use lib.ListN.{length};
-ghost use Rattle.formula.specs.Limits.{Limits};
-ghost use Rattle.calls.specs.Accepted.{Accepted};
+ghost use Rattle.instance.specs.Limits.{Limits};
+ghost use Rattle.instance.specs.Accepted.{Accepted};
 ghost use Rattle.families.specs.Held.{Ready, Counted};
 ghost use Rattle.formula_program.specs.Room.{Room};
 

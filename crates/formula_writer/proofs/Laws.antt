@@ -24,10 +24,11 @@ use Rattle.formula.proofs.Blocks.{clauses-families, Same, family-same}
 use Rattle.clauses.specs.Lines.{marked}
 use Rattle.families.specs.Held.{held, Ready}
 use Rattle.calls.specs.Questions.{question12}
-use Rattle.calls.specs.Calls.{instanceQuestions, instanceAnswer, instanceChecked, writeAnswer, writeSlice}
-use Rattle.calls.specs.Accepted.{Accepted, instanceOf}
-use Rattle.calls.proofs.Instance.{first-refused, first-passed}
-use Rattle.calls.proofs.Accepted.{accepted, horizon-of, sizes-same, graph, start-at, goal-at, limits-known, starts-inside, goals-inside}
+use Rattle.instance.specs.Questions.{instanceQuestions, instanceAnswer, instanceChecked}
+use Rattle.calls.specs.Calls.{writeAnswer, writeSlice}
+use Rattle.instance.specs.Accepted.{Accepted, instanceOf}
+use Rattle.instance.proofs.Instance.{first-refused, first-passed}
+use Rattle.instance.proofs.Accepted.{accepted, horizon-of, sizes-same, graph, start-at, goal-at, limits-known, starts-inside, goals-inside}
 
 module _ (b : List ℕ) (c : Checked) (w : Accepted b c) where
   abbrev I : Instance

@@ -9,7 +9,7 @@ ghost use Rattle.lists.specs.Slice.{Wrote};
 ghost use Rattle.formula.specs.Formula.{line, words};
 ghost use Rattle.formula.specs.Blocks.{family};
 ghost use Rattle.families.specs.Held.{held, Ready};
-ghost use Rattle.calls.specs.Accepted.{Accepted, instanceOf};
+ghost use Rattle.instance.specs.Accepted.{Accepted, instanceOf};
 ghost use Rattle.calls.specs.Calls.{writeAnswer, writeSlice};
 
 // The seven families, each to the part of the slice behind the one before it.

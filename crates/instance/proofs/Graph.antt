@@ -44,7 +44,7 @@ module _ (I : Instance) where
   )
 
   module _ (g : Edges I) where
-    rising : (i j : ℕ) → i < j → j < e → (low i < low j) ⊎ ((low i ≡ low j) × (high i < high j))
+    pub rising : (i j : ℕ) → i < j → j < e → (low i < low j) ⊎ ((low i ≡ low j) × (high i < high j))
     rising i zero l r = absurd (not-suc-le-zero l)
     rising i (suc j) l r =
         ⊎-elim

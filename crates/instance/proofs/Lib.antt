@@ -1,1 +1,3 @@
 pub mod Graph
+pub mod Instance
+pub mod Accepted

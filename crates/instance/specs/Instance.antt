@@ -1,6 +1,6 @@
 -- The instance bytes.
 use mathlib.Core.Path.{_≡_}
-use mathlib.Core.Logic.{_⊎_}
+use mathlib.Core.Logic.{_⊎_, _≢_}
 use mathlib.Core.List.{List}
 use mathlib.Core.Bool.{Bool, _&&_, _||_}
 use Prim.Native.Nat.{ℕ, suc, _+_, _*_, _<_}
@@ -80,8 +80,8 @@ abbrev pub unchecked : Checked
 unchecked = record { sizes = record { n = 0; k = 0; e = 0; m = 0 }; starts = replicate 16 0; goals = replicate 16 0 }
 
 module _ (I : Instance) where
-  open Instance I using (sizes, low, high)
-  open Sizes sizes using (n, e)
+  open Instance I using (sizes, low, high, start, goal)
+  open Sizes sizes using (n, k, e)
 
   -- edge j has the ends v and w, in this order or the other
   abbrev pub joins : ℕ → ℕ → ℕ → Bool
@@ -99,3 +99,9 @@ module _ (I : Instance) where
   pub record Edges : Type 0 where
     pub ends : (j : ℕ) → j < e → (low j < high j) × (high j < n)
     pub order : (i : ℕ) → suc i < e → (low i < low (suc i)) ⊎ ((low i ≡ low (suc i)) × (high i < high (suc i)))
+
+  -- what questions 8 and 9 say of the starts and the goals, as far as anything rests on it
+  pub record Endpoints : Type 0 where
+    pub startsInside : (a : ℕ) → a < k → start a < n
+    pub startsApart : (a : ℕ) → a < k → (b : ℕ) → b < a → start b ≢ start a
+    pub goalsInside : (a : ℕ) → a < k → goal a < n

@@ -1,1 +1,4 @@
 pub mod Instance
+pub mod Limits
+pub mod Questions
+pub mod Accepted

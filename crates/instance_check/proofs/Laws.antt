@@ -20,9 +20,8 @@ use Rattle.answers.specs.Answers.{Question, refuse, accept, decide, clear}
 use Rattle.answers.specs.Fault.{FirstFault}
 use Rattle.answers.proofs.Laws.{clear-iff, decide-iff, decide-front, decide-after, ask-no, fault-pass, fault-stop, byNumber-accepted, byNumber-refused}
 use Rattle.instance.specs.Instance.{agents, edges, startOf, goalOf, instance, checked, unchecked}
-use Rattle.calls.specs.Questions.{question1, question2, question3, question4, question5, question6, question7, question8, question9, question10, properEdge, laterEdge, newVertex}
-use Rattle.calls.specs.Calls.{instanceQuestions, instanceAnswer, instanceChecked}
-use Rattle.calls.proofs.Instance.{instance-iff, length-known, limits}
+use Rattle.instance.specs.Questions.{question1, question2, question3, question4, question5, question6, question7, question8, question9, question10, properEdge, laterEdge, newVertex, instanceQuestions, instanceAnswer, instanceChecked}
+use Rattle.instance.proofs.Instance.{instance-iff, length-known, limits}
 
 pub or-false : (a : Bool) → a || false ≡ a
 or-false true = refl

@@ -12,8 +12,7 @@ ghost use Rattle.lists.specs.Slice.{filled};
 ghost use Rattle.answers.specs.Answers.{decide};
 ghost use Rattle.answers.specs.Fault.{FirstFault};
 ghost use Rattle.instance.specs.Instance.{vertices, edges};
-ghost use Rattle.calls.specs.Questions.{question1, question2, question3, question4, question5, properEdge, laterEdge, newVertex};
-ghost use Rattle.calls.specs.Calls.{instanceAnswer, instanceChecked};
+ghost use Rattle.instance.specs.Questions.{question1, question2, question3, question4, question5, properEdge, laterEdge, newVertex, instanceAnswer, instanceChecked};
 
 // The answer to the questions, and beside it the checked instance, of zeros at a refusal.
 pub struct Inspection {

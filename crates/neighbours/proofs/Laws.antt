@@ -15,8 +15,8 @@ use Rattle.answers.proofs.Faults.{T-false}
 use Rattle.lists.specs.Loop.{some}
 use Rattle.instance.specs.declared.Checked.{Checked}
 use Rattle.instance.specs.Instance.{instance, adjacent, lowEnd, highEnd}
-use Rattle.calls.specs.Accepted.{Accepted, instanceOf}
-use Rattle.calls.proofs.Accepted.{e-same, n-same, limits-known, long, graph}
+use Rattle.instance.specs.Accepted.{Accepted, instanceOf}
+use Rattle.instance.proofs.Accepted.{e-same, n-same, limits-known, long, graph}
 
 or-true : (a : Bool) → a || true ≡ true
 or-true true = refl

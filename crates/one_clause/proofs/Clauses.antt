@@ -22,8 +22,8 @@ use Rattle.formula.specs.Variables.{X, ¬X}
 use Rattle.formula.specs.Formula.{Clause, A, B, C, D, E, F, G, line}
 use Rattle.formula.specs.Counts.{pairs}
 use Rattle.formula.proofs.Places.{nth-A, nth-B, nth-C, nth-D, nth-E, nth-F, nth-G-below, nth-G-above}
-use Rattle.calls.specs.Accepted.{Accepted, instanceOf}
-use Rattle.calls.proofs.Accepted.{sizes-same, start-at, goal-at}
+use Rattle.instance.specs.Accepted.{Accepted, instanceOf}
+use Rattle.instance.proofs.Accepted.{sizes-same, start-at, goal-at}
 use Rattle.formula.specs.Formula.{somewhere, nearby, onward}
 use Rattle.one_clause.specs.Spot.{family, PairAt, Puts}
 

@@ -19,10 +19,11 @@ use Rattle.formula.specs.Formula.{Clause, clauses, line}
 use Rattle.formula.specs.Counts.{clauseCount}
 use Rattle.formula.proofs.Counts.{clause-count}
 use Rattle.calls.specs.Questions.{question12}
-use Rattle.calls.specs.Calls.{instanceAnswer, instanceChecked, clauseLine, clauseAnswer, clauseSlice}
-use Rattle.calls.specs.Accepted.{Accepted, instanceOf}
-use Rattle.calls.proofs.Instance.{first-refused, first-passed}
-use Rattle.calls.proofs.Accepted.{accepted, horizon-of, sizes-same}
+use Rattle.instance.specs.Questions.{instanceAnswer, instanceChecked}
+use Rattle.calls.specs.Calls.{clauseLine, clauseAnswer, clauseSlice}
+use Rattle.instance.specs.Accepted.{Accepted, instanceOf}
+use Rattle.instance.proofs.Instance.{first-refused, first-passed}
+use Rattle.instance.proofs.Accepted.{accepted, horizon-of, sizes-same}
 use Rattle.one_clause.specs.Spot.{Puts}
 
 module _ (b : List ℕ) (m : ℕ) (a : Answer) (ea : a ≡ instanceAnswer b m) (number : ℕ) (f : List ℤ) where

@@ -12,8 +12,8 @@ use Rattle.formula.specs.Formula.{Clause, A, B, C, D, E, F, G, clauses, line}
 use Rattle.formula.specs.Counts.{Families, clausesBy}
 use Rattle.formula.proofs.Counts.{count-A, count-B, count-C, count-D, count-E, count-F, count-G}
 use Rattle.formula.proofs.Limits.{clause-most}
-use Rattle.calls.specs.Accepted.{Accepted, instanceOf}
-use Rattle.calls.proofs.Accepted.{limits-known, sizes-same, graph}
+use Rattle.instance.specs.Accepted.{Accepted, instanceOf}
+use Rattle.instance.proofs.Accepted.{limits-known, sizes-same, graph}
 use Rattle.one_clause.specs.Spot.{family, Stands}
 
 -- in what stands first, and in what stands behind it

@@ -1,11 +1,11 @@
 // One clause of the formula, asked by number.
 use answers::Answer;
 use counts::Families;
-use entries::Agent;
-use entries::Step;
-use entries::Vertex;
 use instance::Checked;
 use instance::Sizes;
+use variables::Agent;
+use variables::Step;
+use variables::Vertex;
 ghost use mathlib.Core.Path.{_≡_};
 ghost use mathlib.Core.Bool.{cond};
 ghost use mathlib.Core.List.{[], _∷_};
@@ -17,8 +17,8 @@ ghost use Rattle.instance.specs.Instance.{Instance, adjacent};
 ghost use Rattle.formula.specs.Variables.{X};
 ghost use Rattle.formula.specs.Formula.{A, B, C, D, E, F, G, clauses, line};
 ghost use Rattle.formula.specs.Counts.{pairs, clausesBy, clauseCount};
-ghost use Rattle.formula.specs.Limits.{Limits};
-ghost use Rattle.calls.specs.Accepted.{Accepted, instanceOf};
+ghost use Rattle.instance.specs.Limits.{Limits};
+ghost use Rattle.instance.specs.Accepted.{Accepted, instanceOf};
 ghost use Rattle.calls.specs.Calls.{clauseAnswer, clauseSlice};
 ghost use Rattle.one_clause.specs.Spot.{family, Stands, PairAt, Puts};
 

@@ -6,25 +6,25 @@ use Prim.Native.Nat.{ℕ, suc, _<_}
 use lib.ListN.{length, getD}
 use Rattle.instance.specs.declared.Sizes.{Sizes}
 use Rattle.instance.specs.Instance.{Instance, Edge}
-use Rattle.plan.specs.Plan.{planBytes, place}
+use Rattle.plan.specs.Plan.{Row, planBytes, place}
 
 module _ (I : Instance) where
   open Instance I using (sizes, start, goal)
   open Sizes sizes using (n, k, m)
 
-  -- the step between rows t and t + 1, where P t a is the vertex of agent a at time t
-  pub record ValidStep (P : ℕ → ℕ → ℕ) (t : ℕ) : Type 0 where
+  -- the step from a row to the next row
+  pub record ValidStep (here next : Row) : Type 0 where
     -- 1: each agent keeps its vertex or crosses an edge
-    pub crosses : (a : ℕ) → a < k → (P t a ≡ P (suc t) a) ⊎ Edge I (P t a) (P (suc t) a)
-    -- 2: an agent that changes vertex goes to one on which no agent stood in row t
-    pub vacant : (a : ℕ) → a < k → P t a ≢ P (suc t) a → (b : ℕ) → b < k → P t b ≢ P (suc t) a
-    -- 3: no two agents share a vertex in row t + 1
-    pub apart : (a b : ℕ) → a < k → b < k → a ≢ b → P (suc t) a ≢ P (suc t) b
+    pub crosses : (a : ℕ) → a < k → (here a ≡ next a) ⊎ Edge I (here a) (next a)
+    -- 2: an agent that changes vertex goes to one on which no agent stood
+    pub vacant : (a : ℕ) → a < k → here a ≢ next a → (b : ℕ) → b < k → here b ≢ next a
+    -- 3: no two agents share a vertex in the next row
+    pub apart : (a b : ℕ) → a < k → b < k → a ≢ b → next a ≢ next b
 
-  -- from the starts to the goals by valid steps
-  pub record Leads (P : ℕ → ℕ → ℕ) : Type 0 where
+  -- from the starts to the goals by valid steps, where P t is row t
+  pub record Leads (P : ℕ → Row) : Type 0 where
     pub starts : (a : ℕ) → a < k → P 0 a ≡ start a
-    pub steps : (t : ℕ) → t < m → ValidStep P t
+    pub steps : (t : ℕ) → t < m → ValidStep (P t) (P (suc t))
     pub goals : (a : ℕ) → a < k → P m a ≡ goal a
 
   -- a plan passes: it has (m+1)·k bytes, each a vertex, and its rows lead from the starts to the goals by valid steps

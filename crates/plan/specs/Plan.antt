@@ -1,12 +1,19 @@
--- Plans: their rows, the three conditions as tests, and the cost.
+-- Plans: their rows, the three conditions as tests, makespan and cost.
 use mathlib.Core.List.{List}
 use mathlib.Core.Bool.{Bool, not, _||_}
-use Prim.Native.Nat.{ℕ, suc, _+_, _*_}
+use Prim.Native.Nat.{ℕ, suc, _+_, _*_, _-_, _/_}
 use lib.ListN.{length, getD}
 use lib.Dec.{eqb}
-use Rattle.lists.specs.Loop.{for, unless, every}
+use Rattle.lists.specs.Loop.{for, unless, every, unlikeEarlier}
 use Rattle.instance.specs.declared.Sizes.{Sizes}
-use Rattle.instance.specs.Instance.{Instance, adjacent}
+
+-- a row: the vertex of each agent at one time
+abbrev pub Row : Type 0
+Row = ℕ → ℕ
+
+-- the bytes of a row
+abbrev pub row : List ℕ → Row
+row bytes a = getD bytes a 0
 
 -- the bytes of a plan
 abbrev pub planBytes : Sizes → ℕ
@@ -16,38 +23,31 @@ planBytes s = suc (s .m) * s .k
 abbrev pub cell : Sizes → ℕ → ℕ → ℕ
 cell s t a = t * s .k + a
 
--- the vertex of agent a at time t; row t is these, for a from 0 to k - 1
-abbrev pub place : Sizes → List ℕ → ℕ → ℕ → ℕ
+-- the vertex of agent a at time t; place s p t is row t
+abbrev pub place : Sizes → List ℕ → ℕ → Row
 place s p t a = getD p (cell s t a) 0
 
--- f a is unlike f 0, .., f (a - 1)
-abbrev pub unlikeEarlier : (ℕ → ℕ) → ℕ → Bool
-unlikeEarlier f a = every a λ b. not (eqb (f b) (f a))
+-- A step is about a row and the next row. It obeys a condition where each agent a passes its test.
+-- the agent keeps its vertex
+abbrev pub keeps : Row → Row → ℕ → Bool
+keeps here next a = eqb (here a) (next a)
 
--- The tests of agent a between row t and row t + 1. The step obeys a condition where each agent passes its test.
-module _ (I : Instance) (p : List ℕ) where
-  open Instance I using (sizes)
-  open Sizes sizes using (k, m)
+-- 1: it keeps its vertex or crosses an edge, to a neighbour
+unfoldable pub condition1 : (ℕ → ℕ → Bool) → Row → Row → ℕ → Bool
+condition1 near here next a = keeps here next a || near (here a) (next a)
 
-  abbrev P : ℕ → ℕ → ℕ
-  P = place sizes p
+-- 2: it keeps its vertex, or goes to one on which no agent stood
+unfoldable pub condition2 : Sizes → Row → Row → ℕ → Bool
+condition2 s here next a = keeps here next a || (every (s .k) λ b. not (eqb (here b) (next a)))
 
-  -- the agent keeps its vertex
-  abbrev pub keeps : ℕ → ℕ → Bool
-  keeps t a = eqb (P t a) (P (suc t) a)
+-- 3: it shares its vertex in the next row with no lower agent
+unfoldable pub condition3 : Row → ℕ → Bool
+condition3 next a = unlikeEarlier next a
 
-  -- 1: it keeps its vertex or crosses an edge
-  unfoldable pub condition1 : ℕ → ℕ → Bool
-  condition1 t a = keeps t a || adjacent I (P t a) (P (suc t) a)
+-- the number of steps of a plan: they lie between its rows of k bytes
+abbrev pub makespan : ℕ → List ℕ → ℕ
+makespan k p = length p / k - 1
 
-  -- 2: it keeps its vertex, or goes to one on which no agent stood in row t
-  unfoldable pub condition2 : ℕ → ℕ → Bool
-  condition2 t a = keeps t a || (every k λ b. not (eqb (P t b) (P (suc t) a)))
-
-  -- 3: it shares its vertex in row t + 1 with no lower agent
-  unfoldable pub condition3 : ℕ → ℕ → Bool
-  condition3 t a = unlikeEarlier (P (suc t)) a
-
-  -- the cost: the number of moves, that is of pairs t, a whose vertex changes
-  unfoldable pub cost : ℕ
-  cost = length (for m λ t. for k λ a. unless (keeps t a) a)
+-- the cost: the number of moves, that is of pairs t, a whose vertex changes
+unfoldable pub cost : Sizes → List ℕ → ℕ
+cost s p = length (for (s .m) λ t. for (s .k) λ a. unless (keeps (place s p t) (place s p (suc t)) a) a)

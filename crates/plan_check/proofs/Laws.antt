@@ -21,9 +21,10 @@ use Rattle.instance.specs.declared.Checked.{Checked}
 use Rattle.instance.specs.Instance.{Instance, instance}
 use Rattle.plan.specs.Plan.{planBytes, cell, place, condition1, condition2, condition3, cost}
 use Rattle.calls.specs.Questions.{question13, question18, question20, question21, question22}
-use Rattle.calls.specs.Calls.{planQuestions, instanceQuestions, instanceAnswer, instanceChecked, checkAnswer}
-use Rattle.calls.specs.Accepted.{Accepted, instanceOf}
-use Rattle.calls.proofs.Accepted.{accepted, horizon-of, sizes-same, limits-known, start-at, goal-at}
+use Rattle.instance.specs.Questions.{instanceQuestions, instanceAnswer, instanceChecked}
+use Rattle.calls.specs.Calls.{planQuestions, checkAnswer}
+use Rattle.instance.specs.Accepted.{Accepted, instanceOf}
+use Rattle.instance.proofs.Accepted.{accepted, horizon-of, sizes-same, limits-known, start-at, goal-at}
 use Rattle.calls.proofs.Plan.{numbered-plan}
 use Rattle.plan_check.specs.Steps.{stepQuestions}
 

@@ -12,7 +12,7 @@ ghost use Rattle.answers.specs.Fault.{FirstFault};
 ghost use Rattle.instance.specs.Instance.{Instance};
 ghost use Rattle.plan.specs.Plan.{planBytes, cost};
 ghost use Rattle.calls.specs.Calls.{planQuestions, checkAnswer};
-ghost use Rattle.calls.specs.Accepted.{Accepted, instanceOf};
+ghost use Rattle.instance.specs.Accepted.{Accepted, instanceOf};
 ghost use Rattle.plan_check.specs.Steps.{stepQuestions, moversIn};
 
 // A byte as a number.

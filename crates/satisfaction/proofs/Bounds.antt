@@ -5,7 +5,7 @@ use native.Mathlib.Numerals.{add-one}
 use native.Mathlib.Omega.{arith}
 use mathlib.Core.Path.{_≡_}
 use Rattle.instance.specs.declared.Sizes.{Sizes}
-use Rattle.formula.specs.Limits.{Limits}
+use Rattle.instance.specs.Limits.{Limits}
 use Rattle.formula.specs.Variables.{variableCount}
 use Rattle.plan.specs.Plan.{planBytes}
 use Rattle.satisfaction.proofs.Entries.{cells-count}

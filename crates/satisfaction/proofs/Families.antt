@@ -23,8 +23,8 @@ use Rattle.valuation.specs.Valuation.{true?, satisfied?, named}
 use Rattle.valuation.specs.Places.{Places}
 use Rattle.valuation.proofs.Families.{places-cong, read-E}
 use Rattle.valuation.proofs.Entries.{named-places}
-use Rattle.calls.specs.Accepted.{Accepted, instanceOf}
-use Rattle.calls.proofs.Accepted.{sizes-same, start-at, goal-at}
+use Rattle.instance.specs.Accepted.{Accepted, instanceOf}
+use Rattle.instance.proofs.Accepted.{sizes-same, start-at, goal-at}
 use Rattle.satisfaction.specs.Rows.{Fault, Read, held, row, Before}
 use Rattle.satisfaction.proofs.Laws.{for-stop, fault-all}
 use Rattle.satisfaction.proofs.Truth.{length-D, length-E, length-F, length-G}

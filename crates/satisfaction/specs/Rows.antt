@@ -18,7 +18,7 @@ use Rattle.formula.specs.Blocks.{Given, cells, family, block}
 use Rattle.plan.specs.Plan.{planBytes, place}
 use Rattle.valuation.specs.Valuation.{entry, sameNumber, true?, satisfied?}
 use Rattle.valuation.specs.Satisfying.{Valuation}
-use Rattle.calls.specs.Accepted.{instanceOf}
+use Rattle.instance.specs.Accepted.{instanceOf}
 
 -- r is the place of the first of the clauses without a true literal, or their number where each has one
 unfoldable pub Fault : List ℤ → List Clause → ℕ → Type 0

@@ -2,9 +2,9 @@
 // none is written out. One pass over the entries finds the wrong one and, of each agent at each time, its one vertex, or that there
 // is none or several: this is the plan where families C and D hold, and then E, F and G are asked of the plan alone, F and G by the
 // conditions of the plan check.
-use entries::Variable;
 use instance::Checked;
 use instance::Sizes;
+use variables::Variable;
 ghost use mathlib.Core.Path.{_≡_};
 ghost use mathlib.Core.Bool.{_&&_, _||_};
 ghost use Prim.Native.Nat.{ℕ, suc, _+_, _*_, _-_, _/_, _<_, _≤_};
@@ -13,12 +13,12 @@ ghost use Rattle.answers.specs.Fault.{FirstFault};
 ghost use Rattle.formula.specs.Variables.{variableCount, X};
 ghost use Rattle.formula.specs.Formula.{clauses};
 ghost use Rattle.formula.specs.Blocks.{steps};
-ghost use Rattle.formula.specs.Limits.{Limits};
+ghost use Rattle.instance.specs.Limits.{Limits};
 ghost use Rattle.plan.specs.Plan.{planBytes, place};
 ghost use Rattle.valuation.specs.Valuation.{true?, rightEntry};
 ghost use Rattle.valuation.specs.Satisfying.{Valuation};
 ghost use Rattle.valuation.specs.Places.{Places};
-ghost use Rattle.calls.specs.Accepted.{Accepted, instanceOf};
+ghost use Rattle.instance.specs.Accepted.{Accepted, instanceOf};
 ghost use Rattle.satisfaction.specs.Rows.{Fault, Stop, Tallied, says, denies, Seen, Read, Lowest, only, held, row, Before};
 ghost use lib.IntN.{ℤ};
 ghost use mathlib.Core.List.{List};
@@ -63,9 +63,9 @@ fn passes(entries: &[i32], i: usize, both: bool) -> bool
     let e = entries[i];
     let x = Variable(i + 1);
     if both {
-        return entries::is_entry(e, x);
+        return variables::is_entry(e, x);
     }
-    entries::is_negation(e, x)
+    variables::is_negation(e, x)
 }
 
 // The entries from `low` to `end`. The loop has one way out, so that the compiler may take several entries at once.

@@ -56,7 +56,7 @@ module _ (s : Sizes) where
       (t, a, v, p′, q′, q, rw (← e′) e)
 
   -- ---- truth under a valuation goes by one entry
-  module _ (es : List ℤ) (w : Valuation s es) where
+  module _ (es : List ℤ) (w : Valuation (variableCount s) es) where
     size-of : (i : ℕ) → i < variableCount s → natAbs (getD es i (pos 0)) ≡ suc i
     size-of i l = ⊎-elim (λ e. ap natAbs e) (λ e. ap natAbs e) (w .each i l)
 
@@ -118,7 +118,7 @@ module _ (s : Sizes) where
     unfolding planValuation
     written-size = for3-length (suc m) k n (λ t a v. entryFor s p t a v) ∙ simp mul-comm
 
-    pub written-valuation : Valuation s (planValuation s p)
+    pub written-valuation : Valuation (variableCount s) (planValuation s p)
     written-valuation =
         record {
           size = written-size;
@@ -148,7 +148,7 @@ module _ (s : Sizes) where
             (entryFor-cases t a v)
 
 -- ---- C and D leave one vertex to each agent at each time: the one named
-module _ (I : Instance) (es : List ℤ) (w : Valuation (I .sizes) es) where
+module _ (I : Instance) (es : List ℤ) (w : Valuation (variableCount (I .sizes)) es) where
   open Instance I using (sizes)
   open Sizes sizes using (n, k, m)
 

@@ -13,7 +13,7 @@ use Rattle.lists.specs.Loop.{any, all}
 use Rattle.lists.proofs.Tests.{ltb-iff, not-iff, or-imp, eqb-iff}
 use Rattle.lists.proofs.Loops.{for-all, when-all, one-all, for-any, when-any, all-append, any-one, any-two}
 use Rattle.instance.specs.declared.Sizes.{Sizes}
-use Rattle.instance.specs.Instance.{Instance, adjacent, Edge}
+use Rattle.instance.specs.Instance.{Instance, adjacent, Edge, Endpoints}
 use Rattle.instance.proofs.Graph.{adjacent-iff}
 use Rattle.formula.specs.Variables.{Literal}
 use Rattle.formula.specs.Formula.{Clause, A, B, C, D, E, F, G, clauses}
@@ -123,13 +123,7 @@ module _ (I : Instance) where
               c .elsewhere (suc t) a v (omega arith) r p .1 (λ e. f (c .elsewhere t b v (omega arith) s p .1 (λ e′. q t l a b r s d (sym e′ ∙ e))))),
         )
 
-  -- what the argument needs of an accepted instance
-  pub record Sound : Type 0 where
-    pub startsInside : (a : ℕ) → a < k → start a < n
-    pub startsApart : (a : ℕ) → a < k → (b : ℕ) → b < a → start b ≢ start a
-    pub goalsInside : (a : ℕ) → a < k → goal a < n
-
-  module _ (s : Sound) (P : ℕ → ℕ → ℕ) where
+  module _ (s : Endpoints I) (P : ℕ → ℕ → ℕ) where
     -- no two agents share a vertex in any row
     abbrev Apart : Type 0
     Apart = (t : ℕ) → t < suc m → (a b : ℕ) → a < b → b < k → P t a ≢ P t b

@@ -4,8 +4,8 @@ use Prim.Native.Nat.{_+_}
 use native.Mathlib.Omega.{arith}
 use borrow.Author.Needs.{needs}
 use Rattle.instance.specs.Instance.{adjacent}
-use Rattle.calls.specs.Accepted.{instanceOf}
-use Rattle.calls.proofs.Accepted.{sizes-same}
+use Rattle.instance.specs.Accepted.{instanceOf}
+use Rattle.instance.proofs.Accepted.{sizes-same}
 use Rattle.edges.proofs.Laws.{searchable}
 use Rattle.conditions.proofs.Laws.{Rows, rows, keeps-1, crosses-1}
 use Rattle.conditions.proofs.condition_1.Statement.{statement}

@@ -7,7 +7,7 @@ use borrow.Author.Tests.{not-true, not-false}
 use borrow.Author.Needs.{needs}
 use Rattle.answers.proofs.Faults.{holds, fails, fault-at, fault-none}
 use Rattle.plan.specs.Plan.{condition1}
-use Rattle.calls.specs.Accepted.{instanceOf}
+use Rattle.instance.specs.Accepted.{instanceOf}
 use Rattle.conditions.proofs.fault_1.Statement.{statement}
 use Rattle.conditions.proofs.fault_1.Tie as tie
 

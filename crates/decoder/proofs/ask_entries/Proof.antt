@@ -8,7 +8,7 @@ use native.Mathlib.Numerals.{add-one}
 use lib.ListN.{take, length-replicate}
 use Rattle.answers.specs.declared.Answer.{Answer}
 use Rattle.plan.specs.Plan.{planBytes}
-use Rattle.calls.proofs.Accepted.{limits-known}
+use Rattle.instance.proofs.Accepted.{limits-known}
 use Rattle.satisfaction.specs.Rows.{Read}
 use Rattle.decoder.proofs.Laws as laws
 use Rattle.decoder.proofs.ask_entries.Statement.{statement}

@@ -9,7 +9,7 @@ use Rattle.lists.specs.Slice.{filled}
 use Rattle.plan.specs.Plan.{planBytes}
 use Rattle.valuation.specs.Valuation.{namedPlan}
 use Rattle.valuation.proofs.Entries.{named-size}
-use Rattle.calls.proofs.Accepted.{limits-known}
+use Rattle.instance.proofs.Accepted.{limits-known}
 use Rattle.satisfaction.proofs.Bounds.{products}
 use Rattle.decoder.proofs.Laws as laws
 use Rattle.decoder.proofs.decode.Statement.{statement}

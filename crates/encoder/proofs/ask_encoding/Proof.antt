@@ -2,7 +2,7 @@
 use Prim.Native.Nat.{_+_, _*_, _≤_}
 use native.Mathlib.Omega.{arith}
 use native.Mathlib.Nat.{mul-le-mul}
-use Rattle.calls.proofs.Accepted.{limits-known}
+use Rattle.instance.proofs.Accepted.{limits-known}
 use Rattle.encoder.proofs.Questions as laws
 use Rattle.encoder.proofs.ask_encoding.Statement.{statement}
 use Rattle.encoder.proofs.ask_encoding.Tie as tie

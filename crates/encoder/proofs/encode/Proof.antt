@@ -1,5 +1,5 @@
 -- `encoder::encode` meets its contract: the instance check decides, or the questions of the plan, or the valuation is written. Assumes nothing.
-use Rattle.calls.proofs.Accepted.{limits-known}
+use Rattle.instance.proofs.Accepted.{limits-known}
 use Rattle.encoder.proofs.Questions as laws
 use borrow.Author.Needs.{needs}
 use Rattle.encoder.proofs.encode.Statement.{statement}

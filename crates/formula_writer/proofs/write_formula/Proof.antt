@@ -1,7 +1,7 @@
 -- `formula_writer::write_formula` meets its contract. Each call fills the part that starts where the one before it ended. Assumes nothing.
 use native.Mathlib.Omega.{arith}
 use borrow.Author.Needs.{needs}
-use Rattle.calls.proofs.Accepted.{limits-known}
+use Rattle.instance.proofs.Accepted.{limits-known}
 use Rattle.formula_writer.proofs.Laws.{instance-refused, checked-accepted, word-count-of, too-short, done}
 use Rattle.formula_writer.proofs.write_formula.Statement.{statement}
 use Rattle.formula_writer.proofs.write_formula.Tie as tie

@@ -6,7 +6,7 @@ use borrow.Author.Count.{below-more, below-none}
 use borrow.Author.Needs.{needs}
 use lib.Dec.{T}
 use Rattle.answers.proofs.Faults.{holds, fails, fault-at, fault-none}
-use Rattle.calls.specs.Questions.{properEdge}
+use Rattle.instance.specs.Questions.{properEdge}
 use Rattle.instance_check.proofs.edge_fault.Statement.{statement}
 use Rattle.instance_check.proofs.edge_fault.Tie as tie
 

@@ -7,7 +7,7 @@ use borrow.Author.Count.{below-more, below-none}
 use borrow.Author.Needs.{needs}
 use lib.Dec.{T}
 use Rattle.answers.proofs.Faults.{holds, fails, fault-at}
-use Rattle.calls.specs.Questions.{laterEdge}
+use Rattle.instance.specs.Questions.{laterEdge}
 use Rattle.instance_check.proofs.order_fault.Statement.{statement}
 use Rattle.instance_check.proofs.order_fault.Tie as tie
 

@@ -7,7 +7,7 @@ use borrow.Author.Needs.{needs}
 use lib.ListN.{getD}
 use lib.Dec.{T}
 use Rattle.answers.proofs.Faults.{holds, fails, fault-at, fault-none}
-use Rattle.calls.specs.Questions.{newVertex}
+use Rattle.instance.specs.Questions.{newVertex}
 use Rattle.instance_check.proofs.vertex_fault.Statement.{statement}
 use Rattle.instance_check.proofs.vertex_fault.Tie as tie
 

@@ -10,7 +10,7 @@ use lib.Dec.{eqb}
 use Rattle.neighbours.proofs.Laws.{marked-length, second-length, row-more, joined, ends-below, high-at, all-joined, both-inside, zeros-none}
 use Rattle.lists.specs.Loop.{some}
 use Rattle.instance.specs.Instance.{lowEnd, highEnd}
-use Rattle.calls.proofs.Accepted.{limits-known}
+use Rattle.instance.proofs.Accepted.{limits-known}
 use Rattle.neighbours.proofs.mark_row.Statement.{statement}
 use Rattle.neighbours.proofs.mark_row.Tie as tie
 

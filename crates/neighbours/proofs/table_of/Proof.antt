@@ -10,7 +10,7 @@ use lib.ListN.{length, getD, length-set}
 use Rattle.neighbours.proofs.Laws.{table-more, joined, ends-below, high-at, all-joined, both-inside, zeros-none}
 use Rattle.lists.specs.Loop.{some}
 use Rattle.instance.specs.Instance.{lowEnd, highEnd}
-use Rattle.calls.proofs.Accepted.{limits-known}
+use Rattle.instance.proofs.Accepted.{limits-known}
 use Rattle.neighbours.proofs.table_of.Statement.{statement}
 use Rattle.neighbours.proofs.table_of.Tie as tie
 

@@ -4,7 +4,7 @@ use borrow.Author.Needs.{needs}
 use lib.IntN.{pos}
 use lib.ListN.{replicate}
 use Rattle.one_clause.proofs.Out.{fits, instance-refused, checked-accepted, no-such-clause, too-short, done}
-use Rattle.calls.proofs.Accepted.{limits-known}
+use Rattle.instance.proofs.Accepted.{limits-known}
 use Rattle.one_clause.proofs.clause.Statement.{statement}
 use Rattle.one_clause.proofs.clause.Tie as tie
 

@@ -7,8 +7,8 @@ use Rattle.formula.specs.Formula.{A, B, C, D, E, F, G}
 use Rattle.one_clause.proofs.Clauses.{puts, clause-A, clause-B, place-in, last-family}
 use Rattle.formula.specs.Counts.{clausesBy}
 use Rattle.formula.proofs.Counts.{count-A, count-B, count-C, count-D, count-E, count-F, count-G}
-use Rattle.calls.specs.Accepted.{instanceOf}
-use Rattle.calls.proofs.Accepted.{limits-known, sizes-same, starts-inside, goals-inside}
+use Rattle.instance.specs.Accepted.{instanceOf}
+use Rattle.instance.proofs.Accepted.{limits-known, sizes-same, starts-inside, goals-inside}
 use Rattle.one_clause.proofs.put_clause.Statement.{statement}
 use Rattle.one_clause.proofs.put_clause.Tie as tie
 

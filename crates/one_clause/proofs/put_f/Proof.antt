@@ -10,8 +10,8 @@ use Rattle.one_clause.proofs.Clauses.{puts, clause-F}
 use Rattle.counts.proofs.Laws.{products}
 use Rattle.clauses.specs.Lines.{marked}
 use Rattle.formula.specs.Formula.{onward}
-use Rattle.calls.specs.Accepted.{instanceOf}
-use Rattle.calls.proofs.Accepted.{limits-known, sizes-same}
+use Rattle.instance.specs.Accepted.{instanceOf}
+use Rattle.instance.proofs.Accepted.{limits-known, sizes-same}
 use Rattle.one_clause.proofs.Ranges.{clause-F-most}
 use Rattle.one_clause.proofs.put_f.Statement.{statement}
 use Rattle.one_clause.proofs.put_f.Tie as tie

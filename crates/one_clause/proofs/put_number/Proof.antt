@@ -1,8 +1,8 @@
 -- `one_clause::put_number` meets its contract. It follows from the contracts of the functions called and the laws cited. Assumes nothing.
 use mathlib.Core.Path.{sym}
 use borrow.Author.Needs.{needs}
-use Rattle.calls.specs.Accepted.{instanceOf}
-use Rattle.calls.proofs.Accepted.{limits-known, sizes-same}
+use Rattle.instance.specs.Accepted.{instanceOf}
+use Rattle.instance.proofs.Accepted.{limits-known, sizes-same}
 use Rattle.one_clause.proofs.put_number.Statement.{statement}
 use Rattle.one_clause.proofs.put_number.Tie as tie
 

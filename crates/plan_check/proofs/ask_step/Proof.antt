@@ -3,8 +3,8 @@ use mathlib.Core.Path.{sym}
 use Prim.Native.Nat.{_+_}
 use native.Mathlib.Omega.{arith}
 use borrow.Author.Needs.{needs}
-use Rattle.calls.specs.Accepted.{instanceOf}
-use Rattle.calls.proofs.Accepted.{sizes-same}
+use Rattle.instance.specs.Accepted.{instanceOf}
+use Rattle.instance.proofs.Accepted.{sizes-same}
 use Rattle.conditions.proofs.Laws.{Rows, rows}
 use Rattle.plan_check.proofs.Laws.{stop-19, stop-20, stop-21, pass-21}
 use Rattle.plan_check.proofs.ask_step.Statement.{statement}

@@ -2,8 +2,8 @@
 use mathlib.Core.Path.{sym, _∙_}
 use native.Mathlib.Omega.{arith}
 use borrow.Author.Needs.{needs}
-use Rattle.calls.specs.Accepted.{instanceOf}
-use Rattle.calls.proofs.Accepted.{sizes-same}
+use Rattle.instance.specs.Accepted.{instanceOf}
+use Rattle.instance.proofs.Accepted.{sizes-same}
 use Rattle.plan_check.proofs.Laws.{stop-instance, passed, bytes-same, bytes-most, refused-length, refused-plan, accepted-plan}
 use Rattle.plan_check.proofs.check_plan.Statement.{statement}
 use Rattle.plan_check.proofs.check_plan.Tie as tie

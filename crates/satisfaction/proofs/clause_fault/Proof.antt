@@ -10,7 +10,7 @@ use Rattle.lists.specs.Loop.{for, all}
 use Rattle.lists.proofs.Loops.{for-all}
 use Rattle.valuation.specs.Valuation.{satisfied?}
 use Rattle.formula.specs.Blocks.{steps, family}
-use Rattle.calls.proofs.Accepted.{limits-known}
+use Rattle.instance.proofs.Accepted.{limits-known}
 use Rattle.satisfaction.specs.Rows.{Before, held, row}
 use Rattle.satisfaction.proofs.Laws.{block-passed}
 use Rattle.satisfaction.proofs.Families.{in-families, next-family, all-families, whole}

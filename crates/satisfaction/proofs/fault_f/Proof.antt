@@ -3,12 +3,12 @@ use Prim.Native.Nat.{_+_, _-_, _*_, _≤_}
 use native.Mathlib.Omega.{arith}
 use borrow.Author.Needs.{needs}
 use lib.ListN.{length}
-use Rattle.formula.specs.Limits.{Limits}
+use Rattle.instance.specs.Limits.{Limits}
 use Rattle.instance.specs.Instance.{adjacent}
 use Rattle.formula.specs.Blocks.{cells, groups, group, block}
 use Rattle.plan.specs.Plan.{place}
-use Rattle.calls.specs.Accepted.{instanceOf}
-use Rattle.calls.proofs.Accepted.{limits-known, sizes-same}
+use Rattle.instance.specs.Accepted.{instanceOf}
+use Rattle.instance.proofs.Accepted.{limits-known, sizes-same}
 use Rattle.satisfaction.specs.Rows.{row}
 use Rattle.satisfaction.proofs.Bounds.{Products, products, row-fits, blocks-fit}
 use Rattle.satisfaction.proofs.Steps.{plain-1}

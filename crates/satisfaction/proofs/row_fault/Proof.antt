@@ -5,8 +5,8 @@ use native.Mathlib.Omega.{arith}
 use lib.ListN.{getD}
 use Rattle.formula.specs.Variables.{X}
 use Rattle.formula.specs.Blocks.{steps, cells, groups, group, block}
-use Rattle.formula.specs.Limits.{Limits}
-use Rattle.calls.proofs.Accepted.{limits-known, starts-length, goals-length, starts-inside, goals-inside}
+use Rattle.instance.specs.Limits.{Limits}
+use Rattle.instance.proofs.Accepted.{limits-known, starts-length, goals-length, starts-inside, goals-inside}
 use Rattle.satisfaction.specs.Rows.{held, row}
 use Rattle.satisfaction.proofs.Bounds.{Products, products}
 use Rattle.satisfaction.proofs.Families.{last-family, size-A, size-B, size-C, size-D, size-E, size-F, size-G, places, apart}

@@ -1,11 +1,11 @@
--- `entries::literal_of` meets its contract: a number below 2 ^ 31 keeps its value with a sign. Assumes nothing.
+-- `variables::literal_of` meets its contract: a number below 2 ^ 31 keeps its value with a sign. Assumes nothing.
 
 use native.Mathlib.Omega.{arith}
 use mir.Syntax.{w32}
 use mir.Facts.{toZ-pos}
 use borrow.Author.Needs.{needs}
-use Rattle.entries.proofs.literal_of.Statement.{statement}
-use Rattle.entries.proofs.literal_of.Tie as tie
+use Rattle.variables.proofs.literal_of.Statement.{statement}
+use Rattle.variables.proofs.literal_of.Tie as tie
 
 cast-result : tie.Need-cast-result
 cast-result c = search needs

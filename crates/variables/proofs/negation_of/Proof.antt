@@ -1,10 +1,10 @@
--- `entries::negation_of` meets its contract: a variable number is small, so its negative fits. Assumes nothing.
+-- `variables::negation_of` meets its contract: a variable number is small, so its negative fits. Assumes nothing.
 
 use mir.Facts.{toZ-ofZ}
-use Rattle.entries.proofs.Laws.{neg-is, neg-fits}
+use Rattle.variables.proofs.Laws.{neg-is, neg-fits}
 use borrow.Author.Needs.{needs}
-use Rattle.entries.proofs.negation_of.Statement.{statement}
-use Rattle.entries.proofs.negation_of.Tie as tie
+use Rattle.variables.proofs.negation_of.Statement.{statement}
+use Rattle.variables.proofs.negation_of.Tie as tie
 
 cast-result : tie.Need-cast-result
 cast-result c = search needs

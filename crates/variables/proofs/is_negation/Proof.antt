@@ -1,9 +1,9 @@
--- `entries::is_negation` meets its contract: stored numbers are equal exactly where the signed numbers are. Assumes nothing.
+-- `variables::is_negation` meets its contract: stored numbers are equal exactly where the signed numbers are. Assumes nothing.
 use lib.IntN.{pos, negℤ}
-use Rattle.entries.proofs.Laws.{neg-fits, bits-same}
+use Rattle.variables.proofs.Laws.{neg-fits, bits-same}
 use borrow.Author.Needs.{needs}
-use Rattle.entries.proofs.is_negation.Statement.{statement}
-use Rattle.entries.proofs.is_negation.Tie as tie
+use Rattle.variables.proofs.is_negation.Statement.{statement}
+use Rattle.variables.proofs.is_negation.Tie as tie
 
 negation-of-requires : tie.Need-negation-of-requires
 negation-of-requires c κs = search needs

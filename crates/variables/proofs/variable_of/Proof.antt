@@ -1,10 +1,10 @@
--- `entries::variable_of` meets its contract: each product is bounded by the limits of the sizes. Assumes nothing.
+-- `variables::variable_of` meets its contract: each product is bounded by the limits of the sizes. Assumes nothing.
 use native.Mathlib.Omega.{arith}
 use native.Mathlib.Numerals.{add-one}
 use Rattle.formula.specs.Variables.{index}
-use Rattle.entries.proofs.Laws.{Bounds, bounds}
-use Rattle.entries.proofs.variable_of.Statement.{statement}
-use Rattle.entries.proofs.variable_of.Tie as tie
+use Rattle.variables.proofs.Laws.{Bounds, bounds}
+use Rattle.variables.proofs.variable_of.Statement.{statement}
+use Rattle.variables.proofs.variable_of.Tie as tie
 
 known : (s : tie.Start) → Bounds (s .args .s) (s .args .t .0) (s .args .a .0)
 known s = bounds (s .args .s) (s .args .t .0) (s .args .a .0) (s .pre .0) (s .pre .1 .0) (s .pre .1 .1)

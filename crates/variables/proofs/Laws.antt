@@ -13,7 +13,8 @@ use mir.Syntax.{w32}
 use mir.Val.{SFits, toZ, ofZ}
 use mir.Facts.{toZ-pos, toZ-ofZ}
 use Rattle.instance.specs.declared.Sizes.{Sizes}
-use Rattle.formula.specs.Limits.{Limits}
+use Rattle.instance.specs.Limits.{Limits}
+use Rattle.formula.specs.Variables.{highest}
 use Rattle.valuation.specs.Valuation.{sameNumber}
 
 -- the products in X's number
@@ -27,14 +28,14 @@ bounds s t a w ht ha =
     record { rows = r; cells = mul-le-mul {n₂ = 527} {m₂ = 64} (omega (arith, w .k-most)) (w .n-most) }
 
 -- numbers that fit 32 bits with a sign
-pub pos-fits : {x : ℕ} → x ≤ 33792 → SFits w32 (pos x)
+pub pos-fits : {x : ℕ} → x ≤ highest → SFits w32 (pos x)
 pos-fits h = record { sfits = omega arith }
 
-pub neg-fits : (x : ℕ) → x ≤ 33792 → SFits w32 (negℤ (pos x))
+pub neg-fits : (x : ℕ) → x ≤ highest → SFits w32 (negℤ (pos x))
 neg-fits zero h = record { sfits = lit< tt }
 neg-fits (suc n) h = record { sfits = omega arith }
 
-pub neg-is : (x : ℕ) → x ≤ 33792 → pos 0 -ℤ toZ w32 x ≡ negℤ (pos x)
+pub neg-is : (x : ℕ) → x ≤ highest → pos 0 -ℤ toZ w32 x ≡ negℤ (pos x)
 neg-is x h = ap (λ (z : ℤ). pos 0 -ℤ z) (toZ-pos w32 {n = x} (omega arith)) ∙ +ℤ-idl (negℤ (pos x))
 
 -- what a test of two stored numbers says of the numbers

@@ -5,9 +5,9 @@ use Prim.Native.Nat.{ℕ}
 use lib.Dec.{T}
 use Rattle.lists.specs.Loop.{all}
 use Rattle.answers.specs.Answers.{clear}
 use Rattle.instance.specs.declared.Checked.{Checked}
 use Rattle.instance.specs.Instance.{Instance, instance, checked}
-use Rattle.calls.specs.Calls.{instanceQuestions}
+use Rattle.instance.specs.Questions.{instanceQuestions}
 
 -- the instance that the bytes b hold, with the horizon of c
 abbrev pub instanceOf : List ℕ → Checked → Instance

@@ -13,10 +13,9 @@ use Rattle.lists.proofs.Loops.{for-all, for-nil, unless-nil, unless-all}
 use Rattle.answers.specs.declared.Answer.{Answer}
 use Rattle.answers.specs.Answers.{Question, decide, clear}
 use Rattle.answers.proofs.Laws.{numbered, clear-iff, decide-iff, decide-after, decide-refused}
-use Rattle.instance.specs.Instance.{instance, vertices, agents, edges, lowEnd, Edges}
-use Rattle.formula.specs.Limits.{Limits}
-use Rattle.valuation.proofs.Families.{Sound}
-use Rattle.calls.specs.Calls.{instanceQuestions, instanceAnswer}
+use Rattle.instance.specs.Instance.{instance, vertices, agents, edges, lowEnd, Edges, Endpoints}
+use Rattle.instance.specs.Limits.{Limits}
+use Rattle.instance.specs.Questions.{instanceQuestions, instanceAnswer}
 
 module _ (b : List ℕ) (m : ℕ) where
   pub numbered-instance : T (all numbered (instanceQuestions b m))
@@ -42,9 +41,9 @@ module _ (b : List ℕ) (m : ℕ) where
         sym (decide-after (instanceQuestions b m) qs count (instance-iff .0 (sym (ap (λ (x : Answer). x .number) ea) ∙ e)))
 
   module _ (ok : T (all clear (instanceQuestions b m))) where
-    pub sound : Sound (instance b m)
+    pub endpoints : Endpoints (instance b m)
     unfolding instanceQuestions instance
-    sound =
+    endpoints =
         let h = simp (and-iff, clear-iff, for-nil, unless-nil, every-iff, not-iff, eqb-iff, ltb-iff) at ok in
         record {
           startsInside = λ a l. h .1 .1 .1 .1 .1 .1 .1 .0 a l .0;

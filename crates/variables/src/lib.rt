@@ -4,8 +4,8 @@ ghost use mathlib.Core.Path.{_≡_};
 ghost use mathlib.Core.Bool.{_||_};
 ghost use Prim.Native.Nat.{suc, _≤_, _<_};
 ghost use lib.IntN.{pos, negℤ};
-ghost use Rattle.formula.specs.Variables.{index};
-ghost use Rattle.formula.specs.Limits.{Limits};
+ghost use Rattle.formula.specs.Variables.{index, highest};
+ghost use Rattle.instance.specs.Limits.{Limits};
 ghost use Rattle.valuation.specs.Valuation.{sameNumber};
 
 pub struct Vertex(pub usize);
@@ -20,14 +20,14 @@ pub struct Variable(pub usize);
 pub fn variable_of(s: Sizes, t: Step, a: Agent, v: Vertex) -> Variable
     requires { ⌜ Limits s ⌝ }
     requires { ⌜ (t .0 ≤ s .m) × (a .0 < s .k) × (v .0 < s .n) ⌝ }
-    ensures { λ r. ⌜ (r .0 ≡ suc (index s (t .0) (a .0) (v .0))) × (r .0 ≤ 33792) ⌝ }
+    ensures { λ r. ⌜ (r .0 ≡ suc (index s (t .0) (a .0) (v .0))) × (r .0 ≤ highest) ⌝ }
 {
     Variable((t.0 * s.k + a.0) * s.n + v.0 + 1)
 }
 
 // The literal that says a variable.
 pub fn literal_of(x: Variable) -> i32
-    requires { ⌜ x .0 ≤ 33792 ⌝ }
+    requires { ⌜ x .0 ≤ highest ⌝ }
     ensures { λ r. ⌜ r ≡ pos (x .0) ⌝ }
 {
     x.0 as i32
@@ -35,7 +35,7 @@ pub fn literal_of(x: Variable) -> i32
 
 // The literal that says its negation.
 pub fn negation_of(x: Variable) -> i32
-    requires { ⌜ x .0 ≤ 33792 ⌝ }
+    requires { ⌜ x .0 ≤ highest ⌝ }
     ensures { λ r. ⌜ r ≡ negℤ (pos (x .0)) ⌝ }
 {
     -(x.0 as i32)
@@ -43,7 +43,7 @@ pub fn negation_of(x: Variable) -> i32
 
 // Does an entry say the variable? Any entry is compared, the lowest number too.
 pub fn is_literal(entry: i32, x: Variable) -> bool
-    requires { ⌜ x .0 ≤ 33792 ⌝ }
+    requires { ⌜ x .0 ≤ highest ⌝ }
     ensures { λ r. ⌜ r ≡ sameNumber entry (pos (x .0)) ⌝ }
 {
     entry == literal_of(x)
@@ -51,7 +51,7 @@ pub fn is_literal(entry: i32, x: Variable) -> bool
 
 // Does an entry say the variable's negation?
 pub fn is_negation(entry: i32, x: Variable) -> bool
-    requires { ⌜ x .0 ≤ 33792 ⌝ }
+    requires { ⌜ x .0 ≤ highest ⌝ }
     ensures { λ r. ⌜ r ≡ sameNumber entry (negℤ (pos (x .0))) ⌝ }
 {
     let negation = negation_of(x);
@@ -60,7 +60,7 @@ pub fn is_negation(entry: i32, x: Variable) -> bool
 
 // Is an entry the variable or its negative? The entry itself is never negated.
 pub fn is_entry(entry: i32, x: Variable) -> bool
-    requires { ⌜ x .0 ≤ 33792 ⌝ }
+    requires { ⌜ x .0 ≤ highest ⌝ }
     ensures { λ r. ⌜ r ≡ (sameNumber entry (pos (x .0)) || sameNumber entry (negℤ (pos (x .0)))) ⌝ }
 {
     if entry == literal_of(x) {

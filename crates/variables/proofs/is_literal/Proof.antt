@@ -1,9 +1,9 @@
--- `entries::is_literal` meets its contract: stored numbers are equal exactly where the signed numbers are. Assumes nothing.
+-- `variables::is_literal` meets its contract: stored numbers are equal exactly where the signed numbers are. Assumes nothing.
 use lib.IntN.{pos}
-use Rattle.entries.proofs.Laws.{pos-fits, bits-same}
+use Rattle.variables.proofs.Laws.{pos-fits, bits-same}
 use borrow.Author.Needs.{needs}
-use Rattle.entries.proofs.is_literal.Statement.{statement}
-use Rattle.entries.proofs.is_literal.Tie as tie
+use Rattle.variables.proofs.is_literal.Statement.{statement}
+use Rattle.variables.proofs.is_literal.Tie as tie
 
 literal-of-requires : tie.Need-literal-of-requires
 literal-of-requires c κs = search needs

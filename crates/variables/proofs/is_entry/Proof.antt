@@ -1,12 +1,12 @@
--- `entries::is_entry` meets its contract: the entry is compared with both literals of the variable. Assumes nothing.
+-- `variables::is_entry` meets its contract: the entry is compared with both literals of the variable. Assumes nothing.
 use lib.IntN.{pos, negℤ}
 use mir.Syntax.{w32}
 use mir.Val.{ofZ}
-use Rattle.entries.proofs.Laws.{pos-fits, neg-fits, same, same-true, same-false, bits-same}
+use Rattle.variables.proofs.Laws.{pos-fits, neg-fits, same, same-true, same-false, bits-same}
 use mathlib.Core.Path.{_≡_, sym, _∙_, ap}
 use borrow.Author.Needs.{needs}
-use Rattle.entries.proofs.is_entry.Statement.{statement}
-use Rattle.entries.proofs.is_entry.Tie as tie
+use Rattle.variables.proofs.is_entry.Statement.{statement}
+use Rattle.variables.proofs.is_entry.Tie as tie
 
 literal-of-requires : tie.Need-literal-of-requires
 literal-of-requires c κs = search needs

@@ -8,14 +8,13 @@ use lib.Seq.{getD-drop, getD-take, length-take-le}
 use Rattle.lists.specs.Slice.{filled}
 use Rattle.lists.proofs.Slices.{filled-length}
 use Rattle.answers.proofs.Laws.{byNumber-accepted}
 use Rattle.instance.specs.declared.Sizes.{Sizes}
 use Rattle.instance.specs.declared.Checked.{Checked}
-use Rattle.instance.specs.Instance.{Instance, instance, checked, unchecked, forAgents, vertices, agents, edges, starts, goals, Edges}
-use Rattle.formula.specs.Limits.{Limits}
-use Rattle.valuation.proofs.Families.{Sound}
-use Rattle.calls.specs.Calls.{instanceAnswer, instanceChecked}
-use Rattle.calls.specs.Accepted.{Accepted, instanceOf}
-use Rattle.calls.proofs.Instance.{instance-iff, sound, edges-known, length-known, limits, agents-below}
+use Rattle.instance.specs.Instance.{Instance, instance, checked, unchecked, forAgents, vertices, agents, edges, starts, goals, Edges, Endpoints}
+use Rattle.instance.specs.Limits.{Limits}
+use Rattle.instance.specs.Questions.{instanceAnswer, instanceChecked}
+use Rattle.instance.specs.Accepted.{Accepted, instanceOf}
+use Rattle.instance.proofs.Instance.{instance-iff, endpoints, edges-known, length-known, limits, agents-below}
 
 -- the instance check's answer and checked instance, where the number is 0
 module _ (b : List ℕ) (m : ℕ) (c : Checked) (ec : c ≡ instanceChecked b m) (e : instanceAnswer b m .number ≡ 0) where
@@ -84,8 +83,8 @@ module _ (b : List ℕ) (c : Checked) (w : Accepted b c) where
   pub graph : Edges I
   graph = edges-known b (c .sizes .m) (w .yes)
 
-  pub sound-known : Sound I
-  sound-known = sound b (c .sizes .m) (w .yes)
+  pub endpoints-known : Endpoints I
+  endpoints-known = endpoints b (c .sizes .m) (w .yes)
 
   few : agents b ≤ 16
   few = omega (arith, k-same, limits-known .k-most)
@@ -118,9 +117,9 @@ module _ (b : List ℕ) (c : Checked) (w : Accepted b c) where
   pub starts-inside : (a : ℕ) → a < c .sizes .k → getD (c .starts) a 0 < c .sizes .n
   unfolding instance
   starts-inside a l =
-      rw (start-at a l, sizes-same) (sound-known .startsInside a (subst (λ (s : Sizes). a < s .k) sizes-same l))
+      rw (start-at a l, sizes-same) (endpoints-known .startsInside a (subst (λ (s : Sizes). a < s .k) sizes-same l))
 
   pub goals-inside : (a : ℕ) → a < c .sizes .k → getD (c .goals) a 0 < c .sizes .n
   unfolding instance
   goals-inside a l =
-      rw (goal-at a l, sizes-same) (sound-known .goalsInside a (subst (λ (s : Sizes). a < s .k) sizes-same l))
+      rw (goal-at a l, sizes-same) (endpoints-known .goalsInside a (subst (λ (s : Sizes). a < s .k) sizes-same l))

@@ -1,0 +1,17 @@
+-- `counts::cells_of` meets its contract: by the number. Assumes nothing.
+use native.Mathlib.Omega.{arith}
+use Rattle.formula.proofs.Blocks.{cells-agents, cells-vertices}
+use borrow.Author.Needs.{needs}
+use Rattle.counts.proofs.cells_of.Statement.{statement}
+use Rattle.counts.proofs.cells_of.Tie as tie
+
+returns : tie.Need-returns
+returns c = (cells-vertices (c .before .args .s) (c .before .args .which) (c .if1 .taken), c .before .pre .0 .n-most)
+
+returns-2 : tie.Need-returns-2
+returns-2 c =
+    let s = c .before in
+    (cells-agents (s .args .s) (s .args .which) (s .pre .1) (c .if1 .left), omega (arith, s .pre .0 .k-most))
+
+pub cells-of-spec : {M : Type 1} → statement M
+cells-of-spec = tie.close (tie.spec returns returns-2)

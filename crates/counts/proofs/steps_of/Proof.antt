@@ -1,0 +1,26 @@
+-- `counts::steps_of` meets its contract: by the number. Assumes nothing.
+use native.Mathlib.Numerals.{add-one}
+use native.Mathlib.Omega.{arith}
+use Rattle.formula.proofs.Blocks.{steps-ends, steps-times, steps-moves}
+use borrow.Author.Needs.{needs}
+use Rattle.counts.proofs.steps_of.Statement.{statement}
+use Rattle.counts.proofs.steps_of.Tie as tie
+
+returns : tie.Need-returns
+returns c = (steps-ends (c .before .args .s) (c .before .args .which) (c .if1 .taken), omega arith)
+
+add-result : tie.Need-add-result
+add-result c = search needs
+
+returns-2 : tie.Need-returns-2
+returns-2 c =
+    let s = c .before .before .before in
+    (rw add-one (steps-times (s .args .s) (s .args .which) (omega arith) (c .before .if2 .taken)), omega (arith, s .pre .0 .m-most))
+
+returns-3 : tie.Need-returns-3
+returns-3 c =
+    let s = c .before .before in
+    (steps-moves (s .args .s) (s .args .which) (omega arith) (s .pre .1), omega (arith, s .pre .0 .m-most))
+
+pub steps-of-spec : {M : Type 1} → statement M
+steps-of-spec = tie.close (tie.spec returns add-result returns-2 returns-3)
