@@ -1,6 +1,6 @@
 -- When questions are answered yes, and what the first no gives.
 use mathlib.Core.Path.{_≡_, refl, _∙_, ap, ap₂}
-use mathlib.Core.Logic.{_↔_, _≢_}
+use mathlib.Core.Logic.{_↔_, _≢_, Iff·rfl}
 use mathlib.Core.List.{List, [], _∷_, _++_, cons≢nil}
 use mathlib.Core.Bool.{Bool, true, false}
 use Prim.Native.Nat.{ℕ, zero, suc, _≤_, _<_, _-_, _+_}
@@ -10,10 +10,10 @@ use lib.Dec.{T, ltb, ltb→lt}
 use Rattle.lists.specs.Loop.{for, unless, all}
 use Rattle.lists.specs.Slice.{filled}
 use Rattle.lists.proofs.Tests.{and-iff}
-use Rattle.lists.proofs.Loops.{for-nil, for-split, unless-nil, unless-one}
+use Rattle.lists.proofs.Loops.{for-all, for-nil, for-split, unless-nil, unless-all, unless-one}
 use Rattle.lists.proofs.Slices.{take-filled}
 use Rattle.answers.specs.declared.Answer.{Answer}
-use Rattle.answers.specs.Answers.{Question, clear, accept, decide, byNumber, lent}
+use Rattle.answers.specs.Answers.{Question, ask, askEach, clear, accept, decide, byNumber, lent}
 use Rattle.answers.specs.Fault.{FirstFault}
 
 -- no refusal of a question has the number 0
@@ -23,6 +23,25 @@ numbered q = all (λ r. ltb 0 (r .number)) q
 pub clear-iff : (q : Question) → T (clear q) ↔ (q ≡ [])
 clear-iff [] = ((λ t. refl), (λ e. tt))
 clear-iff (r ∷ rs) = ((λ t. absurd t), (λ e. cons≢nil e))
+
+-- a question about items, as a test over its refusals and where it is answered yes
+module _ (n : ℕ) (test : ℕ → Bool) (refusal : ℕ → Answer) where
+  pub each-all : (p : Answer → Bool) → T (all p (askEach n test refusal)) ↔ ((i : ℕ) → i < n → (T (test i) → ⊥) → T (p (refusal i)))
+  unfolding askEach
+  each-all p = simp (for-all, unless-all) Iff·rfl
+
+  pub each-nil : (askEach n test refusal ≡ []) ↔ ((i : ℕ) → i < n → T (test i))
+  unfolding askEach
+  each-nil = simp (for-nil, unless-nil) Iff·rfl
+
+-- the same of a question about one thing
+pub ask-all : (p : Answer → Bool) (test : Bool) (r : Answer) → T (all p (ask test r)) ↔ ((T test → ⊥) → T (p r))
+unfolding ask
+ask-all p test r = unless-all p test r
+
+pub ask-nil : (test : Bool) (r : Answer) → (ask test r ≡ []) ↔ T test
+unfolding ask
+ask-nil test r = unless-nil test r
 
 -- no question has the number 0, so an answer is 0 exactly when each question is answered yes
 pub decide-iff : (qs : List Question) (c : ℕ) → T (all numbered qs) → ((decide qs c) .number ≡ 0) ↔ T (all clear qs)
@@ -43,12 +62,12 @@ decide-count ((r ∷ rs′) ∷ qs) c t = absurd t
 
 -- one test: it holds, or it fails
 module _ (test : Bool) (r : Answer) (qs : List Question) (c : ℕ) where
-  pub ask-yes : T test → decide (unless test r ∷ qs) c ≡ decide qs c
-  unfolding decide
+  pub ask-yes : T test → decide (ask test r ∷ qs) c ≡ decide qs c
+  unfolding decide ask
   ask-yes t = rw (unless-nil test r .1 t)
 
-  pub ask-no : (T test → ⊥) → decide (unless test r ∷ qs) c ≡ r
-  unfolding decide
+  pub ask-no : (T test → ⊥) → decide (ask test r ∷ qs) c ≡ r
+  unfolding decide ask
   ask-no f = rw (unless-one test r f)
 
 -- questions that are answered yes may be passed over
@@ -83,15 +102,15 @@ decide-refused ((r ∷ rs′) ∷ qs) rs c d f = refl
 
 -- a loop over the items of a question, from item 0 on: each item passes, or item a is the first to fail
 module _ (n : ℕ) (test : ℕ → Bool) (refusal : ℕ → Answer) (qs : List Question) (c : ℕ) where
-  pub decide-pass : ((i : ℕ) → i < n → T (test i)) → decide ((for n λ i. unless (test i) (refusal i)) ∷ qs) c ≡ decide qs c
-  unfolding decide
+  pub decide-pass : ((i : ℕ) → i < n → T (test i)) → decide (askEach n test refusal ∷ qs) c ≡ decide qs c
+  unfolding decide askEach
   decide-pass h =
       let e : for n (λ i. unless (test i) (refusal i)) ≡ [] = for-nil n _ .1 (λ i l. unless-nil (test i) (refusal i) .1 (h i l)) in
       ap (λ q. decide (q ∷ qs) c) e
 
   pub decide-stop : (a : ℕ) → a < n → ((i : ℕ) → i < a → T (test i)) → (T (test a) → ⊥)
-      → decide ((for n λ i. unless (test i) (refusal i)) ∷ qs) c ≡ refusal a
-  unfolding decide
+      → decide (askEach n test refusal ∷ qs) c ≡ refusal a
+  unfolding decide askEach
   decide-stop a l h f =
       let g : ℕ → List Answer = λ i. unless (test i) (refusal i) in
       let r : ℕ = n - suc a in
@@ -104,10 +123,10 @@ module _ (n : ℕ) (test : ℕ → Bool) (refusal : ℕ → Answer) (qs : List Q
 
 -- the same from what a loop returns
 module _ {n : ℕ} {test : ℕ → Bool} {r : ℕ} (f : FirstFault n test r) (refusal : ℕ → Answer) (qs : List Question) (c : ℕ) where
-  pub fault-pass : n ≤ r → decide ((for n λ i. unless (test i) (refusal i)) ∷ qs) c ≡ decide qs c
+  pub fault-pass : n ≤ r → decide (askEach n test refusal ∷ qs) c ≡ decide qs c
   fault-pass l = decide-pass n test refusal qs c (λ i h. f .before i (omega arith))
 
-  pub fault-stop : r < n → decide ((for n λ i. unless (test i) (refusal i)) ∷ qs) c ≡ refusal r
+  pub fault-stop : r < n → decide (askEach n test refusal ∷ qs) c ≡ refusal r
   fault-stop l = decide-stop n test refusal qs c r l (f .before) (f .here l)
 
 -- an accepted call's slice, and a refused one's

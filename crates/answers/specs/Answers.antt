@@ -20,11 +20,11 @@ abbrev pub Question : Type 0
 Question = List Answer
 
 -- A question about n items, asked of item 0, then of item 1, and so on: an item that fails its test gives its refusal.
-abbrev pub askEach : ℕ → (ℕ → Bool) → (ℕ → Answer) → Question
+unfoldable pub askEach : ℕ → (ℕ → Bool) → (ℕ → Answer) → Question
 askEach n test refusal = for n λ i. unless (test i) (refusal i)
 
 -- a question about one thing: the same with one item
-abbrev pub ask : Bool → Answer → Question
+unfoldable pub ask : Bool → Answer → Question
 ask test refusal = unless test refusal
 
 -- a question is answered yes

@@ -8,9 +8,9 @@ use native.Mathlib.Omega.{arith}
 use lib.Dec.{T}
 use Rattle.lists.specs.Loop.{for, all}
 use Rattle.lists.proofs.Tests.{and-iff, or-imp, not-iff, eqb-iff, ltb-iff, every-iff}
-use Rattle.lists.proofs.Loops.{all-append, for-all, for-nil, unless-nil, unless-all}
+use Rattle.lists.proofs.Loops.{all-append, for-all}
 use Rattle.answers.specs.Answers.{Question, clear}
-use Rattle.answers.proofs.Laws.{numbered, clear-iff, decide-iff, decide-after}
+use Rattle.answers.proofs.Laws.{numbered, clear-iff, each-all, each-nil, decide-iff, decide-after, ask-nil, ask-all}
 use Rattle.instance.specs.declared.Sizes.{Sizes}
 use Rattle.instance.specs.Instance.{Instance, instance, adjacent, Edge}
 use Rattle.instance.proofs.Graph.{adjacent-iff}
@@ -27,7 +27,7 @@ module _ (I : Instance) (p : List ℕ) where
   pub numbered-plan : T (all numbered (question13 I p ∷ planQuestions I p))
   unfolding planQuestions
   numbered-plan =
-      simp (and-iff, all-append numbered (for m (stepQuestions I p)), for-all, unless-all) (
+      simp (and-iff, all-append numbered (for m (stepQuestions I p)), for-all, each-all, ask-all) (
         (λ f. tt),
         (
           (λ i l f. tt),
@@ -54,7 +54,7 @@ module _ (I : Instance) (p : List ℕ) where
   unfolding planQuestions condition1 condition2 condition3
   clear-plan =
       let P : ℕ → ℕ → ℕ = place sizes p in
-      simp (and-iff, all-append clear (for m (stepQuestions I p)), for-all, clear-iff, for-nil, unless-nil, or-imp, not-iff, eqb-iff, ltb-iff, every-iff) (
+      simp (and-iff, all-append clear (for m (stepQuestions I p)), for-all, clear-iff, each-nil, ask-nil, or-imp, not-iff, eqb-iff, ltb-iff, every-iff) (
         (λ h. record {
           size = h .0;
           inside = h .1 .0;

@@ -8,9 +8,9 @@ use lib.Dec.{T}
 use lib.IntN.{ℤ, pos, negsuc, negℤ}
 use Rattle.lists.specs.Loop.{any, all}
 use Rattle.lists.proofs.Tests.{and-iff, or-iff, eqb-iff}
-use Rattle.lists.proofs.Loops.{for-all, for-nil, unless-nil, unless-all, all-getD, any-mem, all-mem}
+use Rattle.lists.proofs.Loops.{all-getD, any-mem, all-mem}
 use Rattle.answers.specs.Answers.{clear}
-use Rattle.answers.proofs.Laws.{numbered, clear-iff}
+use Rattle.answers.proofs.Laws.{numbered, clear-iff, each-all, each-nil, ask-nil, ask-all}
 use Rattle.formula.specs.Variables.{Literal}
 use Rattle.formula.specs.Formula.{Formula}
 use Rattle.valuation.specs.Valuation.{sameNumber, entry, rightEntry, true?, satisfied?}
@@ -45,14 +45,14 @@ module _ (f : Formula) (es : List ℤ) where
   )
 
   pub numbered-valuation : T (all numbered (question14 f es ∷ question23 f es ∷ question24 f es ∷ []))
-  numbered-valuation = simp (and-iff, for-all, unless-all) ((λ f. tt), ((λ i l f. tt), ((λ i l f. tt), tt)))
+  numbered-valuation = simp (and-iff, each-all, ask-all) ((λ f. tt), ((λ i l f. tt), ((λ i l f. tt), tt)))
 
   pub clear-valuation : T (all clear (question14 f es ∷ question23 f es ∷ question24 f es ∷ []))
       ↔ (Valuation variables es × Sat (true? es) clauses)
   clear-valuation =
       let g : Sat (true? es) clauses ↔ ((i : ℕ) → i < length clauses → T (satisfied? es (getD clauses i []))) =
       all-getD [] (satisfied? es) clauses in
-      simp (and-iff, clear-iff, for-nil, unless-nil, eqb-iff) (
+      simp (and-iff, clear-iff, each-nil, ask-nil, eqb-iff) (
         (λ h. (record { size = h .0; each = λ i l. right-iff es i .0 (h .1 .0 i l) }, g .1 (h .1 .1 .0))),
         (λ h. (h .0 .size, ((λ i l. right-iff es i .1 (h .0 .each i l)), (g .0 (h .1), tt)))),
       )

@@ -9,35 +9,35 @@ use lib.ListN.{length, getD}
 use lib.Seq.{ext-getD}
 use lib.Dec.{T, leb}
 use lib.IntN.{ℤ, pos}
-use Rattle.lists.specs.Loop.{unless, all}
+use Rattle.lists.specs.Loop.{all}
 use Rattle.lists.proofs.Tests.{leb-iff}
-use Rattle.lists.proofs.Loops.{unless-nil, unless-all}
 use Rattle.lists.proofs.Blocks.{place-lt, place-split}
 use Rattle.answers.specs.declared.Answer.{Answer}
-use Rattle.answers.specs.Answers.{clear}
-use Rattle.answers.proofs.Laws.{clear-iff, clear-second, numbered-second, decide-iff, decide-after, lent-take}
+use Rattle.answers.specs.Answers.{ask, clear}
+use Rattle.answers.proofs.Laws.{clear-iff, clear-second, numbered-second, decide-iff, decide-after, lent-take, ask-nil, ask-all}
 use Rattle.instance.specs.declared.Sizes.{Sizes}
-use Rattle.instance.specs.Instance.{Instance, instance}
+use Rattle.instance.specs.Instance.{Instance, instance, Endpoints}
 use Rattle.formula.specs.Variables.{X, variableCount}
-use Rattle.formula.specs.Formula.{clauses}
+use Rattle.formula.specs.Formula.{clauses, Formula, formula}
 use Rattle.plan.specs.Plan.{place}
 use Rattle.plan.specs.Passing.{Passes}
 use Rattle.valuation.specs.Valuation.{true?, named, namedPlan, planValuation}
 use Rattle.valuation.specs.Satisfying.{Valuation, Names}
 use Rattle.valuation.specs.Places.{Places}
-use Rattle.valuation.proofs.Families.{Sat, Sound, satisfies-iff, sat-CD, places-cong, places-unique}
+use Rattle.valuation.proofs.Families.{Sat, satisfies-iff, sat-CD, places-cong, places-unique}
 use Rattle.valuation.proofs.Entries.{index-onto, true-yes, named-places, named-size, named-at, written-size, written-valuation, written-places}
 use Rattle.calls.specs.Questions.{question13, question14, question15, question16, question23, question24}
 use Rattle.instance.specs.Questions.{instanceQuestions}
 use Rattle.calls.specs.Calls.{planQuestions, decodeAnswer, decodeSlice, encodeAnswer, encodeSlice}
-use Rattle.instance.proofs.Instance.{instance-iff, sound}
+use Rattle.instance.proofs.Instance.{instance-iff, endpoints}
 use Rattle.calls.proofs.Plan.{numbered-plan, clear-plan, check-iff}
 use Rattle.calls.proofs.Valuation.{true-iff, satisfies-mem, numbered-valuation, clear-valuation}
+use Rattle.claims.proofs.Formula.{plan-steps}
 use Rattle.claims.specs.Correspondence.{Accepts, Correspondence, Claim, bytes, N, handedBack, written}
 
 -- a question whether a slice of s places has x or more
-fits : (x s : ℕ) (r : Answer) → x ≤ s → T (clear (unless (leb x s) r))
-fits x s r l = clear-iff (unless (leb x s) r) .1 (unless-nil (leb x s) r .1 (leb-iff x s .1 l))
+fits : (x s : ℕ) (r : Answer) → x ≤ s → T (clear (ask (leb x s) r))
+fits x s r l = clear-iff (ask (leb x s) r) .1 (ask-nil (leb x s) r .1 (leb-iff x s .1 l))
 
 module _ (I : Instance) where
   open Instance I using (sizes)
@@ -69,13 +69,13 @@ module _ (I : Instance) where
       (λ t c x y. b .chosen t c (place sizes p t c) x y (a .inside t c x y) .0 (a .chosen t c (place sizes p t c) x y (a .inside t c x y) .1 refl))
 
   -- the plan that a satisfying valuation names
-  module _ (es : List ℤ) (w : Valuation sizes es) (h : Sat (true? es) (clauses I)) where
+  module _ (es : List ℤ) (w : Valuation (variableCount sizes) es) (h : Sat (true? es) (clauses I)) where
     pub named-at-places : Places sizes (true? es) (place sizes (namedPlan sizes es))
     named-at-places =
         let (c, d) = sat-CD I (true? es) h in
         places-cong sizes (true? es) (named sizes es) (place sizes (namedPlan sizes es)) (named-places I es w c d) (λ t a x y. sym (named-at sizes es t a x y))
 
-    pub named-passes : Sound I → Passes I (namedPlan sizes es)
+    pub named-passes : Endpoints I → Passes I (namedPlan sizes es)
     named-passes s =
         record {
           size = named-size sizes es;
@@ -86,7 +86,7 @@ module _ (I : Instance) where
         }
 
   -- two satisfying valuations that name one plan are equal
-  module _ (es fs : List ℤ) (w : Valuation sizes es) (x : Valuation sizes fs) (P : ℕ → ℕ → ℕ) where
+  module _ (es fs : List ℤ) (w : Valuation (variableCount sizes) es) (x : Valuation (variableCount sizes) fs) (P : ℕ → ℕ → ℕ) where
     same-valuation : Places sizes (true? es) P → Places sizes (true? fs) P → es ≡ fs
     same-valuation c d =
         ext-getD (pos 0) es fs (w .size ∙ sym (x .size))
@@ -107,10 +107,10 @@ module _ (I : Instance) where
     pub written-names : Places sizes (true? (planValuation sizes p)) (place sizes p)
     written-names = written-places sizes p (inside-at p w)
 
-    pub written-sat : Sound I → Sat (true? (planValuation sizes p)) (clauses I)
+    pub written-sat : Endpoints I → Sat (true? (planValuation sizes p)) (clauses I)
     written-sat s = satisfies-iff I s (place sizes p) (true? (planValuation sizes p)) written-names .1 (w .leads)
 
-    pub round-trip : Sound I → namedPlan sizes (planValuation sizes p) ≡ p
+    pub round-trip : Endpoints I → namedPlan sizes (planValuation sizes p) ≡ p
     round-trip s =
         let v = written-valuation sizes p in
         let h = written-sat s in
@@ -121,22 +121,25 @@ module _ (b : List ℕ) (m : ℕ) (ok : T (all clear (instanceQuestions b m))) w
   abbrev I : Instance
   I = instance b m
 
+  abbrev F : Formula
+  F = formula I
+
   -- ---- acceptance
   pub encode-iff : (p : List ℕ) (s : ℕ) → N b m ≤ s → Accepts (encodeAnswer b m p s) ↔ Passes I p
   unfolding encodeAnswer
   encode-iff p s l =
       rw (decide-after (instanceQuestions b m) _ _ ok)
-      (Iff·trans (decide-iff (question13 I p ∷ question16 I s ∷ planQuestions I p) _ (numbered-second (question13 I p) (question16 I s) (planQuestions I p) (unless-all _ (leb (N b m) s) _ .1 (λ f. tt)) (numbered-plan I p)))
-      (Iff·trans (clear-second (question13 I p) (question16 I s) (planQuestions I p) (fits (N b m) s _ l))
+      (Iff·trans (decide-iff (question13 I p ∷ question16 F s ∷ planQuestions I p) _ (numbered-second (question13 I p) (question16 F s) (planQuestions I p) (ask-all _ (leb (N b m) s) _ .1 (λ f. tt)) (numbered-plan I p)))
+      (Iff·trans (clear-second (question13 I p) (question16 F s) (planQuestions I p) (fits (N b m) s _ l))
       (clear-plan I p)))
 
-  pub decode-iff : (es : List ℤ) (s : ℕ) → bytes b m ≤ s → Accepts (decodeAnswer b m es s) ↔ (Valuation (I .sizes) es × Sat (true? es) (clauses I))
+  pub decode-iff : (es : List ℤ) (s : ℕ) → bytes b m ≤ s → Accepts (decodeAnswer b m es s) ↔ (Valuation (N b m) es × Sat (true? es) (clauses I))
   unfolding decodeAnswer
   decode-iff es s l =
       rw (decide-after (instanceQuestions b m) _ _ ok)
-      (Iff·trans (decide-iff (question14 I es ∷ question15 I s ∷ question23 I es ∷ question24 I es ∷ []) _ (numbered-second (question14 I es) (question15 I s) ((question23 I es ∷ question24 I es ∷ [])) (unless-all _ (leb (bytes b m) s) _ .1 (λ f. tt)) (numbered-valuation I es)))
-      (Iff·trans (clear-second (question14 I es) (question15 I s) ((question23 I es ∷ question24 I es ∷ [])) (fits (bytes b m) s _ l))
-      (clear-valuation I es)))
+      (Iff·trans (decide-iff (question14 F es ∷ question15 I s ∷ question23 F es ∷ question24 F es ∷ []) _ (numbered-second (question14 F es) (question15 I s) ((question23 F es ∷ question24 F es ∷ [])) (ask-all _ (leb (bytes b m) s) _ .1 (λ f. tt)) (numbered-valuation F es)))
+      (Iff·trans (clear-second (question14 F es) (question15 I s) ((question23 F es ∷ question24 F es ∷ [])) (fits (bytes b m) s _ l))
+      (clear-valuation F es)))
 
   -- ---- slices
   handed : (es : List ℤ) (s : List ℕ) → Accepts (decodeAnswer b m es (length s)) → handedBack b m es s ≡ namedPlan (I .sizes) es
@@ -150,12 +153,12 @@ module _ (b : List ℕ) (m : ℕ) (ok : T (all clear (instanceQuestions b m))) w
   pub correspondence-at : Correspondence b m
   correspondence-at =
       record {
-        decoder = λ es s l. Iff·trans (decode-iff es (length s) l) ((λ (w, h). (w, satisfies-mem I es .0 h)), (λ (w, h). (w, satisfies-mem I es .1 h)));
+        decoder = λ es s l. Iff·trans (decode-iff es (length s) l) ((λ (w, h). (w, satisfies-mem F es .0 h)), (λ (w, h). (w, satisfies-mem F es .1 h)));
         decoded = λ es s l e.
             let (w, h) = decode-iff es (length s) l .0 e in
             rw (handed es s e) (
               names I es (namedPlan (I .sizes) es) (named-size (I .sizes) es) (named-at-places I es w h),
-              check-iff b m ok (namedPlan (I .sizes) es) .1 (named-passes I es w h (sound b m ok)),
+              check-iff b m ok (namedPlan (I .sizes) es) .1 (named-passes I es w h (endpoints b m ok)),
             );
         injective = λ es fs s s′ l l′ e e′ q.
             let (w, h) = decode-iff es (length s) l .0 e in
@@ -168,17 +171,19 @@ module _ (b : List ℕ) (m : ℕ) (ok : T (all clear (instanceQuestions b m))) w
             let w = encode-iff p (length z) l .0 e in
             rw (wrote p z e) (
               written-valuation (I .sizes) p,
-              satisfies-mem I (planValuation (I .sizes) p) .0 (written-sat I p w (sound b m ok)),
+              satisfies-mem F (planValuation (I .sizes) p) .0 (written-sat I p w (endpoints b m ok)),
               names I (planValuation (I .sizes) p) p (w .size) (written-names I p w),
               (λ s l′.
-                  let a = decode-iff (planValuation (I .sizes) p) (length s) l′ .1 (written-valuation (I .sizes) p, written-sat I p w (sound b m ok)) in
-                  (a, handed (planValuation (I .sizes) p) s a ∙ round-trip I p w (sound b m ok))),
+                  let a = decode-iff (planValuation (I .sizes) p) (length s) l′ .1 (written-valuation (I .sizes) p, written-sat I p w (endpoints b m ok)) in
+                  (a, handed (planValuation (I .sizes) p) s a ∙ round-trip I p w (endpoints b m ok))),
             );
         satisfiable = (
-          (λ (es, w, h). (namedPlan (I .sizes) es, check-iff b m ok (namedPlan (I .sizes) es) .1 (named-passes I es w (satisfies-mem I es .1 h) (sound b m ok)))),
-          (λ (p, e).
+          (λ (es, w, h).
+              let x = named-passes I es w (satisfies-mem F es .1 h) (endpoints b m ok) in
+              (namedPlan (I .sizes) es, plan-steps b m ok (namedPlan (I .sizes) es) x, check-iff b m ok (namedPlan (I .sizes) es) .1 x)),
+          (λ (p, q, e).
               let w = check-iff b m ok p .0 e in
-              (planValuation (I .sizes) p, written-valuation (I .sizes) p, satisfies-mem I (planValuation (I .sizes) p) .0 (written-sat I p w (sound b m ok)))),
+              (planValuation (I .sizes) p, written-valuation (I .sizes) p, satisfies-mem F (planValuation (I .sizes) p) .0 (written-sat I p w (endpoints b m ok)))),
         );
       }
 

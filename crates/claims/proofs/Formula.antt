@@ -1,28 +1,72 @@
 -- The formula's counts and the plan check, gathered.
 use mathlib.Core.Path.{_≡_, refl, sym, _∙_, ap}
-use mathlib.Core.List.{List}
-use Prim.Native.Nat.{ℕ, _≤_}
-use lib.ListN.{length}
+use mathlib.Core.List.{List, [], _∷_, _++_}
+use Prim.Native.Nat.{ℕ, suc, _*_, _-_, _/_, _≤_}
+use native.Mathlib.Nat.{mul-comm, mul-div-cancel-left}
+use native.Mathlib.Numerals.{add-one}
+use native.Mathlib.Omega.{arith}
+use lib.ListN.{length, getD, length-append}
 use lib.Dec.{T}
 use Rattle.lists.specs.Loop.{all}
+use Rattle.lists.proofs.Tests.{and-iff, ltb-iff}
+use Rattle.lists.proofs.Loops.{all-append}
 use Rattle.answers.specs.declared.Answer.{Answer}
-use Rattle.answers.specs.Answers.{clear, decide}
-use Rattle.answers.proofs.Laws.{decide-iff, decide-count}
-use Rattle.instance.specs.Instance.{Instance, instance}
-use Rattle.formula.specs.Formula.{words}
-use Rattle.formula.specs.Counts.{wordCount}
+use Rattle.answers.specs.Answers.{Question, clear, decide, withClauses}
+use Rattle.answers.proofs.Laws.{numbered, clear-iff, decide-iff, decide-count, byNumber-accepted, ask-nil}
+use Rattle.instance.specs.Instance.{Instance, instance, agents}
+use Rattle.formula.specs.Formula.{clauses}
 use Rattle.formula.proofs.Counts.{count-A, count-B, count-C, count-D, count-E, count-F, count-G, words-A, words-B, words-C, words-D, words-E, words-F, words-G, clause-count, word-count, largest}
 use Rattle.formula.proofs.Limits.{words-most, clause-most}
-use Rattle.plan.specs.Plan.{cost}
+use Rattle.plan.specs.Plan.{makespan}
+use Rattle.plan.specs.Passing.{Passes}
 use Rattle.instance.specs.Questions.{instanceQuestions}
-use Rattle.calls.specs.Calls.{checkQuestions, checkAnswer}
+use Rattle.calls.specs.Calls.{writeQuestions, writeAnswer, clauseQuestions, clauseAnswer, checkQuestions, checkAnswer, decodeQuestions, decodeAnswer, encodeQuestions, encodeAnswer}
 use Rattle.instance.proofs.Instance.{instance-iff, edges-known, limits}
 use Rattle.calls.proofs.Plan.{check-iff}
-use Rattle.claims.proofs.Refusals.{numbered-check}
-use Rattle.claims.specs.Formula.{Claim}
+use Rattle.claims.proofs.Refusals.{numbered-write, numbered-clause, numbered-check, numbered-decode, numbered-encode}
+use Rattle.claims.specs.Formula.{Counts, Claim}
+
+-- an acceptance holds its count
+counted : (qs : List Question) (c : ℕ) → T (all numbered qs) → decide qs c .number ≡ 0 → decide qs c .second ≡ c
+counted qs c ok e = ap (λ (a : Answer). a .second) (decide-count qs c (decide-iff qs c ok .0 e))
+
+-- a question behind those of the instance is answered yes
+next-clear : (b : List ℕ) (m : ℕ) (q : Question) (qs : List Question) → T (all clear (instanceQuestions b m ++ q ∷ qs)) → q ≡ []
+next-clear b m q qs t = clear-iff q .0 (and-iff (clear q) _ .0 (all-append clear (instanceQuestions b m) (q ∷ qs) .0 t .1) .0)
+
+module _ (b : List ℕ) (m : ℕ) (ok : T (all clear (instanceQuestions b m))) where
+  abbrev I : Instance
+  I = instance b m
+
+  pub plan-steps : (p : List ℕ) → Passes I p → makespan (I .sizes .k) p ≡ m
+  unfolding instance
+  plan-steps p w =
+      let k : ℕ = agents b in
+      let l : 1 ≤ k = limits b m ok .k-least in
+      let e : length p / k ≡ suc m = ap (λ (x : ℕ). x / k) (w .size ∙ mul-comm (suc m) k) ∙ mul-div-cancel-left (suc m) l in
+      let d : suc m - 1 ≡ m = omega arith in
+      ap (λ (x : ℕ). x - 1) e ∙ d
+
+  counts : Counts b m
+  unfolding instance writeAnswer withClauses clauseAnswer checkAnswer decodeAnswer encodeAnswer
+  counts =
+      record {
+        writer = λ size e. (
+          counted (writeQuestions b m size) _ (numbered-write b m size) e ∙ word-count I (edges-known b m ok),
+          byNumber-accepted _ _ 0 e ∙ clause-count I,
+        );
+        clause = λ c size e.
+            let t = decide-iff (clauseQuestions b m c size) _ (numbered-clause b m c size) .0 e in
+            let l = ltb-iff c (length (clauses I)) .0 (ask-nil _ _ .0 (next-clear b m _ _ t)) in (
+              rw (clause-count I) at l,
+              counted (clauseQuestions b m c size) _ (numbered-clause b m c size) e ∙ length-append (getD (clauses I) c []) _ ∙ add-one _,
+            );
+        check = λ p e. counted (checkQuestions b m p) _ (numbered-check b m p) e;
+        decoder = λ entries size e. counted (decodeQuestions b m entries size) _ (numbered-decode b m entries size) e ∙ ap (λ (x : ℕ). x * I .sizes .k) (sym (add-one m));
+        encoder = λ p size e. counted (encodeQuestions b m p size) _ (numbered-encode b m p size) e ∙ ap (λ (x : ℕ). I .sizes .n * I .sizes .k * x) (sym (add-one m));
+      }
 
 pub formula-claim : Claim
-unfolding checkAnswer
 formula-claim =
     record {
       sizes = λ b m e.
@@ -42,9 +86,8 @@ formula-claim =
           let ok : T (all clear (instanceQuestions b m)) = instance-iff b m .0 e in
           record {
             passes = check-iff b m ok;
-            costs = λ p z.
-                ap (λ (a : Answer). a .second)
-                (decide-count (checkQuestions b m p) (cost (instance b m) p) (decide-iff (checkQuestions b m p) _ (numbered-check b m p) .0 z));
+            steps = λ p z. plan-steps b m ok p (check-iff b m ok p .0 z);
           };
+      counts = λ b m e. counts b m (instance-iff b m .0 e);
       largest = largest;
     }

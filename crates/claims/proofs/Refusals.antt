@@ -10,46 +10,127 @@ use lib.ListN.{length}
 use lib.Dec.{T}
 use lib.IntN.{ℤ}
 use Rattle.lists.specs.Loop.{for, unless, all}
-use Rattle.lists.proofs.Tests.{and-iff, below-suc}
-use Rattle.lists.proofs.Loops.{all-append, unless-nil, unless-all, for-nil}
+use Rattle.lists.proofs.Tests.{and-iff}
+use Rattle.lists.proofs.Loops.{all-append, unless-nil, for-nil}
 use Rattle.answers.specs.declared.Answer.{Answer}
-use Rattle.answers.specs.Answers.{Question, refuse, decide, lent, withClauses, byNumber, clear}
-use Rattle.answers.proofs.Laws.{numbered, decide-iff, lent-refused, byNumber-refused, numbered-second}
+use Rattle.answers.specs.Answers.{Question, refuse, ask, askEach, decide, lent, withClauses, clear}
+use Rattle.answers.proofs.Laws.{numbered, ask-all, decide-iff, lent-refused, byNumber-refused, numbered-second}
 use Rattle.instance.specs.Instance.{Instance, instance}
-use Rattle.calls.specs.Questions.{question11, question12, question13, question14, question15, question16, question23, question24}
-use Rattle.instance.specs.Questions.{instanceQuestions}
-use Rattle.calls.specs.Calls.{planQuestions, writeQuestions, writeAnswer, writeSlice, clauseQuestions, clauseAnswer, clauseSlice, clauseLine, checkQuestions, checkAnswer, decodeQuestions, decodeAnswer, decodeSlice, encodeQuestions, encodeAnswer, encodeSlice}
+use Rattle.instance.specs.Questions.{instanceQuestions, instanceAnswer}
 use Rattle.instance.proofs.Instance.{numbered-instance}
+use Rattle.formula.specs.Formula.{Formula, formula}
+use Rattle.calls.specs.Questions.{question11, question12, question13, question14, question15, question16, question23, question24}
+use Rattle.calls.specs.Calls.{stepQuestions, planQuestions, writeQuestions, writeAnswer, writeSlice, clauseQuestions, clauseAnswer, clauseSlice, clauseLine, checkQuestions, checkAnswer, decodeQuestions, decodeAnswer, decodeSlice, encodeQuestions, encodeAnswer, encodeSlice}
 use Rattle.calls.proofs.Plan.{numbered-plan}
 use Rattle.calls.proofs.Valuation.{numbered-valuation}
-use Rattle.claims.specs.Refusals.{FirstNo, FirstItem, Items, Honest, Claim}
+use Rattle.claims.specs.Refusals.{FirstNo, Honest, Refusals, Claim}
 
+-- ---- the shape of a question
+record Asked (q : Question) : Type 0 where
+  items : ℕ
+  test : ℕ → Bool
+  refusal : ℕ → Answer
+  same : q ≡ askEach items test refusal
+
+one : (test : Bool) (refusal : Answer) → Asked (ask test refusal)
+unfolding ask askEach
+one test refusal = record { items = 1; test = λ i. test; refusal = λ i. refusal; same = refl }
+
+many : (n : ℕ) (test : ℕ → Bool) (refusal : ℕ → Answer) → Asked (askEach n test refusal)
+many n test refusal = record { items = n; test = test; refusal = refusal; same = refl }
+
+-- every question of a list has it
+abbrev EachAsked : List Question → Type 0
+EachAsked [] = Unit {0}
+EachAsked (q ∷ qs) = Asked q × EachAsked qs
+
+asked-append : (qs rs : List Question) → EachAsked qs → EachAsked rs → EachAsked (qs ++ rs)
+asked-append [] rs h k = k
+asked-append (q ∷ qs) rs h k = (h .0, asked-append qs rs (h .1) k)
+
+asked-for : (n : ℕ) (f : ℕ → List Question) → ((i : ℕ) → EachAsked (f i)) → EachAsked (for n f)
+asked-for zero f h = tt
+asked-for (suc n) f h = asked-append (for n f) (f n) (asked-for n f h) (h n)
+
+-- ---- the first failing item
+record FirstItem (n : ℕ) (test : ℕ → Bool) (refusal : ℕ → Answer) (answer : Answer) : Type 0 where
+  item : ℕ
+  inside : item < n
+  passed : (i : ℕ) → i < item → T (test i)
+  fails : T (test item) → ⊥
+  given : answer ≡ refusal item
+
+first-item : (n : ℕ) (test : ℕ → Bool) (refusal : ℕ → Answer) (answer : Answer) (later : List Answer)
+    → askEach n test refusal ≡ answer ∷ later → FirstItem n test refusal answer
+unfolding askEach
+first-item zero test refusal answer later e = absurd (cons≢nil (sym e))
+first-item (suc n) test refusal answer later e = go (first-item n test refusal answer) (askEach n test refusal) refl e
+  where
+    grown : FirstItem n test refusal answer → FirstItem (suc n) test refusal answer
+    grown f = record { item = f .item; inside = let l = f .inside in omega arith; passed = f .passed; fails = f .fails; given = f .given }
+
+    last : (b : Bool) → test n ≡ b → askEach n test refusal ≡ [] → unless b (refusal n) ≡ answer ∷ later → FirstItem (suc n) test refusal answer
+    last true t h q = absurd (cons≢nil (sym q))
+    last false t h q =
+        record {
+          item = n;
+          inside = le-refl (suc n);
+          passed = λ i l. unless-nil (test i) (refusal i) .0 (for-nil n _ .0 h i l);
+          fails = λ x. subst T t x;
+          given = cc;
+        }
+
+    go : ((rest : List Answer) → askEach n test refusal ≡ answer ∷ rest → FirstItem n test refusal answer)
+        → (l : List Answer) → askEach n test refusal ≡ l → l ++ unless (test n) (refusal n) ≡ answer ∷ later → FirstItem (suc n) test refusal answer
+    go rec [] h q = last (test n) refl h q
+    go rec (x ∷ xs) h q = let same : x ≡ answer = cc in grown (rec xs (h ∙ ap (λ y. y ∷ xs) same))
+
+-- ---- the first no
 -- a question before the others, answered yes
-behind : (q : Question) (qs : List Question) (number second : ℕ) → q ≡ [] → FirstNo qs number second → FirstNo (q ∷ qs) number second
-behind q qs number second e f =
+behind : (qs : List Question) (number second : ℕ) → FirstNo qs number second → FirstNo ([] ∷ qs) number second
+behind qs number second f =
     record {
-      before = q ∷ f .before;
-      later = f .later;
+      before = [] ∷ f .before;
+      items = f .items;
+      test = f .test;
+      refusal = f .refusal;
       after = f .after;
-      asked = ap (λ l. q ∷ l) (f .asked);
-      yes = rw e (f .yes);
+      asked = ap (λ l. [] ∷ l) (f .asked);
+      yes = f .yes;
+      item = f .item;
+      inside = f .inside;
+      passed = f .passed;
+      fails = f .fails;
+      given = f .given;
     }
 
-first-no : (qs : List Question) (c : ℕ) → decide qs c .number ≢ 0 → FirstNo qs (decide qs c .number) (decide qs c .second)
+first-no : (qs : List Question) (c : ℕ) → EachAsked qs → decide qs c .number ≢ 0 → FirstNo qs (decide qs c .number) (decide qs c .second)
 unfolding decide
-first-no [] c d = absurd (d refl)
-first-no ([] ∷ qs) c d = behind [] qs _ _ refl (first-no qs c d)
-first-no ((r ∷ rs) ∷ qs) c d = record { before = []; later = rs; after = qs; asked = refl; yes = tt }
+first-no [] c h d = absurd (d refl)
+first-no ([] ∷ qs) c h d = behind qs _ _ (first-no qs c (h .1) d)
+first-no ((r ∷ rs) ∷ qs) c h d =
+    let a : Asked (r ∷ rs) = h .0 in
+    let f : FirstItem (a .items) (a .test) (a .refusal) r = first-item (a .items) (a .test) (a .refusal) r rs (sym (a .same)) in
+    record {
+      before = [];
+      items = a .items;
+      test = a .test;
+      refusal = a .refusal;
+      after = qs;
+      asked = ap (λ q. q ∷ qs) (a .same);
+      yes = tt;
+      item = f .item;
+      inside = f .inside;
+      passed = f .passed;
+      fails = f .fails;
+      given = f .given;
+    }
 
 -- an answer that is decided by its questions
-module _ {A : Type 0} (qs : List Question) (c : ℕ) (ok : T (all numbered qs)) where
-  honest : (out s : List A) → Honest qs (decide qs c .number) (decide qs c .second) s (lent (decide qs c) out s)
-  honest out s =
-      record {
-        accepts = decide-iff qs c ok;
-        refuses = λ d. (first-no qs c d, lent-refused (decide qs c) out s d);
-      }
+honest : (qs : List Question) (c : ℕ) → T (all numbered qs) → EachAsked qs → Honest qs (decide qs c .number) (decide qs c .second)
+honest qs c ok h = record { accepts = decide-iff qs c ok; refuses = first-no qs c h }
 
+-- ---- the questions of each call: no number is 0, and each has the shape
 numbered-more : (b : List ℕ) (m : ℕ) (qs : List Question) → T (all numbered qs) → T (all numbered (instanceQuestions b m ++ qs))
 numbered-more b m qs h = all-append numbered (instanceQuestions b m) qs .1 (numbered-instance b m, h)
 
@@ -57,65 +138,62 @@ module _ (b : List ℕ) (m : ℕ) where
   abbrev I : Instance
   I = instance b m
 
-  numbered-write : (size : ℕ) → T (all numbered (writeQuestions b m size))
-  numbered-write size = numbered-more b m _ (simp (and-iff, unless-all) ((λ f. tt), tt))
+  abbrev F : Formula
+  F = formula I
 
-  numbered-clause : (c size : ℕ) → T (all numbered (clauseQuestions b m c size))
-  numbered-clause c size = numbered-more b m _ (simp (and-iff, unless-all) ((λ f. tt), ((λ f. tt), tt)))
+  asked-instance : EachAsked (instanceQuestions b m)
+  unfolding instanceQuestions
+  asked-instance = (one _ _, (one _ _, (one _ _, (one _ _, (one _ _, (many _ _ _, (many _ _ _, (many _ _ _, (many _ _ _, (one _ _, tt))))))))))
+
+  asked-more : (qs : List Question) → EachAsked qs → EachAsked (instanceQuestions b m ++ qs)
+  asked-more qs h = asked-append (instanceQuestions b m) qs asked-instance h
+
+  asked-plan : (p : List ℕ) → EachAsked (planQuestions I p)
+  unfolding planQuestions
+  asked-plan p = (
+    many _ _ _,
+    (
+      many _ _ _,
+      asked-append (for (I .sizes .m) (stepQuestions I p)) _ (asked-for (I .sizes .m) (stepQuestions I p) (λ t. (many _ _ _, (many _ _ _, (many _ _ _, tt))))) (many _ _ _, tt),
+    ),
+  )
+
+  pub numbered-write : (size : ℕ) → T (all numbered (writeQuestions b m size))
+  numbered-write size = numbered-more b m _ (simp (and-iff, ask-all) ((λ f. tt), tt))
+
+  pub numbered-clause : (c size : ℕ) → T (all numbered (clauseQuestions b m c size))
+  numbered-clause c size = numbered-more b m _ (simp (and-iff, ask-all) ((λ f. tt), ((λ f. tt), tt)))
 
   pub numbered-check : (p : List ℕ) → T (all numbered (checkQuestions b m p))
   numbered-check p = numbered-more b m _ (numbered-plan I p)
 
-  numbered-decode : (entries : List ℤ) (size : ℕ) → T (all numbered (decodeQuestions b m entries size))
+  pub numbered-decode : (entries : List ℤ) (size : ℕ) → T (all numbered (decodeQuestions b m entries size))
   numbered-decode entries size =
       numbered-more b m _
-      (numbered-second (question14 I entries) (question15 I size) (question23 I entries ∷ question24 I entries ∷ [])
-      (simp unless-all (λ f. tt)) (numbered-valuation I entries))
+      (numbered-second (question14 F entries) (question15 I size) (question23 F entries ∷ question24 F entries ∷ [])
+      (simp ask-all (λ f. tt)) (numbered-valuation F entries))
 
-  numbered-encode : (p : List ℕ) (size : ℕ) → T (all numbered (encodeQuestions b m p size))
+  pub numbered-encode : (p : List ℕ) (size : ℕ) → T (all numbered (encodeQuestions b m p size))
   numbered-encode p size =
       numbered-more b m _
-      (numbered-second (question13 I p) (question16 I size) (planQuestions I p) (simp unless-all (λ f. tt)) (numbered-plan I p))
-
--- the first failing item
-items : Items
-items zero test refusal answer later e = absurd (cons≢nil (sym e))
-items (suc n) test refusal answer later e = go (items n test refusal answer) (for n λ i. unless (test i) (refusal i)) refl e
-  where
-    grown : FirstItem n test refusal answer → FirstItem (suc n) test refusal answer
-    grown f = record { item = f .item; inside = let l = f .inside in omega arith; before = f .before; fails = f .fails; same = f .same }
-
-    last : (b : Bool) → test n ≡ b → (for n λ i. unless (test i) (refusal i)) ≡ [] → unless b (refusal n) ≡ answer ∷ later
-        → FirstItem (suc n) test refusal answer
-    last true t h q = absurd (cons≢nil (sym q))
-    last false t h q =
-        record {
-          item = n;
-          inside = le-refl (suc n);
-          before = λ i l. unless-nil (test i) (refusal i) .0 (for-nil n _ .0 h i l);
-          fails = λ x. subst T t x;
-          same = cc;
-        }
-
-    go : ((rest : List Answer) → (for n λ i. unless (test i) (refusal i)) ≡ answer ∷ rest → FirstItem n test refusal answer)
-        → (l : List Answer) → (for n λ i. unless (test i) (refusal i)) ≡ l → l ++ unless (test n) (refusal n) ≡ answer ∷ later
-        → FirstItem (suc n) test refusal answer
-    go rec [] h q = last (test n) refl h q
-    go rec (x ∷ xs) h q = let same : x ≡ answer = cc in grown (rec xs (h ∙ ap (λ y. y ∷ xs) same))
+      (numbered-second (question13 I p) (question16 F size) (planQuestions I p) (simp ask-all (λ f. tt)) (numbered-plan I p))
 
 pub refusals : Claim
-unfolding writeAnswer writeSlice withClauses clauseAnswer clauseSlice checkAnswer decodeAnswer decodeSlice encodeAnswer encodeSlice
-refusals =
+unfolding instanceAnswer writeAnswer writeSlice withClauses clauseAnswer clauseSlice checkAnswer decodeAnswer decodeSlice encodeAnswer encodeSlice
+refusals b m =
     record {
-      writer = λ b m s. honest (writeQuestions b m (length s)) _ (numbered-write b m (length s)) _ s;
-      noClauses = λ b m size d. byNumber-refused _ _ 0 d;
-      clause = λ b m c s. honest (clauseQuestions b m c (length s)) _ (numbered-clause b m c (length s)) _ s;
-      check = λ b m p.
-          record {
-            accepts = decide-iff (checkQuestions b m p) _ (numbered-check b m p);
-            refuses = λ d. (first-no (checkQuestions b m p) _ d, refl);
-          };
-      decoder = λ b m entries s. honest (decodeQuestions b m entries (length s)) _ (numbered-decode b m entries (length s)) _ s;
-      encoder = λ b m p s. honest (encodeQuestions b m p (length s)) _ (numbered-encode b m p (length s)) _ s;
-      items = items;
+      instance = honest (instanceQuestions b m) 0 (numbered-instance b m) (asked-instance b m);
+      writer = λ size. honest (writeQuestions b m size) _ (numbered-write b m size) (asked-more b m _ (one _ _, tt));
+      writerSlice = λ s d. lent-refused _ _ s d;
+      noClauses = λ size d. byNumber-refused _ _ 0 d;
+      clause = λ c size. honest (clauseQuestions b m c size) _ (numbered-clause b m c size) (asked-more b m _ (one _ _, (one _ _, tt)));
+      clauseSlice = λ c s d. lent-refused _ _ s d;
+      check = λ p. honest (checkQuestions b m p) _ (numbered-check b m p) (asked-more b m _ (one _ _, asked-plan b m p));
+      decoder = λ entries size.
+          honest (decodeQuestions b m entries size) _ (numbered-decode b m entries size)
+          (asked-more b m _ (one _ _, (one _ _, (many _ _ _, (many _ _ _, tt)))));
+      decoderSlice = λ entries s d. lent-refused _ _ s d;
+      encoder = λ p size.
+          honest (encodeQuestions b m p size) _ (numbered-encode b m p size) (asked-more b m _ (one _ _, (one _ _, asked-plan b m p)));
+      encoderSlice = λ p s d. lent-refused _ _ s d;
     }

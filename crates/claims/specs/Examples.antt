@@ -8,7 +8,7 @@ use lib.IntN.{ℤ, pos, negℤ}
 use Rattle.answers.specs.declared.Answer.{Answer}
 use Rattle.answers.specs.declared.Written.{Written}
 use Rattle.answers.specs.Answers.{accept, refuse}
-use Rattle.calls.specs.Calls.{writeAnswer, writeSlice, checkAnswer, decodeAnswer, decodeSlice, encodeAnswer, encodeSlice}
+use Rattle.calls.specs.Calls.{writeAnswer, writeSlice, clauseAnswer, clauseSlice, checkAnswer, decodeAnswer, decodeSlice, encodeAnswer, encodeSlice}
 
 -- ---- instances
 -- two vertices, one edge, one agent from s to g; "pair" has s 0 and g 1
@@ -32,18 +32,21 @@ pathTwo s₀ s₁ g₀ g₁ = 3 ∷ 2 ∷ 2 ∷ 0 ∷ 0 ∷ 1 ∷ 1 ∷ 2 ∷ s�
 -- ---- calls, and what is seen of them
 pub data Call : Type 0 where
   write : List ℤ → Call
+  clause : ℕ → List ℤ → Call
   check : List ℕ → Call
   decode : List ℤ → List ℕ → Call
   encode : List ℕ → List ℤ → Call
 
 pub data Seen : Type 0 where
   words : Written → List ℤ → Seen
+  line : Answer → List ℤ → Seen
   answer : Answer → Seen
   plan : Answer → List ℕ → Seen
   valuation : Answer → List ℤ → Seen
 
 abbrev pub run : List ℕ → ℕ → Call → Seen
 run b m (write s) = words (writeAnswer b m (length s)) (writeSlice b m s)
+run b m (clause c s) = line (clauseAnswer b m c (length s)) (clauseSlice b m c s)
 run b m (check p) = answer (checkAnswer b m p)
 run b m (decode entries s) = plan (decodeAnswer b m entries (length s)) (decodeSlice b m entries s)
 run b m (encode p s) = valuation (encodeAnswer b m p (length s)) (encodeSlice b m p s)
@@ -57,15 +60,12 @@ pub record Example : Type 0 where
 abbrev example : List ℕ → ℕ → Call → Seen → Example
 example b m c s = record { bytes = b; horizon = m; call = c; seen = s }
 
--- ---- numbers, and slices that hold 7 throughout when they are lent
-abbrev + : ℕ → ℤ
-+ x = pos x
-
-abbrev - : ℕ → ℤ
-- x = negℤ (pos x)
+-- ---- literals, and slices that hold 7 throughout when they are lent
+abbrev neg : ℕ → ℤ
+neg x = negℤ (pos x)
 
 abbrev sevens : ℕ → List ℤ
-sevens size = replicate size (+ 7)
+sevens size = replicate size (pos 7)
 
 abbrev lentPlan : List ℕ
 lentPlan = replicate 4 7
@@ -79,42 +79,42 @@ unwritten number place = record { number = number; second = place; clauses = 0 }
 -- ---- the words of two formulas, a clause a line
 abbrev pairWords : List ℤ
 pairWords =
-    + 1 ∷ + 0
-    ∷ + 4 ∷ + 0
-    ∷ + 1 ∷ + 2 ∷ + 0
-    ∷ + 3 ∷ + 4 ∷ + 0
-    ∷ - 1 ∷ - 2 ∷ + 0
-    ∷ - 3 ∷ - 4 ∷ + 0
-    ∷ - 1 ∷ + 3 ∷ + 4 ∷ + 0
-    ∷ - 2 ∷ + 4 ∷ + 3 ∷ + 0
+    pos 1 ∷ pos 0
+    ∷ pos 4 ∷ pos 0
+    ∷ pos 1 ∷ pos 2 ∷ pos 0
+    ∷ pos 3 ∷ pos 4 ∷ pos 0
+    ∷ neg 1 ∷ neg 2 ∷ pos 0
+    ∷ neg 3 ∷ neg 4 ∷ pos 0
+    ∷ neg 1 ∷ pos 3 ∷ pos 4 ∷ pos 0
+    ∷ neg 2 ∷ pos 4 ∷ pos 3 ∷ pos 0
     ∷ []
 
 abbrev exchangeWords : List ℤ
 exchangeWords =
-    + 1 ∷ + 0
-    ∷ + 4 ∷ + 0
-    ∷ + 6 ∷ + 0
-    ∷ + 7 ∷ + 0
-    ∷ + 1 ∷ + 2 ∷ + 0
-    ∷ + 3 ∷ + 4 ∷ + 0
-    ∷ + 5 ∷ + 6 ∷ + 0
-    ∷ + 7 ∷ + 8 ∷ + 0
-    ∷ - 1 ∷ - 2 ∷ + 0
-    ∷ - 3 ∷ - 4 ∷ + 0
-    ∷ - 5 ∷ - 6 ∷ + 0
-    ∷ - 7 ∷ - 8 ∷ + 0
-    ∷ - 1 ∷ - 3 ∷ + 0
-    ∷ - 2 ∷ - 4 ∷ + 0
-    ∷ - 5 ∷ - 7 ∷ + 0
-    ∷ - 6 ∷ - 8 ∷ + 0
-    ∷ - 1 ∷ + 5 ∷ + 6 ∷ + 0
-    ∷ - 2 ∷ + 6 ∷ + 5 ∷ + 0
-    ∷ - 3 ∷ + 7 ∷ + 8 ∷ + 0
-    ∷ - 4 ∷ + 8 ∷ + 7 ∷ + 0
-    ∷ - 3 ∷ - 5 ∷ + 0
-    ∷ - 4 ∷ - 6 ∷ + 0
-    ∷ - 1 ∷ - 7 ∷ + 0
-    ∷ - 2 ∷ - 8 ∷ + 0
+    pos 1 ∷ pos 0
+    ∷ pos 4 ∷ pos 0
+    ∷ pos 6 ∷ pos 0
+    ∷ pos 7 ∷ pos 0
+    ∷ pos 1 ∷ pos 2 ∷ pos 0
+    ∷ pos 3 ∷ pos 4 ∷ pos 0
+    ∷ pos 5 ∷ pos 6 ∷ pos 0
+    ∷ pos 7 ∷ pos 8 ∷ pos 0
+    ∷ neg 1 ∷ neg 2 ∷ pos 0
+    ∷ neg 3 ∷ neg 4 ∷ pos 0
+    ∷ neg 5 ∷ neg 6 ∷ pos 0
+    ∷ neg 7 ∷ neg 8 ∷ pos 0
+    ∷ neg 1 ∷ neg 3 ∷ pos 0
+    ∷ neg 2 ∷ neg 4 ∷ pos 0
+    ∷ neg 5 ∷ neg 7 ∷ pos 0
+    ∷ neg 6 ∷ neg 8 ∷ pos 0
+    ∷ neg 1 ∷ pos 5 ∷ pos 6 ∷ pos 0
+    ∷ neg 2 ∷ pos 6 ∷ pos 5 ∷ pos 0
+    ∷ neg 3 ∷ pos 7 ∷ pos 8 ∷ pos 0
+    ∷ neg 4 ∷ pos 8 ∷ pos 7 ∷ pos 0
+    ∷ neg 3 ∷ neg 5 ∷ pos 0
+    ∷ neg 4 ∷ neg 6 ∷ pos 0
+    ∷ neg 1 ∷ neg 7 ∷ pos 0
+    ∷ neg 2 ∷ neg 8 ∷ pos 0
     ∷ []
 
 abbrev pub table : List Example
@@ -123,20 +123,26 @@ table =
     example pair 1 (write (sevens 24)) (words (written 24 8) pairWords)
     ∷ example pair 1 (write (sevens 26)) (words (written 24 8) (pairWords ++ sevens 2))
     ∷ example pair 1 (write (sevens 23)) (words (unwritten 12 24) (sevens 23))
+    -- its clause number 6, four words; there is no clause 8
+    ∷ example pair 1 (clause 6 (sevens 5)) (line (accept 4) (neg 1 ∷ pos 3 ∷ pos 4 ∷ pos 0 ∷ pos 7 ∷ []))
+    ∷ example pair 1 (clause 6 (sevens 3)) (line (refuse 12 4) (sevens 3))
+    ∷ example pair 1 (clause 8 (sevens 0)) (line (refuse 11 8) (sevens 0))
     -- the pair's valuations
-    ∷ example pair 1 (decode (+ 1 ∷ - 2 ∷ - 3 ∷ + 4 ∷ []) lentPlan) (plan (accept 2) (0 ∷ 1 ∷ 7 ∷ 7 ∷ []))
-    ∷ example pair 1 (encode (0 ∷ 1 ∷ []) (sevens 5)) (valuation (accept 4) (+ 1 ∷ - 2 ∷ - 3 ∷ + 4 ∷ + 7 ∷ []))
-    ∷ example pair 1 (decode (+ 1 ∷ - 2 ∷ + 3 ∷ + 4 ∷ []) lentPlan) (plan (refuse 24 5) lentPlan)
-    ∷ example pair 1 (decode (- 1 ∷ - 2 ∷ - 3 ∷ - 4 ∷ []) lentPlan) (plan (refuse 24 0) lentPlan)
-    ∷ example pair 1 (decode (+ 1 ∷ - 2 ∷ - 4 ∷ + 3 ∷ []) lentPlan) (plan (refuse 23 2) lentPlan)
+    ∷ example pair 1 (decode (pos 1 ∷ neg 2 ∷ neg 3 ∷ pos 4 ∷ []) lentPlan) (plan (accept 2) (0 ∷ 1 ∷ 7 ∷ 7 ∷ []))
+    ∷ example pair 1 (encode (0 ∷ 1 ∷ []) (sevens 5)) (valuation (accept 4) (pos 1 ∷ neg 2 ∷ neg 3 ∷ pos 4 ∷ pos 7 ∷ []))
+    ∷ example pair 1 (decode (pos 1 ∷ neg 2 ∷ pos 3 ∷ pos 4 ∷ []) lentPlan) (plan (refuse 24 5) lentPlan)
+    ∷ example pair 1 (decode (neg 1 ∷ neg 2 ∷ neg 3 ∷ neg 4 ∷ []) lentPlan) (plan (refuse 24 0) lentPlan)
+    ∷ example pair 1 (decode (pos 1 ∷ neg 2 ∷ neg 4 ∷ pos 3 ∷ []) lentPlan) (plan (refuse 23 2) lentPlan)
     -- the lowest 32-bit number is a wrong entry like any other
-    ∷ example pair 1 (decode (+ 1 ∷ - 2 ∷ - 2147483648 ∷ + 4 ∷ []) lentPlan) (plan (refuse 23 2) lentPlan)
+    ∷ example pair 1 (decode (pos 1 ∷ neg 2 ∷ neg 2147483648 ∷ pos 4 ∷ []) lentPlan) (plan (refuse 23 2) lentPlan)
     -- two agents exchange the ends of an edge; their formula has 24 clauses, 72 words
     ∷ example exchange 1 (check (0 ∷ 1 ∷ 1 ∷ 0 ∷ [])) (answer (refuse 20 2))
     ∷ example exchange 1 (write (sevens 72)) (words (written 72 24) exchangeWords)
     -- on the path one agent closes up behind another, then waits for it
     ∷ example (pathTwo 0 1 1 2) 1 (check (0 ∷ 1 ∷ 1 ∷ 2 ∷ [])) (answer (refuse 20 2))
     ∷ example (pathTwo 0 1 1 2) 2 (check (0 ∷ 1 ∷ 0 ∷ 2 ∷ 1 ∷ 2 ∷ [])) (answer (accept 2))
+    -- one move and two waits cost 1
+    ∷ example pair 3 (check (0 ∷ 0 ∷ 0 ∷ 1 ∷ [])) (answer (accept 1))
     -- two agents meet on one vertex
     ∷ example (pathTwo 0 2 1 2) 1 (check (0 ∷ 2 ∷ 1 ∷ 1 ∷ [])) (answer (refuse 21 3))
     -- an agent jumps

@@ -1,17 +1,18 @@
 -- What is claimed of the formula, its counts, and the plan check.
 use mathlib.Core.Path.{_≡_}
 use mathlib.Core.Logic.{_↔_}
-use mathlib.Core.List.{List, List·Memᴰ}
-use Prim.Native.Nat.{ℕ, _≤_}
-use lib.ListN.{length}
+use mathlib.Core.List.{List, [], List·Memᴰ}
+use Prim.Native.Nat.{ℕ, suc, _+_, _*_, _≤_, _<_}
+use lib.ListN.{length, getD}
+use lib.IntN.{ℤ}
 use Rattle.lists.specs.Loop.{each}
 use Rattle.instance.specs.Instance.{Instance, instance, adjacent}
-use Rattle.formula.specs.Formula.{Clause, A, B, C, D, E, F, G, clauses, line, words}
+use Rattle.formula.specs.Formula.{Clause, A, B, C, D, E, F, G, clauses, formula, line, words}
 use Rattle.formula.specs.Counts.{Families, clausesBy, wordsBy, clauseCount, wordCount}
-use Rattle.plan.specs.Plan.{cost}
+use Rattle.plan.specs.Plan.{makespan, cost}
 use Rattle.plan.specs.Passing.{Passes}
 use Rattle.instance.specs.Questions.{instanceAnswer}
-use Rattle.calls.specs.Calls.{checkAnswer}
+use Rattle.calls.specs.Calls.{writeAnswer, clauseAnswer, checkAnswer, decodeAnswer, encodeAnswer}
 
 -- the closed numbers are the lengths of the families
 pub record Lengths (numbers : Families) (length′ : List Clause → ℕ) (I : Instance) : Type 0 where
@@ -33,21 +34,38 @@ module _ (b : List ℕ) (m : ℕ) where
     pub clausesByFamily : Lengths (clausesBy (I .sizes)) length I
     pub wordsByFamily : Lengths (wordsBy (I .sizes)) (λ cs. length (each line cs)) I
     pub clauseTotal : length (clauses I) ≡ clauseCount (I .sizes)
-    pub wordTotal : length (words I) ≡ wordCount (I .sizes)
+    pub wordTotal : length (words (formula I)) ≡ wordCount (I .sizes)
     -- no formula has more words than the largest
-    pub mostWords : length (words I) ≤ 7_625_296
+    pub mostWords : length (words (formula I)) ≤ 7_625_296
     -- a clause with its 0 has at most 66 words
     pub longest : (c : Clause) → List·Memᴰ c (clauses I) → length (line c) ≤ 66
 
   pub record Check : Type 0 where
     -- the plan check passes a plan exactly when it leads from the starts to the goals and every step obeys the three conditions
     pub passes : (p : List ℕ) → (checkAnswer b m p .number ≡ 0) ↔ Passes I p
-    -- and then answers its cost
-    pub costs : (p : List ℕ) → checkAnswer b m p .number ≡ 0 → checkAnswer b m p .second ≡ cost I p
+    -- a plan that passes has the makespan m
+    pub steps : (p : List ℕ) → checkAnswer b m p .number ≡ 0 → makespan (I .sizes .k) p ≡ m
+
+  -- the count of each acceptance
+  pub record Counts : Type 0 where
+    -- the writer: words, and the clause count beside them
+    pub writer : (size : ℕ) → writeAnswer b m size .number ≡ 0
+        → (writeAnswer b m size .second ≡ wordCount (I .sizes)) × (writeAnswer b m size .clauses ≡ clauseCount (I .sizes))
+    -- one clause: its words with the 0
+    pub clause : (c size : ℕ) → clauseAnswer b m c size .number ≡ 0
+        → (c < clauseCount (I .sizes)) × (clauseAnswer b m c size .second ≡ suc (length (getD (clauses I) c [])))
+    -- the plan check: the cost
+    pub check : (p : List ℕ) → checkAnswer b m p .number ≡ 0 → checkAnswer b m p .second ≡ cost (I .sizes) p
+    -- the decoder: (m+1)·k; the encoder: N
+    pub decoder : (entries : List ℤ) (size : ℕ) → decodeAnswer b m entries size .number ≡ 0
+        → decodeAnswer b m entries size .second ≡ (m + 1) * I .sizes .k
+    pub encoder : (p : List ℕ) (size : ℕ) → encodeAnswer b m p size .number ≡ 0
+        → encodeAnswer b m p size .second ≡ I .sizes .n * I .sizes .k * (m + 1)
 
 -- for every accepted instance and horizon
 pub record Claim : Type 0 where
   pub sizes : (b : List ℕ) (m : ℕ) → instanceAnswer b m .number ≡ 0 → Sizes b m
   pub check : (b : List ℕ) (m : ℕ) → instanceAnswer b m .number ≡ 0 → Check b m
+  pub counts : (b : List ℕ) (m : ℕ) → instanceAnswer b m .number ≡ 0 → Counts b m
   -- the largest formula by the table: 64 vertices, 16 agents, 2,016 edges, horizon 32
   pub largest : wordCount (record { n = 64; k = 16; e = 2016; m = 32 }) ≡ 7_625_296

@@ -1,4 +1,4 @@
--- What a refusal says, and that nothing else is refused: one claim for each call and every input.
+-- What a refusal says, that nothing else is refused, and that a refusal changes nothing: for each call and every input.
 use mathlib.Core.Path.{_≡_}
 use mathlib.Core.Logic.{_↔_, _≢_}
 use mathlib.Core.List.{List, _∷_, _++_}
@@ -7,49 +7,54 @@ use Prim.Native.Nat.{ℕ, _<_}
 use lib.ListN.{length}
 use lib.Dec.{T}
 use lib.IntN.{ℤ}
-use Rattle.lists.specs.Loop.{for, unless, all}
+use Rattle.lists.specs.Loop.{all}
 use Rattle.answers.specs.declared.Answer.{Answer}
-use Rattle.answers.specs.Answers.{Question, clear}
+use Rattle.answers.specs.Answers.{Question, refuse, askEach, clear}
+use Rattle.instance.specs.Questions.{instanceQuestions, instanceAnswer}
 use Rattle.calls.specs.Calls.{writeQuestions, writeAnswer, writeSlice, clauseQuestions, clauseAnswer, clauseSlice, checkQuestions, checkAnswer, decodeQuestions, decodeAnswer, decodeSlice, encodeQuestions, encodeAnswer, encodeSlice}
 
--- the answer is the first refusal of the first question that is not answered yes: all questions before it are
+-- The first no decides: every question before it is answered yes. It is about items, of which the first that fails gives its
+-- refusal: every item before that one passes.
 pub record FirstNo (questions : List Question) (number second : ℕ) : Type 0 where
   pub before : List Question
-  pub later : List Answer
+  pub items : ℕ
+  pub test : ℕ → Bool
+  pub refusal : ℕ → Answer
   pub after : List Question
-  pub asked : questions ≡ before ++ ((record { number = number; second = second } ∷ later) ∷ after)
+  pub asked : questions ≡ before ++ (askEach items test refusal ∷ after)
   pub yes : T (all clear before)
-
--- of a question about several items, the refusal is that of the first item that fails
-pub record FirstItem (n : ℕ) (test : ℕ → Bool) (refusal : ℕ → Answer) (answer : Answer) : Type 0 where
   pub item : ℕ
-  pub inside : item < n
-  pub before : (i : ℕ) → i < item → T (test i)
+  pub inside : item < items
+  pub passed : (i : ℕ) → i < item → T (test i)
   pub fails : T (test item) → ⊥
-  pub same : answer ≡ refusal item
+  pub given : refuse number second ≡ refusal item
 
-abbrev pub Items : Type 0
-Items = (n : ℕ) (test : ℕ → Bool) (refusal : ℕ → Answer) (answer : Answer) (later : List Answer)
-    → (for n λ i. unless (test i) (refusal i)) ≡ answer ∷ later → FirstItem n test refusal answer
-
--- a call that asks these questions, answers these two numbers, and finds and leaves this slice
-pub record Honest {A : Type 0} (questions : List Question) (number second : ℕ) (found left : List A) : Type 0 where
+-- a call that asks these questions and answers these two numbers
+pub record Honest (questions : List Question) (number second : ℕ) : Type 0 where
   -- it accepts exactly where every question is answered yes
   pub accepts : (number ≡ 0) ↔ T (all clear questions)
-  -- where it refuses, the first no decides, and the slice is as it was
-  pub refuses : number ≢ 0 → FirstNo questions number second × (left ≡ found)
+  -- where it refuses, the first no decides
+  pub refuses : number ≢ 0 → FirstNo questions number second
 
-pub record Claim : Type 0 where
-  pub writer : (b : List ℕ) (m : ℕ) (s : List ℤ)
-      → Honest (writeQuestions b m (length s)) (writeAnswer b m (length s) .number) (writeAnswer b m (length s) .second) s (writeSlice b m s)
-  pub noClauses : (b : List ℕ) (m : ℕ) (size : ℕ) → writeAnswer b m size .number ≢ 0 → writeAnswer b m size .clauses ≡ 0
-  pub clause : (b : List ℕ) (m c : ℕ) (s : List ℤ)
-      → Honest (clauseQuestions b m c (length s)) (clauseAnswer b m c (length s) .number) (clauseAnswer b m c (length s) .second) s (clauseSlice b m c s)
-  -- nothing is lent to the plan check for writing: the slice stands for the plan
-  pub check : (b : List ℕ) (m : ℕ) (p : List ℕ)
-      → Honest (checkQuestions b m p) (checkAnswer b m p .number) (checkAnswer b m p .second) p p
-  pub decoder : (b : List ℕ) (m : ℕ) (entries : List ℤ) (s : List ℕ)
-      → Honest (decodeQuestions b m entries (length s)) (decodeAnswer b m entries (length s) .number) (decodeAnswer b m entries (length s) .second) s (decodeSlice b m entries s)
-  pub encoder : (b : List ℕ) (m : ℕ) (p : List ℕ) (s : List ℤ)
-      → Honest (encodeQuestions b m p (length s)) (encodeAnswer b m p (length s) .number) (encodeAnswer b m p (length s) .second) s (encodeSlice b m p s)
-  pub items : Items
+-- a call that answers this number, and finds and leaves this slice: a refusal changes nothing
+abbrev pub Unchanged : {A : Type 0} → ℕ → List A → List A → Type 0
+Unchanged number found left = number ≢ 0 → left ≡ found
+
+module _ (b : List ℕ) (m : ℕ) where
+  pub record Refusals : Type 0 where
+    pub instance : Honest (instanceQuestions b m) (instanceAnswer b m .number) (instanceAnswer b m .second)
+    pub writer : (size : ℕ) → Honest (writeQuestions b m size) (writeAnswer b m size .number) (writeAnswer b m size .second)
+    pub writerSlice : (s : List ℤ) → Unchanged (writeAnswer b m (length s) .number) s (writeSlice b m s)
+    pub noClauses : (size : ℕ) → writeAnswer b m size .number ≢ 0 → writeAnswer b m size .clauses ≡ 0
+    pub clause : (c size : ℕ) → Honest (clauseQuestions b m c size) (clauseAnswer b m c size .number) (clauseAnswer b m c size .second)
+    pub clauseSlice : (c : ℕ) (s : List ℤ) → Unchanged (clauseAnswer b m c (length s) .number) s (clauseSlice b m c s)
+    pub check : (p : List ℕ) → Honest (checkQuestions b m p) (checkAnswer b m p .number) (checkAnswer b m p .second)
+    pub decoder : (entries : List ℤ) (size : ℕ)
+        → Honest (decodeQuestions b m entries size) (decodeAnswer b m entries size .number) (decodeAnswer b m entries size .second)
+    pub decoderSlice : (entries : List ℤ) (s : List ℕ) → Unchanged (decodeAnswer b m entries (length s) .number) s (decodeSlice b m entries s)
+    pub encoder : (p : List ℕ) (size : ℕ)
+        → Honest (encodeQuestions b m p size) (encodeAnswer b m p size .number) (encodeAnswer b m p size .second)
+    pub encoderSlice : (p : List ℕ) (s : List ℤ) → Unchanged (encodeAnswer b m p (length s) .number) s (encodeSlice b m p s)
+
+abbrev pub Claim : Type 0
+Claim = (b : List ℕ) (m : ℕ) → Refusals b m

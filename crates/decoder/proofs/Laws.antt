@@ -10,12 +10,11 @@ use lib.Dec.{eqb, leb}
 use lib.IntN.{ℤ}
 use Rattle.lists.specs.Slice.{filled}
 use Rattle.lists.proofs.Tests.{and-iff, eqb-iff, leb-iff}
-use Rattle.lists.proofs.Loops.{unless-nil, unless-all}
 use Rattle.lists.proofs.Blocks.{place-split}
 use Rattle.answers.specs.declared.Answer.{Answer}
 use Rattle.answers.specs.Answers.{Question, refuse, accept, decide, clear}
 use Rattle.answers.specs.Fault.{FirstFault}
-use Rattle.answers.proofs.Laws.{clear-iff, clear-second, numbered-second, decide-iff, ask-yes, ask-no, fault-pass, fault-stop, lent-accepted, lent-refused}
+use Rattle.answers.proofs.Laws.{clear-iff, clear-second, numbered-second, decide-iff, ask-yes, ask-no, fault-pass, fault-stop, lent-accepted, lent-refused, ask-nil, ask-all}
 use Rattle.instance.specs.declared.Sizes.{Sizes}
 use Rattle.instance.specs.declared.Checked.{Checked}
 use Rattle.instance.specs.Instance.{Instance, instance}
@@ -117,11 +116,11 @@ module _ (b : List ℕ) (c : Checked) (w : Accepted b c) (es : List ℤ) (size :
 
   pub ready : decide (q14 ∷ q15 ∷ q23 ∷ q24 ∷ []) bytes .number ≡ 0 → Ready
   ready e =
-      let t = decide-iff (q14 ∷ q15 ∷ q23 ∷ q24 ∷ []) bytes (numbered-second q14 q15 (q23 ∷ q24 ∷ []) (unless-all _ (leb (planBytes (I .sizes)) size) _ .1 (λ f. tt)) (numbered-valuation I es)) .0 e in
+      let t = decide-iff (q14 ∷ q15 ∷ q23 ∷ q24 ∷ []) bytes (numbered-second q14 q15 (q23 ∷ q24 ∷ []) (ask-all _ (leb (planBytes (I .sizes)) size) _ .1 (λ f. tt)) (numbered-valuation I es)) .0 e in
       let o = and-iff (clear q15) _ .0 (and-iff (clear q14) _ .0 t .1) .0 in
       let h = clear-valuation I es .0 (clear-second q14 q15 (q23 ∷ q24 ∷ []) o .0 t) in
       let (x, y) = sat-CD I (true? es) (h .1) in
-      let l : planBytes (I .sizes) ≤ size = leb-iff _ _ .0 (unless-nil (leb (planBytes (I .sizes)) size) (refuse 15 (planBytes (I .sizes))) .0 (clear-iff q15 .0 o)) in
+      let l : planBytes (I .sizes) ≤ size = leb-iff _ _ .0 (ask-nil (leb (planBytes (I .sizes)) size) (refuse 15 (planBytes (I .sizes))) .0 (clear-iff q15 .0 o)) in
       record {
         valid = subst (λ (z : Sizes). Valuation z es) (sym same) (h .0);
         places = subst (λ (z : Sizes). Places z (true? es) (named z es)) (sym same) (named-places I es (h .0) x y);

@@ -10,10 +10,9 @@ use lib.IntN.{ℤ}
 use Rattle.lists.specs.Loop.{all, unless}
 use Rattle.lists.specs.Slice.{filled}
 use Rattle.lists.proofs.Tests.{and-iff, eqb-iff, leb-iff}
-use Rattle.lists.proofs.Loops.{unless-nil, unless-all}
 use Rattle.answers.specs.declared.Answer.{Answer}
 use Rattle.answers.specs.Answers.{Question, refuse, accept, decide, lent, clear}
-use Rattle.answers.proofs.Laws.{numbered, clear-iff, numbered-second, decide-iff, decide-count, decide-after, ask-yes, ask-no, lent-accepted, lent-refused}
+use Rattle.answers.proofs.Laws.{numbered, clear-iff, numbered-second, decide-iff, decide-count, decide-after, ask-yes, ask-no, lent-accepted, lent-refused, ask-nil, ask-all}
 use Rattle.instance.specs.declared.Sizes.{Sizes}
 use Rattle.instance.specs.declared.Checked.{Checked}
 use Rattle.instance.specs.Instance.{Instance, instance}
@@ -88,11 +87,11 @@ module _ (b : List ℕ) (c : Checked) (w : Accepted b c) (p : List ℕ) (size : 
   -- what an acceptance says
   pub ready : decide (q13 ∷ q16 ∷ plan) N .number ≡ 0 → (length p ≡ planBytes s) × (variableCount s ≤ size)
   ready e =
-      let t = decide-iff (q13 ∷ q16 ∷ plan) N (numbered-second q13 q16 plan (unless-all _ (leb (variableCount (I .sizes)) size) _ .1 (λ f. tt)) (numbered-plan I p)) .0 e in
+      let t = decide-iff (q13 ∷ q16 ∷ plan) N (numbered-second q13 q16 plan (ask-all _ (leb (variableCount (I .sizes)) size) _ .1 (λ f. tt)) (numbered-plan I p)) .0 e in
       let (x, y) = and-iff (clear q13) _ .0 t in
       let o = and-iff (clear q16) _ .0 y .0 in
-      let h : length p ≡ planBytes (I .sizes) = eqb-iff _ _ .0 (unless-nil (eqb (length p) (planBytes (I .sizes))) (refuse 13 (length p)) .0 (clear-iff q13 .0 x)) in
-      let l : variableCount (I .sizes) ≤ size = leb-iff _ _ .0 (unless-nil (leb (variableCount (I .sizes)) size) (refuse 16 (variableCount (I .sizes))) .0 (clear-iff q16 .0 o)) in
+      let h : length p ≡ planBytes (I .sizes) = eqb-iff _ _ .0 (ask-nil (eqb (length p) (planBytes (I .sizes))) (refuse 13 (length p)) .0 (clear-iff q13 .0 x)) in
+      let l : variableCount (I .sizes) ≤ size = leb-iff _ _ .0 (ask-nil (leb (variableCount (I .sizes)) size) (refuse 16 (variableCount (I .sizes))) .0 (clear-iff q16 .0 o)) in
       (h ∙ ap (λ (z : Sizes). planBytes z) (sym same), subst (λ (z : Sizes). variableCount z ≤ size) (sym same) l)
 
 -- the call: the instance check answers a, with c beside it, and where it accepts the questions of the plan answer r

@@ -9,10 +9,9 @@ use lib.ListN.{length}
 use lib.Dec.{T, ltb}
 use Rattle.lists.specs.Loop.{all}
 use Rattle.lists.proofs.Tests.{and-iff, or-iff, not-iff, eqb-iff, ltb-iff, leb-iff, every-iff}
-use Rattle.lists.proofs.Loops.{for-all, for-nil, unless-nil, unless-all}
 use Rattle.answers.specs.declared.Answer.{Answer}
 use Rattle.answers.specs.Answers.{Question, decide, clear}
-use Rattle.answers.proofs.Laws.{numbered, clear-iff, decide-iff, decide-after, decide-refused}
+use Rattle.answers.proofs.Laws.{numbered, clear-iff, each-all, each-nil, decide-iff, decide-after, decide-refused, ask-nil, ask-all}
 use Rattle.instance.specs.Instance.{instance, vertices, agents, edges, lowEnd, Edges, Endpoints}
 use Rattle.instance.specs.Limits.{Limits}
 use Rattle.instance.specs.Questions.{instanceQuestions, instanceAnswer}
@@ -21,7 +20,7 @@ module _ (b : List ℕ) (m : ℕ) where
   pub numbered-instance : T (all numbered (instanceQuestions b m))
   unfolding instanceQuestions
   numbered-instance =
-      simp (and-iff, for-all, unless-all)
+      simp (and-iff, each-all, ask-all)
       ((λ f. tt), ((λ f. tt), ((λ f. tt), ((λ f. tt), ((λ f. tt), ((λ j l f. tt), ((λ j l f. tt), ((λ a l f. tt), ((λ a l f. tt), ((λ f. tt), tt))))))))))
 
   -- questions 1 to 10 are all answered yes exactly where the number is 0
@@ -44,7 +43,7 @@ module _ (b : List ℕ) (m : ℕ) where
     pub endpoints : Endpoints (instance b m)
     unfolding instanceQuestions instance
     endpoints =
-        let h = simp (and-iff, clear-iff, for-nil, unless-nil, every-iff, not-iff, eqb-iff, ltb-iff) at ok in
+        let h = simp (and-iff, clear-iff, each-nil, ask-nil, every-iff, not-iff, eqb-iff, ltb-iff) at ok in
         record {
           startsInside = λ a l. h .1 .1 .1 .1 .1 .1 .1 .0 a l .0;
           startsApart = λ a l. h .1 .1 .1 .1 .1 .1 .1 .0 a l .1;
@@ -54,7 +53,7 @@ module _ (b : List ℕ) (m : ℕ) where
     pub edges-known : Edges (instance b m)
     unfolding instanceQuestions instance
     edges-known =
-        let h = simp (and-iff, clear-iff, for-nil, unless-nil, eqb-iff, ltb-iff) at ok in
+        let h = simp (and-iff, clear-iff, each-nil, ask-nil, eqb-iff, ltb-iff) at ok in
         record {
           ends = λ j l. h .1 .1 .1 .1 .1 .0 j l;
           order = λ i l.
@@ -68,12 +67,12 @@ module _ (b : List ℕ) (m : ℕ) where
     -- the length and the sizes
     pub length-known : length b ≡ 4 + 2 * edges b + 2 * agents b
     unfolding instanceQuestions
-    length-known = (simp (and-iff, clear-iff, unless-nil, eqb-iff) at ok) .1 .1 .1 .1 .0
+    length-known = (simp (and-iff, clear-iff, ask-nil, eqb-iff) at ok) .1 .1 .1 .1 .0
 
     pub limits : Limits (instance b m .sizes)
     unfolding instanceQuestions instance
     limits =
-        let h = simp (and-iff, clear-iff, unless-nil, leb-iff) at ok in
+        let h = simp (and-iff, clear-iff, ask-nil, leb-iff) at ok in
         let q : vertices b * (vertices b - 1) ≤ 4032 =
         mul-le-mul {n₂ = 64} {m₂ = 63} (h .1 .0 .1) (omega (arith, h .1 .0 .1)) in
         record {
@@ -87,4 +86,4 @@ module _ (b : List ℕ) (m : ℕ) where
 
     pub agents-below : agents b ≤ vertices b
     unfolding instanceQuestions
-    agents-below = (simp (and-iff, clear-iff, unless-nil, leb-iff) at ok) .1 .1 .0 .1
+    agents-below = (simp (and-iff, clear-iff, ask-nil, leb-iff) at ok) .1 .1 .0 .1

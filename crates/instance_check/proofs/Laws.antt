@@ -13,12 +13,11 @@ use lib.Dec.{T, leb}
 use Rattle.lists.specs.Loop.{all}
 use Rattle.lists.specs.Slice.{filled}
 use Rattle.lists.proofs.Tests.{and-iff, eqb-iff, leb-iff}
-use Rattle.lists.proofs.Loops.{unless-nil, unless-all}
 use Rattle.lists.proofs.Slices.{filled-set}
 use Rattle.answers.specs.declared.Answer.{Answer}
 use Rattle.answers.specs.Answers.{Question, refuse, accept, decide, clear}
 use Rattle.answers.specs.Fault.{FirstFault}
-use Rattle.answers.proofs.Laws.{clear-iff, decide-iff, decide-front, decide-after, ask-no, fault-pass, fault-stop, byNumber-accepted, byNumber-refused}
+use Rattle.answers.proofs.Laws.{clear-iff, decide-iff, decide-front, decide-after, ask-no, fault-pass, fault-stop, byNumber-accepted, byNumber-refused, ask-nil, ask-all}
 use Rattle.instance.specs.Instance.{agents, edges, startOf, goalOf, instance, checked, unchecked}
 use Rattle.instance.specs.Questions.{question1, question2, question3, question4, question5, question6, question7, question8, question9, question10, properEdge, laterEdge, newVertex, instanceQuestions, instanceAnswer, instanceChecked}
 use Rattle.instance.proofs.Instance.{instance-iff, length-known, limits}
@@ -52,7 +51,7 @@ module _ (b : List ℕ) (m : ℕ) where
     module _ (e : r .number ≡ 0) where
       sizes-clear : T (all clear sizeQuestions)
       sizes-clear =
-          decide-iff sizeQuestions 0 (simp (and-iff, unless-all) ((λ f. tt), ((λ f. tt), ((λ f. tt), ((λ f. tt), ((λ f. tt), tt)))))) .0
+          decide-iff sizeQuestions 0 (simp (and-iff, ask-all) ((λ f. tt), ((λ f. tt), ((λ f. tt), ((λ f. tt), ((λ f. tt), tt)))))) .0
           (sym (ap (λ (a : Answer). a .number) er) ∙ e)
 
       pub sizes-passed : decide itemQuestions 0 ≡ instanceAnswer b m
@@ -60,7 +59,7 @@ module _ (b : List ℕ) (m : ℕ) where
       sizes-passed = sym (decide-after sizeQuestions itemQuestions 0 sizes-clear)
 
       pub sizes-long : 4 + 2 * edges b + 2 * agents b ≡ length b
-      sizes-long = sym ((simp (and-iff, clear-iff, unless-nil, eqb-iff) at sizes-clear) .1 .1 .1 .1 .0)
+      sizes-long = sym ((simp (and-iff, clear-iff, ask-nil, eqb-iff) at sizes-clear) .1 .1 .1 .1 .0)
 
   -- ---- questions 6 to 10, where the code's e and k are those of the bytes, and j, i, s and g are the first items that fail
   module _ (e k j i s g : ℕ) (ee : e ≡ edges b) (ek : k ≡ agents b) where
