@@ -33,6 +33,15 @@ fault-at l b f = record { within = omega arith; before = b; here = λ h. f }
 pub fault-none : {n r : ℕ} {test : ℕ → Bool} → r ≡ n → ((i : ℕ) → i < r → T (test i)) → FirstFault n test n
 fault-none e b = record { within = omega arith; before = λ i l. b i (omega arith); here = λ h. absurd (let f : ⊥ = omega arith in f) }
 
+-- tests that agree have the same first item that fails
+pub fault-ext : {n r : ℕ} {test other : ℕ → Bool} → ((i : ℕ) → i < n → test i ≡ other i) → FirstFault n test r → FirstFault n other r
+fault-ext e f =
+    record {
+      within = f .within;
+      before = λ i l. subst T (e i (let w = f .within in omega arith)) (f .before i l);
+      here = λ l t. f .here l (subst T (sym (e _ l)) t);
+    }
+
 -- all items pass exactly where the first that fails is none of them
 pub fault-every : (n : ℕ) (test : ℕ → Bool) (r : ℕ) → FirstFault n test r → eqb r n ≡ every n test
 fault-every n test r f =

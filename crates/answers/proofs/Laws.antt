@@ -1,16 +1,17 @@
 -- When questions are answered yes, and what the first no gives.
-use mathlib.Core.Path.{_≡_, refl, _∙_, ap, ap₂}
+use mathlib.Core.Path.{_≡_, refl, sym, _∙_, ap, ap₂}
 use mathlib.Core.Logic.{_↔_, _≢_, Iff·rfl}
 use mathlib.Core.List.{List, [], _∷_, _++_, cons≢nil}
 use mathlib.Core.Bool.{Bool, true, false}
 use Prim.Native.Nat.{ℕ, zero, suc, _≤_, _<_, _-_, _+_}
+use native.Mathlib.Numerals.{add-one}
 use native.Mathlib.Omega.{arith}
 use lib.ListN.{length, take}
 use lib.Dec.{T, ltb, ltb→lt}
 use Rattle.lists.specs.Loop.{for, unless, all}
 use Rattle.lists.specs.Slice.{filled}
 use Rattle.lists.proofs.Tests.{and-iff}
-use Rattle.lists.proofs.Loops.{for-all, for-nil, for-split, unless-nil, unless-all, unless-one}
+use Rattle.lists.proofs.Loops.{all-append, for-all, for-nil, for-split, unless-nil, unless-all, unless-one}
 use Rattle.lists.proofs.Slices.{take-filled}
 use Rattle.answers.specs.declared.Answer.{Answer}
 use Rattle.answers.specs.Answers.{Question, ask, askEach, clear, accept, decide, byNumber, lent}
@@ -151,3 +152,33 @@ module _ {A : Type 0} where
 pub lent-refused : {A : Type 0} (r : Answer) (out s : List A) → r .number ≢ 0 → lent r out s ≡ s
 unfolding lent
 lent-refused r out s d = byNumber-refused (r .number) (filled out s) s d
+
+-- nothing is left to ask
+pub asked-all : accept 0 ≡ decide [] 0
+unfolding decide
+asked-all = refl
+
+-- ---- question lists f 0, f 1, .. asked one after another
+module _ (f : ℕ → List Question) (t : ℕ) (r : Answer) (er : r ≡ decide (f t) 0) (yes : T (all clear (for t f))) where
+  pub step-stop : (n : ℕ) → t < n → r .number ≢ 0 → r ≡ decide (for n f) 0
+  step-stop n l d =
+      let rest : ℕ = n - suc t in
+      let e : n ≡ suc t + rest = omega arith in
+      let later : List Question = for rest (λ i. f (suc t + i)) in
+      let before : decide (for t f ++ f t) 0 ≡ decide (f t) 0 = decide-after (for t f) (f t) 0 yes in
+      let refused : decide (for t f ++ f t) 0 .number ≢ 0 = λ z. d (ap (λ (a : Answer). a .number) (er ∙ sym before) ∙ z) in
+      er
+      ∙ sym before
+      ∙ sym (decide-front (for t f ++ f t) later 0 refused)
+      ∙ sym (ap (λ (x : ℕ). decide (for x f) 0) e ∙ ap (λ (qs : List Question). decide qs 0) (for-split (suc t) rest f))
+
+  pub step-more : T (all numbered (f t)) → r .number ≡ 0 → T (all clear (for (t + 1) f))
+  step-more h e =
+      rw (add-one t) (all-append clear (for t f) (f t) .1 (yes, decide-iff (f t) 0 h .0 (sym (ap (λ (a : Answer). a .number) er) ∙ e)))
+
+-- a refusal does not depend on the count
+pub count-free : (qs : List Question) (c d : ℕ) → decide qs c .number ≢ 0 → decide qs c ≡ decide qs d
+unfolding decide
+count-free [] c d h = absurd (h refl)
+count-free ([] ∷ qs) c d h = count-free qs c d h
+count-free ((r ∷ rs) ∷ qs) c d h = refl

@@ -1,62 +1,43 @@
--- Rows t and t + 1 within the plan, and the conditions as the code tests them.
-use mathlib.Core.Path.{_≡_, ap}
-use mathlib.Core.List.{List}
+-- The conditions as the code tests them.
+use mathlib.Core.Path.{_≡_, refl, ap}
+use mathlib.Core.Logic.{_≢_}
 use mathlib.Core.Bool.{Bool, true, not}
-use Prim.Native.Nat.{ℕ, suc, _+_, _*_, _≤_, _<_}
-use native.Mathlib.Nat.{suc-mul, mul-le-mul-right}
-use native.Mathlib.Numerals.{add-one}
-use native.Mathlib.Omega.{arith}
+use Prim.Native.Nat.{ℕ, zero, suc, _+_}
+use native.Mathlib.Nat.{zero-add}
 use borrow.Author.Tests.{eq-eqb, ne-eqb}
-use lib.ListN.{length, getD}
 use lib.Dec.{eqb}
 use Rattle.answers.specs.Fault.{FirstFault}
-use Rattle.answers.proofs.Faults.{fault-every}
+use Rattle.answers.proofs.Faults.{fault-ext, fault-every}
 use Rattle.instance.specs.declared.Sizes.{Sizes}
-use Rattle.instance.specs.Instance.{Instance, adjacent}
-use Rattle.plan.specs.Plan.{planBytes, condition1, condition2, condition3}
+use Rattle.instance.specs.Instance.{Instance}
+use Rattle.plan.specs.Plan.{Row, condition, condition1, condition2, condition3}
 
--- ---- rows t and t + 1 stand within the plan
-pub record Rows (s : Sizes) (p : List ℕ) (t : ℕ) : Type 0 where
-  pub two : t * s .k + s .k + s .k ≤ length p
-  pub next : (t + 1) * s .k ≡ t * s .k + s .k
-  pub after : suc t * s .k ≡ t * s .k + s .k
+-- a search from offset 0
+from-0 : (n : ℕ) (P : Row) (x r : ℕ) → FirstFault n (λ b. not (eqb (P (0 + b)) x)) r → FirstFault n (λ b. not (eqb (P b) x)) r
+from-0 n P x r f = fault-ext (λ i l. ap (λ (j : ℕ). not (eqb (P j) x)) (zero-add i)) f
 
-pub rows : (s : Sizes) (p : List ℕ) (t : ℕ) → length p ≡ planBytes s → t < s .m → Rows s p t
-rows s p t e l =
-    let a : suc t * s .k ≡ t * s .k + s .k = suc-mul t (s .k) in
-    let b : suc (suc t) * s .k ≡ suc t * s .k + s .k = suc-mul (suc t) (s .k) in
-    let o : suc (suc t) ≤ suc (s .m) = omega arith in
-    let u : suc (suc t) * s .k ≤ suc (s .m) * s .k = mul-le-mul-right (s .k) o in
-    record {
-      two = omega arith;
-      next = rw add-one a;
-      after = a;
-    }
-
--- ---- the conditions of agent a in step t, for an instance of the sizes s; row t begins at byte t·k, the next at t·k + k
-module _ (I : Instance) (s : Sizes) (es : I .sizes ≡ s) (p : List ℕ) (t a : ℕ) where
-  abbrev x : ℕ
-  x = getD p (t * s .k + a) 0
-
-  abbrev y : ℕ
-  y = getD p (t * s .k + s .k + a) 0
-
-  pub keeps-1 : x ≡ y → true ≡ condition1 I p t a
+module _ (here next : Row) (a : ℕ) where
+  pub keeps-1 : (near : ℕ → ℕ → Bool) → here a ≡ next a → true ≡ condition1 near here next a
   unfolding condition1
-  keeps-1 e = rw (es, suc-mul, eq-eqb x y e)
+  keeps-1 near e = rw (eq-eqb (here a) (next a) e)
 
-  pub crosses-1 : (x ≡ y → ⊥) → (r : Bool) → r ≡ adjacent I x y → r ≡ condition1 I p t a
-  unfolding condition1 adjacent
-  crosses-1 d r e = let ek : I .sizes .k ≡ s .k = ap (λ (z : Sizes). z .k) es in rw (ek, suc-mul, ne-eqb x y d) e
+  pub crosses-1 : (near : ℕ → ℕ → Bool) → (here a ≡ next a → ⊥) → (r : Bool) → r ≡ near (here a) (next a) → r ≡ condition1 near here next a
+  unfolding condition1
+  crosses-1 near d r e = rw (ne-eqb (here a) (next a) d) e
 
-  pub keeps-2 : x ≡ y → true ≡ condition2 I p t a
+  pub keeps-2 : (s : Sizes) → here a ≡ next a → true ≡ condition2 s here next a
   unfolding condition2
-  keeps-2 e = rw (es, suc-mul, eq-eqb x y e)
+  keeps-2 s e = rw (eq-eqb (here a) (next a) e)
 
-  pub enters-2 : (x ≡ y → ⊥) → (r : ℕ) → FirstFault (s .k) (λ b. not (eqb (getD p (t * s .k + b) 0) y)) r → eqb r (s .k) ≡ condition2 I p t a
+  pub enters-2 : (s : Sizes) → (here a ≡ next a → ⊥) → (r : ℕ) → FirstFault (s .k) (λ b. not (eqb (here (0 + b)) (next a))) r → eqb r (s .k) ≡ condition2 s here next a
   unfolding condition2
-  enters-2 d r f = rw (es, suc-mul, ne-eqb x y d) (fault-every (s .k) _ r f)
+  enters-2 s d r f = rw (ne-eqb (here a) (next a) d) (fault-every (s .k) _ r (from-0 (s .k) here (next a) r f))
 
-  pub shares-3 : (r : ℕ) → FirstFault a (λ b. not (eqb (getD p ((t + 1) * s .k + b) 0) (getD p ((t + 1) * s .k + a) 0))) r → eqb r a ≡ condition3 I p t a
-  unfolding condition3
-  shares-3 r f = rw (es, ← (add-one t)) (fault-every a _ r f)
+pub shares-3 : (next : Row) (a r : ℕ) → FirstFault a (λ b. not (eqb (next (0 + b)) (next a))) r → eqb r a ≡ condition3 next a
+unfolding condition3
+shares-3 next a r f = fault-every a _ r (from-0 a next (next a) r f)
+
+pub condition-last : (I : Instance) (which : ℕ) (here next : Row) (a : ℕ) → which ≢ 0 → which ≢ 1 → condition3 next a ≡ condition I which here next a
+condition-last I zero here next a d e = absurd (d refl)
+condition-last I (suc zero) here next a d e = absurd (e refl)
+condition-last I (suc (suc which)) here next a d e = refl

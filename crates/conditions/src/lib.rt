@@ -1,30 +1,23 @@
-// The three conditions of a valid step, asked of one agent and of all of them.
+// The three conditions of a valid step, asked of the bytes of a row and of the next row, and of two rows of a plan.
 use instance::Checked;
 use instance::Sizes;
 ghost use mathlib.Core.Path.{_≡_};
 ghost use mathlib.Core.Bool.{not};
-ghost use Prim.Native.Nat.{_+_, _<_, _≤_};
+ghost use Prim.Native.Nat.{suc, _+_, _<_, _≤_};
 ghost use lib.ListN.{length, getD};
 ghost use lib.Dec.{eqb};
 ghost use Rattle.answers.specs.Fault.{FirstFault};
-ghost use Rattle.instance.specs.Instance.{Instance};
-ghost use Rattle.plan.specs.Plan.{planBytes, condition1, condition2, condition3};
+ghost use Rattle.instance.specs.Instance.{adjacent};
 ghost use Rattle.instance.specs.Accepted.{Accepted, instanceOf};
+ghost use Rattle.plan.specs.Plan.{row, planBytes, place, condition, condition1, condition2, condition3};
 
-// A byte as a number.
-fn wide(x: u8) -> usize
-    ensures { λ r. ⌜ (r ≡ x) × (r < 256) ⌝ }
-{
-    x as usize
-}
-
-// The first of `count` agents of a row that stands on x, or `count`.
-pub fn first_on(p: &[u8], row: usize, count: usize, x: u8) -> usize
-    requires { ⌜ row + count ≤ length (now p) ⌝ }
-    ensures { λ r. ⌜ FirstFault count (λ a. not (eqb (getD (now (p .entry)) (row + a) 0) x)) r ⌝ }
+// The first of `count` agents, whose bytes stand from an offset on, that stands on x, or `count`.
+pub fn first_on(p: &[u8], from: usize, count: usize, x: u8) -> usize
+    requires { ⌜ from + count ≤ length (now p) ⌝ }
+    ensures { λ r. ⌜ FirstFault count (λ a. not (eqb (getD (now (p .entry)) (from + a) 0) x)) r ⌝ }
 {
     for a in 0..count {
-        if p[row + a] == x {
+        if p[from + a] == x {
             return a;
         }
     }
@@ -32,88 +25,81 @@ pub fn first_on(p: &[u8], row: usize, count: usize, x: u8) -> usize
 }
 
 // Condition 1 of agent a: it keeps its vertex or crosses an edge?
-fn condition_1(b: &[u8], c: Checked, p: &[u8], t: usize, a: usize) -> bool
+fn condition_1(b: &[u8], c: Checked, here: &[u8], next: &[u8], a: usize) -> bool
     requires { ⌜ Accepted (now b) c ⌝ }
-    requires { ⌜ (length (now p) ≡ planBytes (c .sizes)) × (t < c .sizes .m) × (a < c .sizes .k) ⌝ }
-    ensures { λ r. ⌜ r ≡ condition1 (instanceOf (now (b .entry)) c) (now (p .entry)) t a ⌝ }
+    requires { ⌜ (a < length (now here)) × (a < length (now next)) ⌝ }
+    ensures { λ r. ⌜ r ≡ condition1 (adjacent (instanceOf (now (b .entry)) c)) (row (now (here .entry))) (row (now (next .entry))) a ⌝ }
 {
-    let s = c.sizes;
-    let row = t * s.k;
-    let next = row + s.k;
-    let v = wide(p[row + a]);
-    let w = wide(p[next + a]);
+    let v = instance::wide(here[a]);
+    let w = instance::wide(next[a]);
     if v == w {
         return true;
     }
-    edges::is_edge(b, s.e, v, w)
+    edges::is_edge(b, c.sizes.e, v, w)
 }
 
-// Condition 2 of agent a: it keeps its vertex, or goes to one on which no agent stood in row t?
-fn condition_2(s: Sizes, p: &[u8], t: usize, a: usize) -> bool
-    requires { ⌜ (length (now p) ≡ planBytes s) × (t < s .m) × (a < s .k) ⌝ }
-    ensures { λ r. ⌜ ((I : Instance) → I .sizes ≡ s → r ≡ condition2 I (now (p .entry)) t a) ⌝ }
+// Condition 2 of agent a: it keeps its vertex, or goes to one on which no agent stood?
+fn condition_2(s: Sizes, here: &[u8], next: &[u8], a: usize) -> bool
+    requires { ⌜ (s .k ≤ length (now here)) × (a < length (now here)) × (a < length (now next)) ⌝ }
+    ensures { λ r. ⌜ r ≡ condition2 s (row (now (here .entry))) (row (now (next .entry))) a ⌝ }
 {
     let k = s.k;
-    let row = t * k;
-    let next = row + k;
-    let v = p[row + a];
-    let w = p[next + a];
+    let v = here[a];
+    let w = next[a];
     if v != w {
-        return first_on(p, row, k, w) == k;
+        return first_on(here, 0, k, w) == k;
     }
     true
 }
 
-// Condition 3 of agent a: it shares its vertex in row t + 1 with no lower agent?
-fn condition_3(s: Sizes, p: &[u8], t: usize, a: usize) -> bool
-    requires { ⌜ (length (now p) ≡ planBytes s) × (t < s .m) × (a < s .k) ⌝ }
-    ensures { λ r. ⌜ ((I : Instance) → I .sizes ≡ s → r ≡ condition3 I (now (p .entry)) t a) ⌝ }
+// Condition 3 of agent a: it shares its vertex in the next row with no lower agent?
+fn condition_3(next: &[u8], a: usize) -> bool
+    requires { ⌜ a < length (now next) ⌝ }
+    ensures { λ r. ⌜ r ≡ condition3 (row (now (next .entry))) a ⌝ }
 {
-    let next = (t + 1) * s.k;
-    let w = p[next + a];
-    first_on(p, next, a, w) == a
+    let w = next[a];
+    first_on(next, 0, a, w) == a
 }
 
-// The first agent that fails condition 1 in step t, or k.
-pub fn fault_1(b: &[u8], c: Checked, p: &[u8], t: usize) -> usize
+// The condition with a number, from 0, of agent a.
+fn passes(b: &[u8], c: Checked, which: usize, here: &[u8], next: &[u8], a: usize) -> bool
     requires { ⌜ Accepted (now b) c ⌝ }
-    requires { ⌜ (length (now p) ≡ planBytes (c .sizes)) × (t < c .sizes .m) ⌝ }
-    ensures { λ r. ⌜ FirstFault (c .sizes .k) (condition1 (instanceOf (now (b .entry)) c) (now (p .entry)) t) r ⌝ }
+    requires { ⌜ (c .sizes .k ≤ length (now here)) × (c .sizes .k ≤ length (now next)) × (a < c .sizes .k) ⌝ }
+    ensures { λ r. ⌜ r ≡ condition (instanceOf (now (b .entry)) c) which (row (now (here .entry))) (row (now (next .entry))) a ⌝ }
+{
+    match which {
+        0 => condition_1(b, c, here, next, a),
+        1 => condition_2(c.sizes, here, next, a),
+        _ => condition_3(next, a),
+    }
+}
+
+// The first agent that fails it, or k.
+pub fn fault(b: &[u8], c: Checked, which: usize, here: &[u8], next: &[u8]) -> usize
+    requires { ⌜ Accepted (now b) c ⌝ }
+    requires { ⌜ (c .sizes .k ≤ length (now here)) × (c .sizes .k ≤ length (now next)) ⌝ }
+    ensures { λ r. ⌜ FirstFault (c .sizes .k) (condition (instanceOf (now (b .entry)) c) which (row (now (here .entry))) (row (now (next .entry)))) r ⌝ }
 {
     let s = c.sizes;
     let k = s.k;
     for a in 0..k {
-        if !condition_1(b, c, p, t, a) {
+        if !passes(b, c, which, here, next, a) {
             return a;
         }
     }
     k
 }
 
-// The first agent that fails condition 2 in step t, or k.
-pub fn fault_2(s: Sizes, p: &[u8], t: usize) -> usize
-    requires { ⌜ (length (now p) ≡ planBytes s) × (t < s .m) ⌝ }
-    ensures { λ r. ⌜ ((I : Instance) → I .sizes ≡ s → FirstFault (s .k) (condition2 I (now (p .entry)) t) r) ⌝ }
+// The first agent that fails it between rows t and t + 1 of a plan, or k.
+pub fn step_fault(b: &[u8], c: Checked, which: usize, p: &[u8], t: usize) -> usize
+    requires { ⌜ Accepted (now b) c ⌝ }
+    requires { ⌜ (length (now p) ≡ planBytes (c .sizes)) × (t < c .sizes .m) ⌝ }
+    ensures { λ r. ⌜ FirstFault (c .sizes .k) (condition (instanceOf (now (b .entry)) c) which (place (c .sizes) (now (p .entry)) t) (place (c .sizes) (now (p .entry)) (suc t))) r ⌝ }
 {
+    let s = c.sizes;
     let k = s.k;
-    for a in 0..k {
-        if !condition_2(s, p, t, a) {
-            return a;
-        }
-    }
-    k
-}
-
-// The first agent that fails condition 3 in step t, or k.
-pub fn fault_3(s: Sizes, p: &[u8], t: usize) -> usize
-    requires { ⌜ (length (now p) ≡ planBytes s) × (t < s .m) ⌝ }
-    ensures { λ r. ⌜ ((I : Instance) → I .sizes ≡ s → FirstFault (s .k) (condition3 I (now (p .entry)) t) r) ⌝ }
-{
-    let k = s.k;
-    for a in 0..k {
-        if !condition_3(s, p, t, a) {
-            return a;
-        }
-    }
-    k
+    let row = t * k;
+    let next = row + k;
+    let end = next + k;
+    fault(b, c, which, &p[row..next], &p[next..end])
 }

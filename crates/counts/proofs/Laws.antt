@@ -4,7 +4,7 @@ use native.Mathlib.Nat.{mul-le-mul}
 use native.Mathlib.Numerals.{add-one}
 use native.Mathlib.Omega.{arith}
 use Rattle.instance.specs.declared.Sizes.{Sizes}
-use Rattle.formula.specs.Counts.{pairs}
+use Rattle.lists.specs.Loop.{pairs}
 use Rattle.instance.specs.Limits.{Limits}
 use Rattle.formula.proofs.Limits.{rows, variables-most, moves, count-D-most, count-E-most, count-F-most, count-G-most}
 

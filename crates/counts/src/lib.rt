@@ -6,7 +6,8 @@ ghost use Prim.Native.Nat.{_*_, _-_, _/_, _≤_, _<_};
 ghost use Rattle.formula.specs.Variables.{variableCount};
 ghost use Rattle.formula.specs.Blocks.{steps, cells};
 ghost use Rattle.plan.specs.Plan.{planBytes};
-ghost use Rattle.formula.specs.Counts.{pairs, clausesBy, clauseCount, wordCount};
+ghost use Rattle.formula.specs.Counts.{clausesBy, clauseCount, wordCount};
+ghost use Rattle.lists.specs.Loop.{pairs};
 ghost use Rattle.instance.specs.Limits.{Limits};
 
 // A number for each family.

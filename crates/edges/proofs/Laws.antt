@@ -13,6 +13,7 @@ use Rattle.lists.proofs.Tests.{and-iff, or-iff, eqb-iff, ltb-iff, some-iff}
 use Rattle.answers.specs.Fault.{FirstFault}
 use Rattle.answers.proofs.Faults.{T-false}
 use Rattle.instance.specs.declared.Checked.{Checked}
+use Rattle.instance.proofs.Graph.{rising}
 use Rattle.instance.specs.Instance.{instance, edges, lowEnd, highEnd, adjacent}
 use Rattle.instance.specs.Accepted.{Accepted}
 use Rattle.instance.proofs.Accepted.{graph, e-same, long}
@@ -60,19 +61,9 @@ module _ (b : List ℕ) (low high : ℕ) where
       ⊎-elim (λ o. omega arith) (λ o. omega arith) (earlier-iff j .0 s)
 
 module _ (b : List ℕ) (e : ℕ) (s : Searchable b e) where
-  rising : (i j : ℕ) → i < j → j < e → Below (lowEnd b i) (highEnd b i) (lowEnd b j) (highEnd b j)
+  rises : (i j : ℕ) → i < j → j < e → Below (lowEnd b i) (highEnd b i) (lowEnd b j) (highEnd b j)
   unfolding instance
-  rising i zero l r = absurd (not-suc-le-zero l)
-  rising i (suc j) l r =
-      let n : Below (lowEnd b j) (highEnd b j) (lowEnd b (suc j)) (highEnd b (suc j)) = s .graph .order j (omega (arith, s .count)) in
-      ⊎-elim
-      (λ q. rw q n)
-      (λ h.
-      ⊎-elim
-      (λ x. ⊎-elim (λ y. inl (omega arith)) (λ y. inl (omega arith)) n)
-      (λ x. ⊎-elim (λ y. inl (omega arith)) (λ y. inr (x .0 ∙ y .0, omega arith)) n)
-      (rising i j h (omega arith)))
-      (eq-or-lt-of-le (le-of-suc-le-suc l))
+  rises i j l r = rising (instance b 0) (s .graph) i j l (omega (arith, s .count))
 
   module _ (low high : ℕ) where
     -- an edge before one that comes before the pair comes before it too
@@ -82,7 +73,7 @@ module _ (b : List ℕ) (e : ℕ) (s : Searchable b e) where
         (⊎-elim
         (λ x. ⊎-elim (λ y. inl (omega arith)) (λ y. inl (omega arith)) (earlier-iff b low high j .0 t))
         (λ x. ⊎-elim (λ y. inl (omega arith)) (λ y. inr (x .0 ∙ y .0, omega arith)) (earlier-iff b low high j .0 t))
-        (rising i j l r))
+        (rises i j l r))
 
     -- the edge, if there is one, stands where the search ends
     found-at : (r : ℕ) → FirstFault e (earlier b low high) r → (j : ℕ) → j < e → T (between b low high j) → j ≡ r
@@ -93,7 +84,7 @@ module _ (b : List ℕ) (e : ℕ) (s : Searchable b e) where
         (λ h.
         by-cases (decLt r j)
         (λ o.
-        let d : Below (lowEnd b r) (highEnd b r) low high = rw (p, q) at (rising r j o l) in
+        let d : Below (lowEnd b r) (highEnd b r) low high = rw (p, q) at (rises r j o l) in
         absurd (f .here (omega arith) (earlier-iff b low high r .1 d)))
         (λ o. omega arith))
 

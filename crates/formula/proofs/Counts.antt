@@ -6,7 +6,7 @@ use native.Mathlib.Nat.{mul-one, mul-comm, mul-assoc, mul-left-comm}
 use native.Mathlib.Numerals.{add-one}
 use native.Mathlib.Omega.{arith}
 use lib.ListN.{length, length-append}
-use Rattle.lists.specs.Loop.{for, each}
+use Rattle.lists.specs.Loop.{for, each, pairs}
 use Rattle.lists.proofs.Loops.{for-length, each-for, each-append, each-when}
 use Rattle.lists.proofs.Blocks.{for1-length}
 use Rattle.lists.proofs.Sums.{for-sum, sum-ext, sum-const, sum-add, above-length, others-length, when-count}
@@ -15,7 +15,7 @@ use Rattle.instance.specs.Instance.{Instance, adjacent, Edges}
 use Rattle.instance.proofs.Graph.{degree, handshake}
 use Rattle.formula.specs.Variables.{X}
 use Rattle.formula.specs.Formula.{Clause, A, B, C, D, E, F, G, clauses, formula, line, words}
-use Rattle.formula.specs.Counts.{pairs, clausesBy, wordsBy, clauseCount, wordCount}
+use Rattle.formula.specs.Counts.{clausesBy, wordsBy, clauseCount, wordCount}
 
 pub one-line : (c : Clause) → length (each line (c ∷ [])) ≡ suc (length c)
 one-line c = ap length (append-nil (line c)) ∙ length-append c _ ∙ add-one (length c)

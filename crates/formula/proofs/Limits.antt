@@ -8,7 +8,7 @@ use native.Mathlib.Nat.{mul-le-mul, not-suc-le-zero, le-refl, eq-or-lt-of-le, le
 use native.Mathlib.Omega.{arith}
 use lib.ListN.{length, length-append}
 use lib.Dec.{T, leb}
-use Rattle.lists.specs.Loop.{all, sum}
+use Rattle.lists.specs.Loop.{all, sum, pairs}
 use Rattle.lists.proofs.Tests.{leb-iff}
 use Rattle.lists.proofs.Loops.{for-all, when-all, one-all, all-append, all-mem}
 use Rattle.lists.proofs.Blocks.{for1-length}
@@ -19,7 +19,7 @@ use Rattle.instance.proofs.Graph.{adjacent-iff, degree}
 use Rattle.formula.specs.Variables.{X, variableCount}
 use Rattle.formula.specs.Formula.{Clause, A, B, C, D, E, F, G, clauses, line}
 use Rattle.instance.specs.Limits.{Limits}
-use Rattle.formula.specs.Counts.{pairs, clausesBy, clauseCount, wordCount}
+use Rattle.formula.specs.Counts.{clausesBy, clauseCount, wordCount}
 
 module _ (s : Sizes) (w : Limits s) where
   open Sizes s using (n, k, e, m)

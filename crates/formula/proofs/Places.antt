@@ -7,7 +7,7 @@ use native.Mathlib.Nat.{mul-one, add-mul, mul-assoc, add-assoc}
 use native.Mathlib.Omega.{arith}
 use lib.ListN.{length, getD}
 use lib.Dec.{ltb, eqb}
-use Rattle.lists.specs.Loop.{for, when, sum}
+use Rattle.lists.specs.Loop.{for, when, sum, pairs}
 use Rattle.lists.proofs.Loops.{for-length, for-getD}
 use Rattle.lists.proofs.Blocks.{place-lt, for1-length, for1-getD, for2-getD, for3-getD}
 use Rattle.lists.proofs.Sums.{sum-le, pairs-all, above-length, above-getD, others-length, others-below, others-above}
@@ -15,7 +15,6 @@ use Rattle.instance.specs.declared.Sizes.{Sizes}
 use Rattle.instance.specs.Instance.{Instance, adjacent}
 use Rattle.formula.specs.Variables.{X, ¬X}
 use Rattle.formula.specs.Formula.{Clause, A, B, C, D, E, F, G}
-use Rattle.formula.specs.Counts.{pairs}
 
 -- block i of row t among rows of b blocks of c elements, from one number or from two
 split : (t b a c j : ℕ) → (t * b + a) * c + j ≡ t * (b * c) + (a * c + j)

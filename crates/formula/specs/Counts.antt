@@ -1,10 +1,7 @@
 -- The closed counts of clauses and words, by family and in all.
-use Prim.Native.Nat.{ℕ, suc, _+_, _*_, _-_, _/_}
+use Prim.Native.Nat.{ℕ, suc, _+_, _*_, _-_}
+use Rattle.lists.specs.Loop.{pairs}
 use Rattle.instance.specs.declared.Sizes.{Sizes}
-
--- pairs of two different numbers below n
-abbrev pub pairs : ℕ → ℕ
-pairs n = n * (n - 1) / 2
 
 -- one number for each family, A to G
 pub record Families : Type 0 where

@@ -2,10 +2,10 @@
 -- no names. Every call asks them first.
 use mathlib.Core.List.{List, [], _∷_, _++_}
 use mathlib.Core.Bool.{Bool, _&&_, _||_}
-use Prim.Native.Nat.{ℕ, suc, _+_, _*_, _-_, _/_}
+use Prim.Native.Nat.{ℕ, suc, _+_, _*_, _-_}
 use lib.ListN.{length}
 use lib.Dec.{leb, ltb, eqb}
-use Rattle.lists.specs.Loop.{unlikeEarlier}
+use Rattle.lists.specs.Loop.{pairs, unlikeEarlier}
 use Rattle.answers.specs.declared.Answer.{Answer}
 use Rattle.answers.specs.Answers.{Question, ask, askEach, refuse, decide, byNumber}
 use Rattle.instance.specs.declared.Checked.{Checked}
@@ -40,7 +40,7 @@ module _ (b : List ℕ) where
 
   -- Is e at most n(n-1)/2?
   abbrev pub question4 : Question
-  question4 = ask (leb (edges b) (vertices b * (vertices b - 1) / 2)) (refuse 4 2)
+  question4 = ask (leb (edges b) (pairs (vertices b))) (refuse 4 2)
 
   -- Is the length exactly 4+2e+2k?
   abbrev pub question5 : Question

@@ -17,7 +17,7 @@ use Rattle.lists.proofs.Slices.{filled-set}
 use Rattle.answers.specs.declared.Answer.{Answer}
 use Rattle.answers.specs.Answers.{Question, refuse, accept, decide, clear}
 use Rattle.answers.specs.Fault.{FirstFault}
-use Rattle.answers.proofs.Laws.{clear-iff, decide-iff, decide-front, decide-after, ask-no, fault-pass, fault-stop, byNumber-accepted, byNumber-refused, ask-nil, ask-all}
+use Rattle.answers.proofs.Laws.{clear-iff, decide-iff, decide-front, decide-after, ask-yes, ask-no, fault-pass, fault-stop, byNumber-accepted, byNumber-refused, ask-nil, ask-all}
 use Rattle.instance.specs.Instance.{agents, edges, startOf, goalOf, instance, checked, unchecked}
 use Rattle.instance.specs.Questions.{question1, question2, question3, question4, question5, question6, question7, question8, question9, question10, properEdge, laterEdge, newVertex, instanceQuestions, instanceAnswer, instanceChecked}
 use Rattle.instance.proofs.Instance.{instance-iff, length-known, limits}
@@ -110,7 +110,7 @@ module _ (b : List ℕ) (m : ℕ) where
 
   pub pass-10 : m ≤ 32 → accept 0 ≡ decide (question10 m ∷ []) 0
   unfolding decide
-  pass-10 l = rw (le-leb m 32 l)
+  pass-10 l = sym (ask-yes (leb m 32) (refuse 10 0) [] 0 (leb-iff m 32 .1 l))
 
   -- ---- the checked instance beside the answer
   module _ (r : Answer) (er : r ≡ instanceAnswer b m) where

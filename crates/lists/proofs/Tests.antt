@@ -1,5 +1,5 @@
 -- Tests as propositions, and what holds of each number below n.
-use mathlib.Core.Path.{_≡_, refl, sym, subst}
+use mathlib.Core.Path.{_≡_, refl, sym, ap₂, subst}
 use mathlib.Core.Logic.{_↔_, _⊎_, inl, inr, ⊎-elim}
 use mathlib.Core.Bool.{Bool, true, false, not, _&&_, _||_, cond}
 use Prim.Native.Nat.{ℕ, zero, suc, _≤_, _<_}
@@ -53,6 +53,10 @@ every-iff (suc n) p = (
   (λ h. let (a, b) = and-iff (every n p) (p n) .0 h in below-suc _ n (every-iff n p .0 a) b),
   (λ h. and-iff (every n p) (p n) .1 (every-iff n p .1 (λ i l. h i (omega arith)), h n (le-refl (suc n)))),
 )
+
+pub every-ext : (n : ℕ) (p q : ℕ → Bool) → ((i : ℕ) → i < n → p i ≡ q i) → every n p ≡ every n q
+every-ext zero p q h = refl
+every-ext (suc n) p q h = ap₂ _&&_ (every-ext n p q (λ i l. h i (omega arith))) (h n (le-refl (suc n)))
 
 pub some-iff : (n : ℕ) (p : ℕ → Bool) → T (some n p) ↔ ((i : ℕ) × (i < n) × T (p i))
 some-iff zero p = ((λ h. absurd h), (λ h. absurd (not-suc-le-zero (h .1))))

@@ -7,10 +7,11 @@
 --     any p l, all p l        the test p holds of some element, of every element of l
 --     first n p               the lowest number below n at which the test p holds
 --     sum n f                 f 0 + f 1 + .. + f (n - 1)
+--     pairs n                 how many pairs of two different numbers below n there are
 --     unlikeEarlier f a       f a is unlike f 0, .., f (a - 1)
 use mathlib.Core.List.{List, [], _∷_, _++_}
 use mathlib.Core.Bool.{Bool, true, false, not, _&&_, _||_, cond}
-use Prim.Native.Nat.{ℕ, zero, suc, _+_}
+use Prim.Native.Nat.{ℕ, zero, suc, _+_, _*_, _-_, _/_}
 use lib.Dec.{eqb}
 
 module _ {A : Type 0} where
@@ -54,6 +55,9 @@ first (suc n) p = cond (some n p) (first n p) n
 abbrev pub sum : ℕ → (ℕ → ℕ) → ℕ
 sum zero f = 0
 sum (suc n) f = sum n f + f n
+
+abbrev pub pairs : ℕ → ℕ
+pairs n = n * (n - 1) / 2
 
 abbrev pub unlikeEarlier : (ℕ → ℕ) → ℕ → Bool
 unlikeEarlier f a = every a λ b. not (eqb (f b) (f a))

@@ -12,7 +12,7 @@ use borrow.Author.Tests.{lt-ltb, le-ltb}
 use lib.ListN.{length, getD}
 use lib.Dec.{ltb}
 use lib.IntN.{ℤ}
-use Rattle.lists.specs.Loop.{for, when}
+use Rattle.lists.specs.Loop.{for, when, pairs}
 use Rattle.lists.specs.Slice.{filled}
 use Rattle.lists.proofs.Loops.{for-ext}
 use Rattle.instance.specs.declared.Sizes.{Sizes}
@@ -20,7 +20,6 @@ use Rattle.instance.specs.declared.Checked.{Checked}
 use Rattle.instance.specs.Instance.{Instance, adjacent}
 use Rattle.formula.specs.Variables.{X, ¬X}
 use Rattle.formula.specs.Formula.{Clause, A, B, C, D, E, F, G, line}
-use Rattle.formula.specs.Counts.{pairs}
 use Rattle.formula.proofs.Places.{nth-A, nth-B, nth-C, nth-D, nth-E, nth-F, nth-G-below, nth-G-above}
 use Rattle.instance.specs.Accepted.{Accepted, instanceOf}
 use Rattle.instance.proofs.Accepted.{sizes-same, start-at, goal-at}

@@ -8,9 +8,8 @@ use native.Mathlib.Decide.{decLt}
 use native.Mathlib.Numerals.{add-one}
 use native.Mathlib.Omega.{arith}
 use lib.Dec.{ltb}
-use Rattle.lists.specs.Loop.{sum}
+use Rattle.lists.specs.Loop.{sum, pairs}
 use Rattle.lists.proofs.Sums.{pairs-all}
-use Rattle.formula.specs.Counts.{pairs}
 use Rattle.one_clause.specs.Spot.{PairAt}
 
 pub no-row : (i rows : ℕ) → i < rows * 0 → ⊥

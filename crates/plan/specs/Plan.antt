@@ -1,11 +1,12 @@
 -- Plans: their rows, the three conditions as tests, makespan and cost.
 use mathlib.Core.List.{List}
 use mathlib.Core.Bool.{Bool, not, _||_}
-use Prim.Native.Nat.{ℕ, suc, _+_, _*_, _-_, _/_}
+use Prim.Native.Nat.{ℕ, zero, suc, _+_, _*_, _-_, _/_}
 use lib.ListN.{length, getD}
 use lib.Dec.{eqb}
 use Rattle.lists.specs.Loop.{for, unless, every, unlikeEarlier}
 use Rattle.instance.specs.declared.Sizes.{Sizes}
+use Rattle.instance.specs.Instance.{Instance, adjacent}
 
 -- a row: the vertex of each agent at one time
 abbrev pub Row : Type 0
@@ -43,6 +44,12 @@ condition2 s here next a = keeps here next a || (every (s .k) λ b. not (eqb (he
 -- 3: it shares its vertex in the next row with no lower agent
 unfoldable pub condition3 : Row → ℕ → Bool
 condition3 next a = unlikeEarlier next a
+
+-- the three by number, from 0
+abbrev pub condition : Instance → ℕ → Row → Row → ℕ → Bool
+condition I zero here next a = condition1 (adjacent I) here next a
+condition I (suc zero) here next a = condition2 (I .sizes) here next a
+condition I (suc (suc which)) here next a = condition3 next a
 
 -- the number of steps of a plan: they lie between its rows of k bytes
 abbrev pub makespan : ℕ → List ℕ → ℕ

@@ -4,29 +4,29 @@ use mathlib.Core.Logic.{_≢_}
 use mathlib.Core.List.{List, [], _∷_, _++_}
 use mathlib.Core.Bool.{Bool, true, false}
 use Prim.Native.Nat.{ℕ, suc, _+_, _-_, _*_, _≤_, _<_}
-use native.Mathlib.Nat.{suc-mul, mul-le-mul, add-zero, zero-add, zero-mul}
+use native.Mathlib.Nat.{suc-mul, add-zero, zero-add, zero-mul}
 use native.Mathlib.Numerals.{add-one}
 use native.Mathlib.Omega.{arith}
 use lib.ListN.{length, getD, length-append}
 use lib.Dec.{T, eqb, ltb}
 use Rattle.lists.specs.Loop.{for, unless, all}
 use Rattle.lists.proofs.Tests.{and-iff, eqb-iff}
-use Rattle.lists.proofs.Loops.{for-all, for-split, all-append, unless-all}
+use Rattle.lists.proofs.Loops.{for-all}
 use Rattle.answers.specs.declared.Answer.{Answer}
-use Rattle.answers.specs.Answers.{Question, refuse, accept, decide, clear}
+use Rattle.answers.specs.Answers.{Question, refuse, accept, askEach, decide, clear}
 use Rattle.answers.specs.Fault.{FirstFault}
-use Rattle.answers.proofs.Laws.{numbered, decide-iff, decide-count, decide-after, decide-front, fault-pass, fault-stop, ask-yes, ask-no}
+use Rattle.answers.proofs.Laws.{numbered, each-all, decide-iff, decide-count, decide-after, decide-front, count-free, asked-all, fault-pass, fault-stop, ask-yes, ask-no}
+use Rattle.answers.proofs.Faults.{fault-ext}
 use Rattle.instance.specs.declared.Sizes.{Sizes}
 use Rattle.instance.specs.declared.Checked.{Checked}
 use Rattle.instance.specs.Instance.{Instance, instance}
-use Rattle.plan.specs.Plan.{planBytes, cell, place, condition1, condition2, condition3, cost}
+use Rattle.plan.specs.Plan.{planBytes, cell, place, condition, cost}
 use Rattle.calls.specs.Questions.{question13, question18, question20, question21, question22}
 use Rattle.instance.specs.Questions.{instanceQuestions, instanceAnswer, instanceChecked}
-use Rattle.calls.specs.Calls.{planQuestions, checkAnswer}
+use Rattle.calls.specs.Calls.{stepQuestions, planQuestions, checkAnswer}
 use Rattle.instance.specs.Accepted.{Accepted, instanceOf}
 use Rattle.instance.proofs.Accepted.{accepted, horizon-of, sizes-same, limits-known, start-at, goal-at}
 use Rattle.calls.proofs.Plan.{numbered-plan}
-use Rattle.plan_check.specs.Steps.{stepQuestions}
 
 -- ---- counting the moves of a step, agent by agent
 module _ (test : ℕ → Bool) (a moves : ℕ) (e : moves ≡ length (for a λ i. unless (test i) i)) where
@@ -46,72 +46,53 @@ count-step p t k a moves ea e =
 pub count-more : (f : ℕ → List ℕ) (t moves more : ℕ) → moves ≡ length (for t f) → more ≡ length (f t) → moves + more ≡ length (for (t + 1) f)
 count-more f t moves more e h = rw (add-one t, length-append, e, h)
 
--- ---- a question of all agents, for an instance of the sizes s; `at` is where the row begins in which the place is named
-module _ (I : Instance) (s : Sizes) (es : I .sizes ≡ s) (test : ℕ → Bool) (r : ℕ) (f : FirstFault (s .k) test r) (number row : ℕ) (qs : List Question) where
-  agents-fault : FirstFault (I .sizes .k) test r
-  agents-fault = subst (λ (z : Sizes). FirstFault (z .k) test r) (sym es) f
-
-  pub stop-agents : (at : ℕ) → at ≡ row * s .k → r < s .k
-      → refuse number (at + r) ≡ decide ((for (I .sizes .k) λ a. unless (test a) (refuse number (cell (I .sizes) row a))) ∷ qs) 0
+-- ---- a question of all agents, where k is their number as the code has it; `at` is where the row begins in which the place is named
+module _ (I : Instance) (k : ℕ) (ek : k ≡ I .sizes .k) (test : ℕ → Bool) (r : ℕ) (f : FirstFault (I .sizes .k) test r) (number row : ℕ) (qs : List Question) where
+  pub stop-agents : (at : ℕ) → at ≡ row * k → r < k
+      → refuse number (at + r) ≡ decide (askEach (I .sizes .k) test (λ a. refuse number (cell (I .sizes) row a)) ∷ qs) 0
   stop-agents at ea l =
-      let ek : s .k ≡ I .sizes .k = ap (λ (z : Sizes). z .k) (sym es) in
       ap (λ (x : ℕ). refuse number (x + r)) (ea ∙ ap (λ (x : ℕ). row * x) ek)
-      ∙ sym (fault-stop agents-fault (λ a. refuse number (cell (I .sizes) row a)) qs 0 (rw (← ek) l))
+      ∙ sym (fault-stop f (λ a. refuse number (cell (I .sizes) row a)) qs 0 (rw (← ek) l))
 
-  pub pass-agents : s .k ≤ r → decide qs 0 ≡ decide ((for (I .sizes .k) λ a. unless (test a) (refuse number (cell (I .sizes) row a))) ∷ qs) 0
-  pass-agents l =
-      let ek : s .k ≡ I .sizes .k = ap (λ (z : Sizes). z .k) (sym es) in
-      sym (fault-pass agents-fault (λ a. refuse number (cell (I .sizes) row a)) qs 0 (rw (← ek) l))
-
--- nothing is left to ask
-pub asked-all : accept 0 ≡ decide [] 0
-unfolding decide
-asked-all = refl
-
--- ---- question lists f 0, f 1, .. asked one after another
-module _ (f : ℕ → List Question) (t : ℕ) (r : Answer) (er : r ≡ decide (f t) 0) (yes : T (all clear (for t f))) where
-  pub step-stop : (n : ℕ) → t < n → r .number ≢ 0 → r ≡ decide (for n f) 0
-  step-stop n l d =
-      let rest : ℕ = n - suc t in
-      let e : n ≡ suc t + rest = omega arith in
-      let later : List Question = for rest (λ i. f (suc t + i)) in
-      let before : decide (for t f ++ f t) 0 ≡ decide (f t) 0 = decide-after (for t f) (f t) 0 yes in
-      let refused : decide (for t f ++ f t) 0 .number ≢ 0 = λ z. d (ap (λ (a : Answer). a .number) (er ∙ sym before) ∙ z) in
-      er
-      ∙ sym before
-      ∙ sym (decide-front (for t f ++ f t) later 0 refused)
-      ∙ sym (ap (λ (x : ℕ). decide (for x f) 0) e ∙ ap (λ (qs : List Question). decide qs 0) (for-split (suc t) rest f))
-
-  pub step-more : T (all numbered (f t)) → r .number ≡ 0 → T (all clear (for (t + 1) f))
-  step-more h e =
-      rw (add-one t) (all-append clear (for t f) (f t) .1 (yes, decide-iff (f t) 0 h .0 (sym (ap (λ (a : Answer). a .number) er) ∙ e)))
+  pub pass-agents : k ≤ r → decide qs 0 ≡ decide (askEach (I .sizes .k) test (λ a. refuse number (cell (I .sizes) row a)) ∷ qs) 0
+  pass-agents l = sym (fault-pass f (λ a. refuse number (cell (I .sizes) row a)) qs 0 (rw (← ek) l))
 
 -- ---- 19 to 21 of step t: x, y and z are the first agents that fail the three conditions
 pub numbered-step : (I : Instance) (p : List ℕ) (t : ℕ) → T (all numbered (stepQuestions I p t))
-numbered-step I p t = simp (and-iff, for-all, unless-all) ((λ a l f. tt), ((λ a l f. tt), ((λ a l f. tt), tt)))
+numbered-step I p t = simp (and-iff, each-all) ((λ a l f. tt), ((λ a l f. tt), ((λ a l f. tt), tt)))
 
-module _ (I : Instance) (s : Sizes) (es : I .sizes ≡ s) (p : List ℕ) (t x y z : ℕ)
-    (f : FirstFault (s .k) (condition1 I p t) x) (g : FirstFault (s .k) (condition2 I p t) y) (h : FirstFault (s .k) (condition3 I p t) z) where
-  row-begins : (t + 1) * s .k ≡ suc t * s .k
-  row-begins = ap (λ (u : ℕ). u * s .k) (add-one t)
+module _ (I : Instance) (s : Sizes) (es : s ≡ I .sizes) (p : List ℕ) (t : ℕ) where
+  -- the first agent that fails a condition between rows t and t + 1
+  abbrev Fails : ℕ → ℕ → Type 0
+  Fails which r = FirstFault (s .k) (condition I which (place s p t) (place s p (suc t))) r
 
-  pub stop-19 : x < s .k → refuse 19 ((t + 1) * s .k + x) ≡ decide (stepQuestions I p t) 0
-  stop-19 = stop-agents I s es (condition1 I p t) x f 19 (suc t) (question20 I p t ∷ question21 I p t ∷ []) _ row-begins
+  fails : (which r : ℕ) → Fails which r → FirstFault (I .sizes .k) (condition I which (place (I .sizes) p t) (place (I .sizes) p (suc t))) r
+  fails which r f = subst (λ (z : Sizes). FirstFault (z .k) (condition I which (place z p t) (place z p (suc t))) r) es f
 
-  pass-19 : s .k ≤ x → decide (question20 I p t ∷ question21 I p t ∷ []) 0 ≡ decide (stepQuestions I p t) 0
-  pass-19 = pass-agents I s es (condition1 I p t) x f 19 (suc t) (question20 I p t ∷ question21 I p t ∷ [])
+  module _ (x y z : ℕ) (f : Fails 0 x) (g : Fails 1 y) (h : Fails 2 z) where
+    ek : s .k ≡ I .sizes .k
+    ek = ap (λ (z : Sizes). z .k) es
 
-  pub stop-20 : s .k ≤ x → y < s .k → refuse 20 ((t + 1) * s .k + y) ≡ decide (stepQuestions I p t) 0
-  stop-20 l m = stop-agents I s es (condition2 I p t) y g 20 (suc t) (question21 I p t ∷ []) _ row-begins m ∙ pass-19 l
+    row-begins : (t + 1) * s .k ≡ suc t * s .k
+    row-begins = ap (λ (u : ℕ). u * s .k) (add-one t)
 
-  pass-20 : s .k ≤ x → s .k ≤ y → decide (question21 I p t ∷ []) 0 ≡ decide (stepQuestions I p t) 0
-  pass-20 l m = pass-agents I s es (condition2 I p t) y g 20 (suc t) (question21 I p t ∷ []) m ∙ pass-19 l
+    pub stop-19 : x < s .k → refuse 19 ((t + 1) * s .k + x) ≡ decide (stepQuestions I p t) 0
+    stop-19 = stop-agents I (s .k) ek _ x (fails 0 x f) 19 (suc t) (question20 I p t ∷ question21 I p t ∷ []) _ row-begins
 
-  pub stop-21 : s .k ≤ x → s .k ≤ y → z < s .k → refuse 21 ((t + 1) * s .k + z) ≡ decide (stepQuestions I p t) 0
-  stop-21 l m n = stop-agents I s es (condition3 I p t) z h 21 (suc t) [] _ row-begins n ∙ pass-20 l m
+    pass-19 : s .k ≤ x → decide (question20 I p t ∷ question21 I p t ∷ []) 0 ≡ decide (stepQuestions I p t) 0
+    pass-19 = pass-agents I (s .k) ek _ x (fails 0 x f) 19 (suc t) (question20 I p t ∷ question21 I p t ∷ [])
 
-  pub pass-21 : s .k ≤ x → s .k ≤ y → s .k ≤ z → accept 0 ≡ decide (stepQuestions I p t) 0
-  pass-21 l m n = asked-all ∙ pass-agents I s es (condition3 I p t) z h 21 (suc t) [] n ∙ pass-20 l m
+    pub stop-20 : s .k ≤ x → y < s .k → refuse 20 ((t + 1) * s .k + y) ≡ decide (stepQuestions I p t) 0
+    stop-20 l m = stop-agents I (s .k) ek _ y (fails 1 y g) 20 (suc t) (question21 I p t ∷ []) _ row-begins m ∙ pass-19 l
+
+    pass-20 : s .k ≤ x → s .k ≤ y → decide (question21 I p t ∷ []) 0 ≡ decide (stepQuestions I p t) 0
+    pass-20 l m = pass-agents I (s .k) ek _ y (fails 1 y g) 20 (suc t) (question21 I p t ∷ []) m ∙ pass-19 l
+
+    pub stop-21 : s .k ≤ x → s .k ≤ y → z < s .k → refuse 21 ((t + 1) * s .k + z) ≡ decide (stepQuestions I p t) 0
+    stop-21 l m n = stop-agents I (s .k) ek _ z (fails 2 z h) 21 (suc t) [] _ row-begins n ∙ pass-20 l m
+
+    pub pass-21 : s .k ≤ x → s .k ≤ y → s .k ≤ z → accept 0 ≡ decide (stepQuestions I p t) 0
+    pass-21 l m n = asked-all ∙ pass-agents I (s .k) ek _ z (fails 2 z h) 21 (suc t) [] n ∙ pass-20 l m
 
 -- what the plan's length and the instance's limits say of the row offsets
 pub record Room (s : Sizes) (p : List ℕ) : Type 0 where
@@ -157,28 +138,25 @@ module _ (b : List ℕ) (c : Checked) (w : Accepted b c) (p : List ℕ) (ep : le
   row-is : (row at : ℕ) → at ≡ row * c .sizes .k → (wanted : List ℕ) (vertex : ℕ → ℕ)
       → ((a : ℕ) → a < c .sizes .k → getD wanted a 0 ≡ vertex a) → (r : ℕ)
       → FirstFault (c .sizes .k) (λ a. eqb (getD p (at + a) 0) (getD wanted a 0)) r
-      → FirstFault (c .sizes .k) (λ a. eqb (place (instanceOf b c .sizes) p row a) (vertex a)) r
+      → FirstFault (instanceOf b c .sizes .k) (λ a. eqb (place (instanceOf b c .sizes) p row a) (vertex a)) r
   row-is row at ea wanted vertex h r f =
-      let same : (a : ℕ) → a < c .sizes .k → eqb (getD p (at + a) 0) (getD wanted a 0) ≡ eqb (place (instanceOf b c .sizes) p row a) (vertex a) =
-      λ a l. ap₂ eqb (ap (λ (x : ℕ). getD p (x + a) 0) (ea ∙ ap (λ (z : Sizes). row * z .k) (sym same-sizes))) (h a l) in
-      let o = f .within in
-      record {
-        within = f .within;
-        before = λ i l. subst T (same i (omega arith)) (f .before i l);
-        here = λ l t. f .here l (subst T (sym (same r l)) t);
-      }
+      subst (λ (s : Sizes). FirstFault (s .k) (λ a. eqb (place s p row a) (vertex a)) r) (sym same-sizes)
+      (fault-ext (λ a l. ap₂ eqb (ap (λ (x : ℕ). getD p (x + a) 0) ea) (h a l)) f)
+
+  agents-same : c .sizes .k ≡ instanceOf b c .sizes .k
+  agents-same = ap (λ (s : Sizes). s .k) (sym same-sizes)
 
   module _ (r : ℕ) (f : FirstFault (c .sizes .k) (λ a. eqb (getD p (0 + a) 0) (getD (c .starts) a 0)) r) (qs : List Question) where
-    start-fault : FirstFault (c .sizes .k) (λ a. eqb (place (instanceOf b c .sizes) p 0 a) (instanceOf b c .start a)) r
+    start-fault : FirstFault (instanceOf b c .sizes .k) (λ a. eqb (place (instanceOf b c .sizes) p 0 a) (instanceOf b c .start a)) r
     start-fault = row-is 0 0 (sym (zero-mul (c .sizes .k))) (c .starts) (instanceOf b c .start) (start-at b c w) r f
 
     pub stop-18 : r < c .sizes .k → refuse 18 r ≡ decide (question18 (instanceOf b c) p ∷ qs) 0
     stop-18 l =
         ap (refuse 18) (sym (zero-add r))
-        ∙ stop-agents (instanceOf b c) (c .sizes) same-sizes _ r start-fault 18 0 qs 0 (sym (zero-mul (c .sizes .k))) l
+        ∙ stop-agents (instanceOf b c) (c .sizes .k) agents-same _ r start-fault 18 0 qs 0 (sym (zero-mul (c .sizes .k))) l
 
     pub pass-18 : c .sizes .k ≤ r → decide qs 0 ≡ decide (question18 (instanceOf b c) p ∷ qs) 0
-    pass-18 l = pass-agents (instanceOf b c) (c .sizes) same-sizes _ r start-fault 18 0 qs l
+    pass-18 l = pass-agents (instanceOf b c) (c .sizes .k) agents-same _ r start-fault 18 0 qs l
 
   module _ (r : Answer) (er : r ≡ decide (for (c .sizes .m + 1 - 1) (stepQuestions (instanceOf b c) p)) 0) where
     steps-same : r ≡ decide stepsQuestions 0
@@ -199,28 +177,21 @@ module _ (b : List ℕ) (c : Checked) (w : Accepted b c) (p : List ℕ) (ep : le
     horizon : c .sizes .m * c .sizes .k ≡ instanceOf b c .sizes .m * c .sizes .k
     horizon = ap (λ (z : Sizes). z .m * c .sizes .k) (sym same-sizes)
 
-    goal-fault : FirstFault (c .sizes .k) (λ a. eqb (place (instanceOf b c .sizes) p (instanceOf b c .sizes .m) a) (instanceOf b c .goal a)) r
+    goal-fault : FirstFault (instanceOf b c .sizes .k) (λ a. eqb (place (instanceOf b c .sizes) p (instanceOf b c .sizes .m) a) (instanceOf b c .goal a)) r
     goal-fault = row-is (instanceOf b c .sizes .m) (c .sizes .m * c .sizes .k) horizon (c .goals) (instanceOf b c .goal) (goal-at b c w) r f
 
     pub stop-22 : r < c .sizes .k → refuse 22 (c .sizes .m * c .sizes .k + r) ≡ decide goalQuestions 0
-    stop-22 l = stop-agents (instanceOf b c) (c .sizes) same-sizes _ r goal-fault 22 (instanceOf b c .sizes .m) [] _ horizon l
+    stop-22 l = stop-agents (instanceOf b c) (c .sizes .k) agents-same _ r goal-fault 22 (instanceOf b c .sizes .m) [] _ horizon l
 
     pub pass-22 : c .sizes .k ≤ r → accept 0 ≡ decide goalQuestions 0
-    pass-22 l = asked-all ∙ pass-agents (instanceOf b c) (c .sizes) same-sizes _ r goal-fault 22 (instanceOf b c .sizes .m) [] l
+    pass-22 l = asked-all ∙ pass-agents (instanceOf b c) (c .sizes .k) agents-same _ r goal-fault 22 (instanceOf b c .sizes .m) [] l
 
 -- ---- the whole check
--- a refusal does not depend on the count
-pub count-free : (qs : List Question) (c d : ℕ) → decide qs c .number ≢ 0 → decide qs c ≡ decide qs d
-unfolding decide
-count-free [] c d h = absurd (h refl)
-count-free ([] ∷ qs) c d h = count-free qs c d h
-count-free ((r ∷ rs) ∷ qs) c d h = refl
-
 module _ (b : List ℕ) (m : ℕ) (p : List ℕ) where
   pub stop-instance : (r : Answer) → r ≡ instanceAnswer b m → r .number ≢ 0 → r ≡ checkAnswer b m p
   unfolding instanceAnswer checkAnswer
   stop-instance r er d =
-      let e : r ≡ decide (instanceQuestions b m) (cost (instance b m) p) =
+      let e : r ≡ decide (instanceQuestions b m) (cost (instance b m .sizes) p) =
       er ∙ count-free (instanceQuestions b m) 0 _ (λ z. d (ap (λ (a : Answer). a .number) er ∙ z)) in
       e ∙ sym (decide-front (instanceQuestions b m) _ _ (λ z. d (ap (λ (a : Answer). a .number) e ∙ z)))
 
@@ -231,7 +202,7 @@ module _ (b : List ℕ) (m : ℕ) (p : List ℕ) where
         sym (decide-after (instanceQuestions b m) _ _ yes ∙ ask-no (eqb (length p) (planBytes (instance b m .sizes))) _ _ _ (λ t. d (eqb-iff _ _ .0 t)))
 
     module _ (e : length p ≡ planBytes (instance b m .sizes)) (r : Answer) (er : r ≡ decide (planQuestions (instance b m) p) 0) where
-      asked-13 : decide (planQuestions (instance b m) p) (cost (instance b m) p) ≡ checkAnswer b m p
+      asked-13 : decide (planQuestions (instance b m) p) (cost (instance b m .sizes) p) ≡ checkAnswer b m p
       unfolding checkAnswer
       asked-13 =
           sym (decide-after (instanceQuestions b m) _ _ yes ∙ ask-yes (eqb (length p) (planBytes (instance b m .sizes))) _ _ _ (eqb-iff _ _ .1 e))
@@ -239,7 +210,7 @@ module _ (b : List ℕ) (m : ℕ) (p : List ℕ) where
       pub stop-plan : r .number ≢ 0 → r ≡ checkAnswer b m p
       stop-plan d = er ∙ count-free (planQuestions (instance b m) p) 0 _ (λ z. d (ap (λ (a : Answer). a .number) er ∙ z)) ∙ asked-13
 
-      pub pass-plan : (moves : ℕ) → moves ≡ cost (instance b m) p → r .number ≡ 0 → accept moves ≡ checkAnswer b m p
+      pub pass-plan : (moves : ℕ) → moves ≡ cost (instance b m .sizes) p → r .number ≡ 0 → accept moves ≡ checkAnswer b m p
       pass-plan moves em z =
           let known = and-iff (numbered (question13 (instance b m) p)) _ .0 (numbered-plan (instance b m) p) .1 in
           ap accept em
@@ -257,27 +228,19 @@ module _ (b : List ℕ) (m : ℕ) (p : List ℕ) (a : Answer) (c : Checked) (ea 
   horizon-same : c .sizes .m ≡ m
   horizon-same = horizon-of b m c ec zero-number
 
-  pub bytes-same : (m + 1) * c .sizes .k ≡ planBytes (c .sizes)
-  bytes-same = ap (λ (x : ℕ). x * c .sizes .k) (add-one m ∙ ap suc (sym horizon-same))
-
-  pub bytes-most : (m + 1 ≤ 33) × ((m + 1) * c .sizes .k ≤ 528)
-  bytes-most =
-      let l = limits-known b c passed in
-      let o : m + 1 ≤ 33 = omega (arith, l .m-most, horizon-same) in
-      (o, mul-le-mul {n₂ = 33} {m₂ = 16} o (l .k-most))
-
-  bytes-asked : (m + 1) * c .sizes .k ≡ planBytes (instanceOf b c .sizes)
-  bytes-asked = bytes-same ∙ ap planBytes (sizes-same b c passed)
+  bytes-asked : planBytes (c .sizes) ≡ planBytes (instanceOf b c .sizes)
+  bytes-asked = ap planBytes (sizes-same b c passed)
 
   asked-same : checkAnswer b (c .sizes .m) p ≡ checkAnswer b m p
   asked-same = ap (λ (x : ℕ). checkAnswer b x p) horizon-same
 
-  pub refused-length : (length p ≡ (m + 1) * c .sizes .k → ⊥) → refuse 13 (length p) ≡ checkAnswer b m p
+  pub refused-length : (length p ≡ planBytes (c .sizes) → ⊥) → refuse 13 (length p) ≡ checkAnswer b m p
   refused-length d = stop-13 b (c .sizes .m) p (passed .yes) (λ e. d (e ∙ sym bytes-asked)) ∙ asked-same
 
-  module _ (e : length p ≡ (m + 1) * c .sizes .k) (r : Answer) (er : r ≡ decide (planQuestions (instanceOf b c) p) 0) where
+  module _ (e : length p ≡ planBytes (c .sizes)) (r : Answer) (er : r ≡ decide (planQuestions (instanceOf b c) p) 0) where
     pub refused-plan : r .number ≢ 0 → r ≡ checkAnswer b m p
     refused-plan d = stop-plan b (c .sizes .m) p (passed .yes) (e ∙ bytes-asked) r er d ∙ asked-same
 
-    pub accepted-plan : (moves : ℕ) → moves ≡ cost (instanceOf b c) p → r .number ≡ 0 → accept moves ≡ checkAnswer b m p
-    accepted-plan moves em n = pass-plan b (c .sizes .m) p (passed .yes) (e ∙ bytes-asked) r er moves em n ∙ asked-same
+    pub accepted-plan : (moves : ℕ) → moves ≡ cost (c .sizes) p → r .number ≡ 0 → accept moves ≡ checkAnswer b m p
+    accepted-plan moves em n =
+        pass-plan b (c .sizes .m) p (passed .yes) (e ∙ bytes-asked) r er moves (em ∙ ap (λ (s : Sizes). cost s p) (sizes-same b c passed)) n ∙ asked-same

@@ -9,18 +9,10 @@ ghost use lib.Dec.{ltb, eqb};
 ghost use Rattle.lists.specs.Loop.{for};
 ghost use Rattle.answers.specs.Answers.{decide};
 ghost use Rattle.answers.specs.Fault.{FirstFault};
-ghost use Rattle.instance.specs.Instance.{Instance};
 ghost use Rattle.plan.specs.Plan.{planBytes, cost};
-ghost use Rattle.calls.specs.Calls.{planQuestions, checkAnswer};
+ghost use Rattle.calls.specs.Calls.{stepQuestions, planQuestions, checkAnswer};
 ghost use Rattle.instance.specs.Accepted.{Accepted, instanceOf};
-ghost use Rattle.plan_check.specs.Steps.{stepQuestions, moversIn};
-
-// A byte as a number.
-fn wide(x: u8) -> usize
-    ensures { λ r. ⌜ (r ≡ x) × (r < 256) ⌝ }
-{
-    x as usize
-}
+ghost use Rattle.plan_check.specs.Steps.{moversIn};
 
 // Questions 19 to 21 of step t.
 fn ask_step(b: &[u8], c: Checked, p: &[u8], t: usize) -> Answer
@@ -31,9 +23,9 @@ fn ask_step(b: &[u8], c: Checked, p: &[u8], t: usize) -> Answer
     let s = c.sizes;
     let k = s.k;
     let next = (t + 1) * k;
-    let crossing = conditions::fault_1(b, c, p, t);
-    let entering = conditions::fault_2(s, p, t);
-    let sharing = conditions::fault_3(s, p, t);
+    let crossing = conditions::step_fault(b, c, 0, p, t);
+    let entering = conditions::step_fault(b, c, 1, p, t);
+    let sharing = conditions::step_fault(b, c, 2, p, t);
     if crossing < k {
         return Answer {
             number: 19,
@@ -83,7 +75,7 @@ fn byte_fault(p: &[u8], n: usize) -> usize
     ensures { λ r. ⌜ FirstFault (length (now (p .entry))) (λ i. ltb (getD (now (p .entry)) i 0) n) r ⌝ }
 {
     for i in 0..p.len() {
-        if n <= wide(p[i]) {
+        if n <= instance::wide(p[i]) {
             return i;
         }
     }
@@ -168,7 +160,7 @@ fn step_moves(s: Sizes, p: &[u8], t: usize) -> usize
 // The plan's cost: its number of moves.
 fn plan_cost(s: Sizes, p: &[u8]) -> usize
     requires { ⌜ length (now p) ≡ planBytes s ⌝ }
-    ensures { λ r. ⌜ ((I : Instance) → I .sizes ≡ s → r ≡ cost I (now (p .entry))) ⌝ }
+    ensures { λ r. ⌜ r ≡ cost s (now (p .entry)) ⌝ }
 {
     let m = s.m;
     let mut moves: usize = 0;
@@ -190,7 +182,7 @@ pub fn check_plan(b: &[u8], m: usize, p: &[u8]) -> Answer
     let c = inspection.checked;
     let s = c.sizes;
     let len = p.len();
-    if len != (m + 1) * s.k {
+    if len != counts::plan_bytes(s) {
         return Answer {
             number: 13,
             second: len,

@@ -1,33 +1,18 @@
--- `conditions::condition_3` meets its contract. No lower agent of row t + 1 is found on the vertex of the agent. Assumes nothing.
-use Prim.Native.Nat.{_+_}
+-- `conditions::condition_3` meets its contract: no lower agent of the next row is found on the vertex of the agent. Assumes nothing.
 use native.Mathlib.Omega.{arith}
+use Rattle.conditions.proofs.Laws.{shares-3}
 use borrow.Author.Needs.{needs}
-use Rattle.conditions.proofs.Laws.{Rows, rows, shares-3}
 use Rattle.conditions.proofs.condition_3.Statement.{statement}
 use Rattle.conditions.proofs.condition_3.Tie as tie
 
--- rows t and t + 1 are within the plan
-known : (s : tie.Start) → Rows (s .args .s) (s .args .p .now) (s .args .t)
-known s = rows _ _ _ (s .pre .0) (s .pre .1)
-
-add-next : tie.Need-add-next
-add-next c = search needs
-
-mul-next : tie.Need-mul-next
-mul-next c = omega (arith, known (c .before .before))
-
-add-w : tie.Need-add-w
-add-w c = omega (arith, known (c .before .before))
-
 shared-slice-read-w : tie.Need-shared-slice-read-w
-shared-slice-read-w c = omega (arith, known (c .before .before .before))
+shared-slice-read-w c = search needs
 
 first-on-requires : tie.Need-first-on-requires
-first-on-requires c κs = omega (arith, known (c .before .before .before))
+first-on-requires c κs = omega arith
 
 returns : tie.Need-returns
-returns c = λ I es. let s = c .before .before .before .before in shares-3 I (s .args .s) es (s .args .p .now) (s .args .t) (s .args .a) (c .first-on .result) (c .first-on .ensures)
+returns c = shares-3 _ (c .before .before .before .args .a) (c .first-on .result) (c .first-on .ensures)
 
 pub condition-3-spec : {M : Type 1} → statement M
-condition-3-spec =
-    tie.close (tie.spec add-next mul-next add-w shared-slice-read-w first-on-requires returns)
+condition-3-spec = tie.close (tie.spec shared-slice-read-w first-on-requires returns)

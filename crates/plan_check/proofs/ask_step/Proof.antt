@@ -1,11 +1,10 @@
 -- `plan_check::ask_step` meets its contract. The first agents that fail decide in the order of the questions. Assumes nothing.
-use mathlib.Core.Path.{sym}
 use Prim.Native.Nat.{_+_}
 use native.Mathlib.Omega.{arith}
 use borrow.Author.Needs.{needs}
 use Rattle.instance.specs.Accepted.{instanceOf}
 use Rattle.instance.proofs.Accepted.{sizes-same}
-use Rattle.conditions.proofs.Laws.{Rows, rows}
+use Rattle.plan.proofs.Rows.{Rows, rows}
 use Rattle.plan_check.proofs.Laws.{stop-19, stop-20, stop-21, pass-21}
 use Rattle.plan_check.proofs.ask_step.Statement.{statement}
 use Rattle.plan_check.proofs.ask_step.Tie as tie
@@ -20,14 +19,14 @@ add-next c = search needs
 mul-next : tie.Need-mul-next
 mul-next c = omega (arith, known (c .before .before .before))
 
-fault-1-requires : tie.Need-fault-1-requires
-fault-1-requires c κs = search needs
+step-fault-requires : tie.Need-step-fault-requires
+step-fault-requires c κs = search needs
 
-fault-2-requires : tie.Need-fault-2-requires
-fault-2-requires c κs = search needs
+step-fault-requires-2 : tie.Need-step-fault-requires-2
+step-fault-requires-2 c κs = search needs
 
-fault-3-requires : tie.Need-fault-3-requires
-fault-3-requires c κs = search needs
+step-fault-requires-3 : tie.Need-step-fault-requires-3
+step-fault-requires-3 c κs = search needs
 
 add-t13 : tie.Need-add-t13
 add-t13 c = omega (arith, known (c .before .before .before .before .before .before .before))
@@ -36,11 +35,11 @@ returns : tie.Need-returns
 returns c =
     let s = c .before .before .before .before .before .before .before in
     let I = instanceOf (s .args .b .now) (s .args .c) in
-    let es = sym (sizes-same _ _ (s .pre .0)) in
-    let x = c .before .before .before .fault-1 in
-    let y = c .before .before .fault-2 in
-    let z = c .before .fault-3 in
-    stop-19 I (s .args .c .sizes) es (s .args .p .now) (s .args .t) (x .result) (y .result) (z .result) (x .ensures) (y .ensures I es) (z .ensures I es) (c .if1 .taken)
+    let es = sizes-same _ _ (s .pre .0) in
+    let x = c .before .before .before .step-fault in
+    let y = c .before .before .step-fault2 in
+    let z = c .before .step-fault3 in
+    stop-19 I (s .args .c .sizes) es (s .args .p .now) (s .args .t) (x .result) (y .result) (z .result) (x .ensures) (y .ensures) (z .ensures) (c .if1 .taken)
 
 add-t14 : tie.Need-add-t14
 add-t14 c = omega (arith, known (c .before .before .before .before .before .before .before .before))
@@ -49,11 +48,11 @@ returns-2 : tie.Need-returns-2
 returns-2 c =
     let s = c .before .before .before .before .before .before .before .before in
     let I = instanceOf (s .args .b .now) (s .args .c) in
-    let es = sym (sizes-same _ _ (s .pre .0)) in
-    let x = c .before .before .before .before .fault-1 in
-    let y = c .before .before .before .fault-2 in
-    let z = c .before .before .fault-3 in
-    stop-20 I (s .args .c .sizes) es (s .args .p .now) (s .args .t) (x .result) (y .result) (z .result) (x .ensures) (y .ensures I es) (z .ensures I es) (c .before .if1 .left) (c .if2 .taken)
+    let es = sizes-same _ _ (s .pre .0) in
+    let x = c .before .before .before .before .step-fault in
+    let y = c .before .before .before .step-fault2 in
+    let z = c .before .before .step-fault3 in
+    stop-20 I (s .args .c .sizes) es (s .args .p .now) (s .args .t) (x .result) (y .result) (z .result) (x .ensures) (y .ensures) (z .ensures) (c .before .if1 .left) (c .if2 .taken)
 
 add-t15 : tie.Need-add-t15
 add-t15 c = omega (arith, known (c .before .before .before .before .before .before .before .before .before))
@@ -62,21 +61,21 @@ returns-3 : tie.Need-returns-3
 returns-3 c =
     let s = c .before .before .before .before .before .before .before .before .before in
     let I = instanceOf (s .args .b .now) (s .args .c) in
-    let es = sym (sizes-same _ _ (s .pre .0)) in
-    let x = c .before .before .before .before .before .fault-1 in
-    let y = c .before .before .before .before .fault-2 in
-    let z = c .before .before .before .fault-3 in
-    stop-21 I (s .args .c .sizes) es (s .args .p .now) (s .args .t) (x .result) (y .result) (z .result) (x .ensures) (y .ensures I es) (z .ensures I es) (c .before .before .if1 .left) (c .before .if2 .left) (c .if3 .taken)
+    let es = sizes-same _ _ (s .pre .0) in
+    let x = c .before .before .before .before .before .step-fault in
+    let y = c .before .before .before .before .step-fault2 in
+    let z = c .before .before .before .step-fault3 in
+    stop-21 I (s .args .c .sizes) es (s .args .p .now) (s .args .t) (x .result) (y .result) (z .result) (x .ensures) (y .ensures) (z .ensures) (c .before .before .if1 .left) (c .before .if2 .left) (c .if3 .taken)
 
 returns-4 : tie.Need-returns-4
 returns-4 c =
     let s = c .before .before .before .before .before .before .before .before .before in
     let I = instanceOf (s .args .b .now) (s .args .c) in
-    let es = sym (sizes-same _ _ (s .pre .0)) in
-    let x = c .before .before .before .before .before .fault-1 in
-    let y = c .before .before .before .before .fault-2 in
-    let z = c .before .before .before .fault-3 in
-    pass-21 I (s .args .c .sizes) es (s .args .p .now) (s .args .t) (x .result) (y .result) (z .result) (x .ensures) (y .ensures I es) (z .ensures I es) (c .before .before .if1 .left) (c .before .if2 .left) (c .if3 .left)
+    let es = sizes-same _ _ (s .pre .0) in
+    let x = c .before .before .before .before .before .step-fault in
+    let y = c .before .before .before .before .step-fault2 in
+    let z = c .before .before .before .step-fault3 in
+    pass-21 I (s .args .c .sizes) es (s .args .p .now) (s .args .t) (x .result) (y .result) (z .result) (x .ensures) (y .ensures) (z .ensures) (c .before .before .if1 .left) (c .before .if2 .left) (c .if3 .left)
 
 pub ask-step-spec : {M : Type 1} → statement M
 ask-step-spec =
@@ -84,9 +83,9 @@ ask-step-spec =
     (tie.spec
     add-next
     mul-next
-    fault-1-requires
-    fault-2-requires
-    fault-3-requires
+    step-fault-requires
+    step-fault-requires-2
+    step-fault-requires-3
     add-t13
     returns
     add-t14

@@ -6,10 +6,10 @@ use lib.Dec.{T}
 use borrow.Author.Needs.{needs}
 use Rattle.lists.specs.Loop.{for, all}
 use Rattle.answers.specs.Answers.{decide, clear}
-use Rattle.answers.proofs.Laws.{decide-count}
+use Rattle.answers.proofs.Laws.{decide-count, step-stop, step-more}
 use Rattle.instance.specs.Accepted.{instanceOf}
-use Rattle.plan_check.specs.Steps.{stepQuestions}
-use Rattle.plan_check.proofs.Laws.{step-stop, step-more, numbered-step}
+use Rattle.calls.specs.Calls.{stepQuestions}
+use Rattle.plan_check.proofs.Laws.{numbered-step}
 use Rattle.plan_check.proofs.ask_steps.Statement.{statement}
 use Rattle.plan_check.proofs.ask_steps.Tie as tie
 

@@ -1,10 +1,8 @@
--- `plan_check::check_plan` meets its contract. The instance check decides, or the length, or the plan's questions, or the cost is counted. Assumes nothing.
+-- `plan_check::check_plan` meets its contract: the instance check decides, or the length, or the plan's questions, or the cost is counted. Assumes nothing.
 use mathlib.Core.Path.{sym, _∙_}
-use native.Mathlib.Omega.{arith}
+use Rattle.instance.proofs.Accepted.{limits-known}
+use Rattle.plan_check.proofs.Laws.{stop-instance, passed, refused-length, refused-plan, accepted-plan}
 use borrow.Author.Needs.{needs}
-use Rattle.instance.specs.Accepted.{instanceOf}
-use Rattle.instance.proofs.Accepted.{sizes-same}
-use Rattle.plan_check.proofs.Laws.{stop-instance, passed, bytes-same, bytes-most, refused-length, refused-plan, accepted-plan}
 use Rattle.plan_check.proofs.check_plan.Statement.{statement}
 use Rattle.plan_check.proofs.check_plan.Tie as tie
 
@@ -12,53 +10,25 @@ check-instance-requires : tie.Need-check-instance-requires
 check-instance-requires c κs = search needs
 
 returns : tie.Need-returns
-returns c =
-    let s = c .before .before .before .before .before .before in
-    let i = c .before .before .before .check-instance in
-    stop-instance (s .args .b .now) (s .args .m) (s .args .p .now) (i .result .answer) (i .ensures .0) (c .if1 .taken)
+returns c = stop-instance (c .before .before .before .before .before .before .args .b .now) (c .before .before .before .before .before .before .args .m) (c .before .before .before .before .before .before .args .p .now) (c .before .before .before .check-instance .result .answer) (c .before .before .before .check-instance .ensures .0) (c .if1 .taken)
 
-add-if2 : tie.Need-add-if2
-add-if2 c =
-    let s = c .before .before .before .before .before .before .before .before in
-    let i = c .before .before .before .before .before .check-instance in
-    omega (arith, bytes-most (s .args .b .now) (s .args .m) (s .args .p .now) (i .result .answer) (i .result .checked) (i .ensures .0) (i .ensures .1) (c .before .before .if1 .left))
-
-mul-if2 : tie.Need-mul-if2
-mul-if2 c =
-    let s = c .before .before .before .before .before .before .before .before .before in
-    let i = c .before .before .before .before .before .before .check-instance in
-    omega (arith, bytes-most (s .args .b .now) (s .args .m) (s .args .p .now) (i .result .answer) (i .result .checked) (i .ensures .0) (i .ensures .1) (c .before .before .before .if1 .left))
+plan-bytes-requires : tie.Need-plan-bytes-requires
+plan-bytes-requires c κs = limits-known _ _ (passed (c .before .before .before .before .before .before .before .before .args .b .now) (c .before .before .before .before .before .before .before .before .args .m) (c .before .before .before .before .before .before .before .before .args .p .now) (c .before .before .before .before .before .check-instance .result .answer) (c .before .before .before .before .before .check-instance .result .checked) (c .before .before .before .before .before .check-instance .ensures .0) (c .before .before .before .before .before .check-instance .ensures .1) (c .before .before .if1 .left))
 
 returns-2 : tie.Need-returns-2
-returns-2 c =
-    let s = c .before .before .before .before .before .before .before .before .before .before in
-    let i = c .before .before .before .before .before .before .before .check-instance in
-    refused-length (s .args .b .now) (s .args .m) (s .args .p .now) (i .result .answer) (i .result .checked) (i .ensures .0) (i .ensures .1) (c .before .before .before .before .if1 .left) (c .if2 .taken)
+returns-2 c = refused-length (c .before .before .before .before .before .before .before .before .before .before .args .b .now) (c .before .before .before .before .before .before .before .before .before .before .args .m) (c .before .before .before .before .before .before .before .before .before .before .args .p .now) (c .before .before .before .before .before .before .before .check-instance .result .answer) (c .before .before .before .before .before .before .before .check-instance .result .checked) (c .before .before .before .before .before .before .before .check-instance .ensures .0) (c .before .before .before .before .before .before .before .check-instance .ensures .1) (c .before .before .before .before .if1 .left) (λ e. c .if2 .taken (e ∙ sym (c .before .plan-bytes .ensures .0)))
 
 ask-plan-requires : tie.Need-ask-plan-requires
-ask-plan-requires c κs =
-    let s = c .before .before .before .before .before .before .before .before .before .before in
-    let i = c .before .before .before .before .before .before .before .check-instance in
-    (passed (s .args .b .now) (s .args .m) (s .args .p .now) (i .result .answer) (i .result .checked) (i .ensures .0) (i .ensures .1) (c .before .before .before .before .if1 .left), c .if2 .left ∙ bytes-same (s .args .b .now) (s .args .m) (s .args .p .now) (i .result .answer) (i .result .checked) (i .ensures .0) (i .ensures .1) (c .before .before .before .before .if1 .left))
+ask-plan-requires c κs = (passed (c .before .before .before .before .before .before .before .before .before .before .args .b .now) (c .before .before .before .before .before .before .before .before .before .before .args .m) (c .before .before .before .before .before .before .before .before .before .before .args .p .now) (c .before .before .before .before .before .before .before .check-instance .result .answer) (c .before .before .before .before .before .before .before .check-instance .result .checked) (c .before .before .before .before .before .before .before .check-instance .ensures .0) (c .before .before .before .before .before .before .before .check-instance .ensures .1) (c .before .before .before .before .if1 .left), c .if2 .left ∙ c .before .plan-bytes .ensures .0)
 
 returns-3 : tie.Need-returns-3
-returns-3 c =
-    let s = c .before .before .before .before .before .before .before .before .before .before .before .before .before in
-    let i = c .before .before .before .before .before .before .before .before .before .before .check-instance in
-    refused-plan (s .args .b .now) (s .args .m) (s .args .p .now) (i .result .answer) (i .result .checked) (i .ensures .0) (i .ensures .1) (c .before .before .before .before .before .before .before .if1 .left) (c .before .before .before .if2 .left) (c .before .before .ask-plan .result) (c .before .before .ask-plan .ensures) (c .if3 .taken)
+returns-3 c = refused-plan (c .before .before .before .before .before .before .before .before .before .before .before .before .before .args .b .now) (c .before .before .before .before .before .before .before .before .before .before .before .before .before .args .m) (c .before .before .before .before .before .before .before .before .before .before .before .before .before .args .p .now) (c .before .before .before .before .before .before .before .before .before .before .check-instance .result .answer) (c .before .before .before .before .before .before .before .before .before .before .check-instance .result .checked) (c .before .before .before .before .before .before .before .before .before .before .check-instance .ensures .0) (c .before .before .before .before .before .before .before .before .before .before .check-instance .ensures .1) (c .before .before .before .before .before .before .before .if1 .left) (c .before .before .before .if2 .left ∙ c .before .before .before .before .plan-bytes .ensures .0) (c .before .before .ask-plan .result) (c .before .before .ask-plan .ensures) (c .if3 .taken)
 
 plan-cost-requires : tie.Need-plan-cost-requires
-plan-cost-requires c κs =
-    let s = c .before .before .before .before .before .before .before .before .before .before .before .before .before in
-    let i = c .before .before .before .before .before .before .before .before .before .before .check-instance in
-    c .before .before .before .if2 .left ∙ bytes-same (s .args .b .now) (s .args .m) (s .args .p .now) (i .result .answer) (i .result .checked) (i .ensures .0) (i .ensures .1) (c .before .before .before .before .before .before .before .if1 .left)
+plan-cost-requires c κs = c .before .before .before .if2 .left ∙ c .before .before .before .before .plan-bytes .ensures .0
 
 returns-4 : tie.Need-returns-4
-returns-4 c =
-    let s = c .before .before .before .before .before .before .before .before .before .before .before .before .before .before in
-    let i = c .before .before .before .before .before .before .before .before .before .before .before .check-instance in
-    let es = sym (sizes-same _ _ (passed (s .args .b .now) (s .args .m) (s .args .p .now) (i .result .answer) (i .result .checked) (i .ensures .0) (i .ensures .1) (c .before .before .before .before .before .before .before .before .if1 .left))) in
-    accepted-plan (s .args .b .now) (s .args .m) (s .args .p .now) (i .result .answer) (i .result .checked) (i .ensures .0) (i .ensures .1) (c .before .before .before .before .before .before .before .before .if1 .left) (c .before .before .before .before .if2 .left) (c .before .before .before .ask-plan .result) (c .before .before .before .ask-plan .ensures) (c .plan-cost .result) (c .plan-cost .ensures (instanceOf (s .args .b .now) (i .result .checked)) es) (c .before .if3 .left)
+returns-4 c = accepted-plan (c .before .before .before .before .before .before .before .before .before .before .before .before .before .before .args .b .now) (c .before .before .before .before .before .before .before .before .before .before .before .before .before .before .args .m) (c .before .before .before .before .before .before .before .before .before .before .before .before .before .before .args .p .now) (c .before .before .before .before .before .before .before .before .before .before .before .check-instance .result .answer) (c .before .before .before .before .before .before .before .before .before .before .before .check-instance .result .checked) (c .before .before .before .before .before .before .before .before .before .before .before .check-instance .ensures .0) (c .before .before .before .before .before .before .before .before .before .before .before .check-instance .ensures .1) (c .before .before .before .before .before .before .before .before .if1 .left) (c .before .before .before .before .if2 .left ∙ c .before .before .before .before .before .plan-bytes .ensures .0) (c .before .before .before .ask-plan .result) (c .before .before .before .ask-plan .ensures) (c .plan-cost .result) (c .plan-cost .ensures) (c .before .if3 .left)
 
 pub check-plan-spec : {M : Type 1} → statement M
 check-plan-spec =
@@ -66,8 +36,7 @@ check-plan-spec =
     (tie.spec
     check-instance-requires
     returns
-    add-if2
-    mul-if2
+    plan-bytes-requires
     returns-2
     ask-plan-requires
     returns-3

@@ -6,7 +6,7 @@ use lib.ListN.{length}
 use borrow.Author.Needs.{needs}
 use Rattle.lists.specs.Loop.{for}
 use Rattle.plan.specs.Plan.{cost}
-use Rattle.conditions.proofs.Laws.{Rows, rows}
+use Rattle.plan.proofs.Rows.{Rows, rows}
 use Rattle.plan_check.specs.Steps.{moversIn}
 use Rattle.plan_check.proofs.Laws.{count-more}
 use Rattle.plan_check.proofs.plan_cost.Statement.{statement}
@@ -46,11 +46,10 @@ loop-again c =
 returns : tie.Need-returns Inv-loop μ-loop
 unfolding cost
 returns c =
-    λ I es.
     let s = c .before .before .before in
     let l = c .before .loop in
     let e : l .t ≡ s .args .s .m = omega arith in
-    rw es (l .inv .1 .0 ∙ ap (λ (j : ℕ). length (for j (moversIn (s .args .s) (s .args .p .now)))) e)
+    l .inv .1 .0 ∙ ap (λ (j : ℕ). length (for j (moversIn (s .args .s) (s .args .p .now)))) e
 
 pub plan-cost-spec : {M : Type 1} → statement M
 plan-cost-spec =

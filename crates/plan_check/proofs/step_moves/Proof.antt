@@ -9,7 +9,7 @@ use lib.Dec.{eqb}
 use borrow.Author.Tests.{eq-eqb, ne-eqb}
 use borrow.Author.Needs.{needs}
 use Rattle.lists.specs.Loop.{for, unless}
-use Rattle.conditions.proofs.Laws.{Rows, rows}
+use Rattle.plan.proofs.Rows.{Rows, rows}
 use Rattle.plan_check.proofs.Laws.{count-step, count-move, count-wait}
 use Rattle.plan_check.proofs.step_moves.Statement.{statement}
 use Rattle.plan_check.proofs.step_moves.Tie as tie
