@@ -24,6 +24,33 @@ stepQuestions I p t = question19 I p t ∷ question20 I p t ∷ question21 I p t
 unfoldable pub planQuestions : Instance → List ℕ → List Question
 planQuestions I p = question17 I p ∷ question18 I p ∷ for (I .sizes .m) (stepQuestions I p) ++ question22 I p ∷ []
 
+-- What each call asks of an accepted instance, after 1 to 10.
+module _ (I : Instance) where
+  -- the clause at a number, with its 0
+  abbrev pub clauseWords : ℕ → List ℤ
+  clauseWords c = line (getD (formula I .clauses) c [])
+
+  -- the formula writer: 12
+  abbrev pub writeRest : ℕ → List Question
+  writeRest size = question12 (length (words (formula I))) size ∷ []
+
+  -- one clause: 11, 12
+  abbrev pub clauseRest : ℕ → ℕ → List Question
+  clauseRest c size = question11 (formula I) c ∷ question12 (length (clauseWords c)) size ∷ []
+
+  -- the plan check: 13, 17 to 22
+  abbrev pub checkRest : List ℕ → List Question
+  checkRest p = question13 I p ∷ planQuestions I p
+
+  -- the decoder: 14, 15, 23, 24
+  abbrev pub decodeRest : List ℤ → ℕ → List Question
+  decodeRest entries size =
+      question14 (formula I) entries ∷ question15 I size ∷ question23 (formula I) entries ∷ question24 (formula I) entries ∷ []
+
+  -- the encoder: 13, 16 to 22
+  abbrev pub encodeRest : List ℕ → ℕ → List Question
+  encodeRest p size = question13 I p ∷ question16 (formula I) size ∷ planQuestions I p
+
 module _ (b : List ℕ) (m : ℕ) where
   abbrev I : Instance
   I = instance b m
@@ -33,7 +60,7 @@ module _ (b : List ℕ) (m : ℕ) where
 
   -- ---- the formula writer: 1 to 10, 12
   abbrev pub writeQuestions : ℕ → List Question
-  writeQuestions size = instanceQuestions b m ++ question12 (length (words F)) size ∷ []
+  writeQuestions size = instanceQuestions b m ++ writeRest I size
 
   unfoldable pub writeAnswer : ℕ → Written
   writeAnswer size = withClauses (decide (writeQuestions size) (length (words F))) (length (F .clauses))
@@ -42,30 +69,25 @@ module _ (b : List ℕ) (m : ℕ) where
   writeSlice s = lent (decide (writeQuestions (length s)) (length (words F))) (words F) s
 
   -- ---- one clause: 1 to 12
-  -- the clause at a number, with its 0
-  abbrev pub clauseLine : ℕ → List ℤ
-  clauseLine c = line (getD (F .clauses) c [])
-
   abbrev pub clauseQuestions : ℕ → ℕ → List Question
-  clauseQuestions c size = instanceQuestions b m ++ question11 F c ∷ question12 (length (clauseLine c)) size ∷ []
+  clauseQuestions c size = instanceQuestions b m ++ clauseRest I c size
 
   unfoldable pub clauseAnswer : ℕ → ℕ → Answer
-  clauseAnswer c size = decide (clauseQuestions c size) (length (clauseLine c))
+  clauseAnswer c size = decide (clauseQuestions c size) (length (clauseWords I c))
 
   unfoldable pub clauseSlice : ℕ → List ℤ → List ℤ
-  clauseSlice c s = lent (clauseAnswer c (length s)) (clauseLine c) s
+  clauseSlice c s = lent (clauseAnswer c (length s)) (clauseWords I c) s
 
   -- ---- the plan check: 1 to 10, 13, 17 to 22
   abbrev pub checkQuestions : List ℕ → List Question
-  checkQuestions p = instanceQuestions b m ++ question13 I p ∷ planQuestions I p
+  checkQuestions p = instanceQuestions b m ++ checkRest I p
 
   unfoldable pub checkAnswer : List ℕ → Answer
   checkAnswer p = decide (checkQuestions p) (cost (I .sizes) p)
 
   -- ---- the decoder: 1 to 10, 14, 15, 23, 24
   abbrev pub decodeQuestions : List ℤ → ℕ → List Question
-  decodeQuestions entries size =
-      instanceQuestions b m ++ question14 F entries ∷ question15 I size ∷ question23 F entries ∷ question24 F entries ∷ []
+  decodeQuestions entries size = instanceQuestions b m ++ decodeRest I entries size
 
   unfoldable pub decodeAnswer : List ℤ → ℕ → Answer
   decodeAnswer entries size = decide (decodeQuestions entries size) (planBytes (I .sizes))
@@ -75,7 +97,7 @@ module _ (b : List ℕ) (m : ℕ) where
 
   -- ---- the encoder: 1 to 10, 13, 16 to 22
   abbrev pub encodeQuestions : List ℕ → ℕ → List Question
-  encodeQuestions p size = instanceQuestions b m ++ question13 I p ∷ question16 F size ∷ planQuestions I p
+  encodeQuestions p size = instanceQuestions b m ++ encodeRest I p size
 
   unfoldable pub encodeAnswer : List ℕ → ℕ → Answer
   encodeAnswer p size = decide (encodeQuestions p size) (F .variables)

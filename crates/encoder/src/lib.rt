@@ -15,25 +15,18 @@ ghost use lib.Dec.{eqb};
 ghost use lib.IntN.{pos, negℤ};
 ghost use Rattle.lists.specs.Loop.{for};
 ghost use Rattle.lists.specs.Slice.{filled};
-ghost use Rattle.formula.specs.Variables.{X, ¬X, variableCount};
+ghost use Rattle.formula.specs.Variables.{X, ¬X, variableCount, highest};
+ghost use Rattle.formula.specs.Formula.{formula};
 ghost use Rattle.instance.specs.Limits.{Limits};
 ghost use Rattle.answers.specs.Answers.{decide};
 ghost use Rattle.plan.specs.Plan.{planBytes};
 ghost use Rattle.valuation.specs.Valuation.{entryFor, planValuation};
 ghost use Rattle.instance.specs.Accepted.{Accepted, instanceOf};
-ghost use Rattle.calls.specs.Questions.{question13, question16};
-ghost use Rattle.calls.specs.Calls.{planQuestions, encodeAnswer, encodeSlice};
-
-// A byte as a number.
-fn wide(x: u8) -> usize
-    ensures { λ r. ⌜ r ≡ x ⌝ }
-{
-    x as usize
-}
+ghost use Rattle.calls.specs.Calls.{encodeRest, encodeAnswer, encodeSlice};
 
 // A variable's entry: the variable where it is true, else its negative.
 fn entry_for(x: Variable, holds: bool) -> i32
-    requires { ⌜ x .0 ≤ 33792 ⌝ }
+    requires { ⌜ x .0 ≤ highest ⌝ }
     ensures { λ r. ⌜ r ≡ cond holds (pos (x .0)) (negℤ (pos (x .0))) ⌝ }
 {
     if holds {
@@ -67,7 +60,7 @@ fn write_row(z: &mut [i32], s: Sizes, p: &[u8], t: Step)
     let row = t.0 * k;
     for a in 0..k {
         let at = a * n;
-        let place = Vertex(wide(p[row + a]));
+        let place = Vertex(instance::wide(p[row + a]));
         write_agent(&mut z[at..], s, t, Agent(a), place);
     }
 }
@@ -89,20 +82,17 @@ fn write_valuation(z: &mut [i32], s: Sizes, p: &[u8])
 // Questions 13, 16 and 17 to 22, for a valuation slice of the given size.
 fn ask_encoding(b: &[u8], c: Checked, p: &[u8], size: usize) -> Answer
     requires { ⌜ Accepted (now b) c ⌝ }
-    ensures { λ r. ⌜ r ≡ decide (question13 (instanceOf (now (b .entry)) c) (now (p .entry)) ∷ question16 (instanceOf (now (b .entry)) c) size ∷ planQuestions (instanceOf (now (b .entry)) c) (now (p .entry))) (variableCount (c .sizes)) ⌝ }
+    ensures { λ r. ⌜ r ≡ decide (encodeRest (instanceOf (now (b .entry)) c) (now (p .entry)) size) (formula (instanceOf (now (b .entry)) c) .variables) ⌝ }
 {
     let s = c.sizes;
-    let n = s.n;
-    let k = s.k;
-    let m = s.m;
     let len = p.len();
-    if len != (m + 1) * k {
+    if len != counts::plan_bytes(s) {
         return Answer {
             number: 13,
             second: len,
         };
     }
-    let count = n * k * (m + 1);
+    let count = counts::variable_count(s);
     if size < count {
         return Answer {
             number: 16,

@@ -1,3 +1,4 @@
 pub mod Graph
 pub mod Instance
 pub mod Accepted
+pub mod Call

@@ -19,13 +19,12 @@ use Rattle.answers.proofs.Laws.{numbered, each-all, decide-iff, decide-count, d
 use Rattle.answers.proofs.Faults.{fault-ext}
 use Rattle.instance.specs.declared.Sizes.{Sizes}
 use Rattle.instance.specs.declared.Checked.{Checked}
-use Rattle.instance.specs.Instance.{Instance, instance}
+use Rattle.instance.specs.Instance.{Instance}
 use Rattle.plan.specs.Plan.{planBytes, cell, place, condition, cost}
 use Rattle.calls.specs.Questions.{question13, question18, question20, question21, question22}
-use Rattle.instance.specs.Questions.{instanceQuestions, instanceAnswer, instanceChecked}
-use Rattle.calls.specs.Calls.{stepQuestions, planQuestions, checkAnswer}
+use Rattle.calls.specs.Calls.{stepQuestions, planQuestions, checkRest}
 use Rattle.instance.specs.Accepted.{Accepted, instanceOf}
-use Rattle.instance.proofs.Accepted.{accepted, horizon-of, sizes-same, limits-known, start-at, goal-at}
+use Rattle.instance.proofs.Accepted.{sizes-same, limits-known, start-at, goal-at}
 use Rattle.calls.proofs.Plan.{numbered-plan}
 
 -- ---- counting the moves of a step, agent by agent
@@ -186,61 +185,27 @@ module _ (b : List ℕ) (c : Checked) (w : Accepted b c) (p : List ℕ) (ep : le
     pub pass-22 : c .sizes .k ≤ r → accept 0 ≡ decide goalQuestions 0
     pass-22 l = asked-all ∙ pass-agents (instanceOf b c) (c .sizes .k) agents-same _ r goal-fault 22 (instanceOf b c .sizes .m) [] l
 
--- ---- the whole check
-module _ (b : List ℕ) (m : ℕ) (p : List ℕ) where
-  pub stop-instance : (r : Answer) → r ≡ instanceAnswer b m → r .number ≢ 0 → r ≡ checkAnswer b m p
-  unfolding instanceAnswer checkAnswer
-  stop-instance r er d =
-      let e : r ≡ decide (instanceQuestions b m) (cost (instance b m .sizes) p) =
-      er ∙ count-free (instanceQuestions b m) 0 _ (λ z. d (ap (λ (a : Answer). a .number) er ∙ z)) in
-      e ∙ sym (decide-front (instanceQuestions b m) _ _ (λ z. d (ap (λ (a : Answer). a .number) e ∙ z)))
+-- ---- the whole check: 13, then the plan's questions, which answer r with the count 0
+module _ (b : List ℕ) (c : Checked) (w : Accepted b c) (p : List ℕ) where
+  abbrev I : Instance
+  I = instanceOf b c
 
-  module _ (yes : T (all clear (instanceQuestions b m))) where
-    pub stop-13 : length p ≢ planBytes (instance b m .sizes) → refuse 13 (length p) ≡ checkAnswer b m p
-    unfolding checkAnswer
-    stop-13 d =
-        sym (decide-after (instanceQuestions b m) _ _ yes ∙ ask-no (eqb (length p) (planBytes (instance b m .sizes))) _ _ _ (λ t. d (eqb-iff _ _ .0 t)))
+  bytes-same : planBytes (c .sizes) ≡ planBytes (I .sizes)
+  bytes-same = ap planBytes (sizes-same b c w)
 
-    module _ (e : length p ≡ planBytes (instance b m .sizes)) (r : Answer) (er : r ≡ decide (planQuestions (instance b m) p) 0) where
-      asked-13 : decide (planQuestions (instance b m) p) (cost (instance b m .sizes) p) ≡ checkAnswer b m p
-      unfolding checkAnswer
-      asked-13 =
-          sym (decide-after (instanceQuestions b m) _ _ yes ∙ ask-yes (eqb (length p) (planBytes (instance b m .sizes))) _ _ _ (eqb-iff _ _ .1 e))
+  pub stop-13 : length p ≢ planBytes (c .sizes) → refuse 13 (length p) ≡ decide (checkRest I p) (cost (I .sizes) p)
+  stop-13 d = sym (ask-no (eqb (length p) (planBytes (I .sizes))) _ _ _ (λ t. d (eqb-iff _ _ .0 t ∙ sym bytes-same)))
 
-      pub stop-plan : r .number ≢ 0 → r ≡ checkAnswer b m p
-      stop-plan d = er ∙ count-free (planQuestions (instance b m) p) 0 _ (λ z. d (ap (λ (a : Answer). a .number) er ∙ z)) ∙ asked-13
+  module _ (e : length p ≡ planBytes (c .sizes)) (r : Answer) (er : r ≡ decide (planQuestions I p) 0) where
+    pass-13 : decide (planQuestions I p) (cost (I .sizes) p) ≡ decide (checkRest I p) (cost (I .sizes) p)
+    pass-13 = sym (ask-yes (eqb (length p) (planBytes (I .sizes))) _ _ _ (eqb-iff _ _ .1 (e ∙ bytes-same)))
 
-      pub pass-plan : (moves : ℕ) → moves ≡ cost (instance b m .sizes) p → r .number ≡ 0 → accept moves ≡ checkAnswer b m p
-      pass-plan moves em z =
-          let known = and-iff (numbered (question13 (instance b m) p)) _ .0 (numbered-plan (instance b m) p) .1 in
-          ap accept em
-          ∙ sym (decide-count (planQuestions (instance b m) p) _ (decide-iff (planQuestions (instance b m) p) 0 known .0 (sym (ap (λ (a : Answer). a .number) er) ∙ z)))
-          ∙ asked-13
+    pub stop-plan : r .number ≢ 0 → r ≡ decide (checkRest I p) (cost (I .sizes) p)
+    stop-plan d = er ∙ count-free (planQuestions I p) 0 _ (λ z. d (ap (λ (a : Answer). a .number) er ∙ z)) ∙ pass-13
 
--- the same from what the instance check returned, where its number is 0: c has the horizon m
-module _ (b : List ℕ) (m : ℕ) (p : List ℕ) (a : Answer) (c : Checked) (ea : a ≡ instanceAnswer b m) (ec : c ≡ instanceChecked b m) (z : a .number ≡ 0) where
-  zero-number : instanceAnswer b m .number ≡ 0
-  zero-number = sym (ap (λ (x : Answer). x .number) ea) ∙ z
-
-  pub passed : Accepted b c
-  passed = accepted b m c ec zero-number
-
-  horizon-same : c .sizes .m ≡ m
-  horizon-same = horizon-of b m c ec zero-number
-
-  bytes-asked : planBytes (c .sizes) ≡ planBytes (instanceOf b c .sizes)
-  bytes-asked = ap planBytes (sizes-same b c passed)
-
-  asked-same : checkAnswer b (c .sizes .m) p ≡ checkAnswer b m p
-  asked-same = ap (λ (x : ℕ). checkAnswer b x p) horizon-same
-
-  pub refused-length : (length p ≡ planBytes (c .sizes) → ⊥) → refuse 13 (length p) ≡ checkAnswer b m p
-  refused-length d = stop-13 b (c .sizes .m) p (passed .yes) (λ e. d (e ∙ sym bytes-asked)) ∙ asked-same
-
-  module _ (e : length p ≡ planBytes (c .sizes)) (r : Answer) (er : r ≡ decide (planQuestions (instanceOf b c) p) 0) where
-    pub refused-plan : r .number ≢ 0 → r ≡ checkAnswer b m p
-    refused-plan d = stop-plan b (c .sizes .m) p (passed .yes) (e ∙ bytes-asked) r er d ∙ asked-same
-
-    pub accepted-plan : (moves : ℕ) → moves ≡ cost (c .sizes) p → r .number ≡ 0 → accept moves ≡ checkAnswer b m p
-    accepted-plan moves em n =
-        pass-plan b (c .sizes .m) p (passed .yes) (e ∙ bytes-asked) r er moves (em ∙ ap (λ (s : Sizes). cost s p) (sizes-same b c passed)) n ∙ asked-same
+    pub pass-plan : (moves : ℕ) → moves ≡ cost (c .sizes) p → r .number ≡ 0 → accept moves ≡ decide (checkRest I p) (cost (I .sizes) p)
+    pass-plan moves em z =
+        let known = and-iff (numbered (question13 I p)) _ .0 (numbered-plan I p) .1 in
+        ap accept (em ∙ ap (λ (s : Sizes). cost s p) (sizes-same b c w))
+        ∙ sym (decide-count (planQuestions I p) _ (decide-iff (planQuestions I p) 0 known .0 (sym (ap (λ (a : Answer). a .number) er) ∙ z)))
+        ∙ pass-13

@@ -1,46 +1,65 @@
 -- `encoder::encode` meets its contract: the instance check decides, or the questions of the plan, or the valuation is written. Assumes nothing.
-use Rattle.instance.proofs.Accepted.{limits-known}
-use Rattle.encoder.proofs.Questions as laws
+use mathlib.Core.Path.{_≡_, sym, _∙_, ap}
+use mathlib.Core.List.{List}
+use Prim.Native.Nat.{ℕ}
+use lib.ListN.{length}
+use Rattle.lists.specs.Slice.{filled}
+use Rattle.answers.specs.declared.Answer.{Answer}
+use Rattle.answers.specs.Answers.{Question}
+use Rattle.instance.specs.declared.Sizes.{Sizes}
+use Rattle.instance.specs.Instance.{Instance}
+use Rattle.instance.proofs.Accepted.{limits-known, sizes-same}
+use Rattle.instance.proofs.Call.{passed, horizon, instance-refuses, call-answers, slice-refused, slice-filled}
+use Rattle.formula.specs.Formula.{formula}
+use Rattle.valuation.specs.Valuation.{planValuation}
+use Rattle.calls.specs.Calls.{encodeRest, encodeAnswer, encodeSlice}
+use Rattle.encoder.proofs.Questions.{ready}
 use borrow.Author.Needs.{needs}
 use Rattle.encoder.proofs.encode.Statement.{statement}
 use Rattle.encoder.proofs.encode.Tie as tie
+
+-- the questions after 1 to 10, and the count
+abbrev asks : tie.Start → Instance → List Question
+asks s I = encodeRest I (s .args .p .now) (length (s .args .z .now))
+
+abbrev count : Instance → ℕ
+count I = formula I .variables
 
 check-instance-requires : tie.Need-check-instance-requires
 check-instance-requires c κs = search needs
 
 returns : tie.Need-returns
+unfolding encodeAnswer encodeSlice
 returns c =
-    let s = c .before .before .before .before .before .before in
-    let i = c .before .before .before .check-instance in
-    laws.first-no (s .args .b .now) (s .args .m) (s .args .p .now) (s .args .z .now) (i .result .answer) (i .result .checked) (i .ensures .0) (i .ensures .1) (c .if1 .taken)
+    let e = instance-refuses (c .before .before .before .before .before .before .args .b .now) (c .before .before .before .before .before .before .args .m) (c .before .before .before .check-instance .result .answer) (c .before .before .before .check-instance .result .checked) (c .before .before .before .check-instance .ensures .0) (c .before .before .before .check-instance .ensures .1) (asks (c .before .before .before .before .before .before)) count (c .if1 .taken) in
+    (e, slice-refused _ (c .before .before .before .check-instance .result .answer) e _ (c .before .before .before .before .before .before .args .z .now) (c .if1 .taken))
 
 ask-encoding-requires : tie.Need-ask-encoding-requires
-ask-encoding-requires c κs =
-    let s = c .before .before .before .before .before .before .before in
-    let i = c .before .before .before .before .check-instance in
-    laws.passed (s .args .b .now) (s .args .m) (s .args .p .now) (s .args .z .now) (i .result .answer) (i .result .checked) (i .ensures .0) (i .ensures .1) (c .before .if1 .left)
+ask-encoding-requires c κs = passed (c .before .before .before .before .before .before .before .args .b .now) (c .before .before .before .before .before .before .before .args .m) (c .before .before .before .before .check-instance .result .answer) (c .before .before .before .before .check-instance .result .checked) (c .before .before .before .before .check-instance .ensures .0) (c .before .before .before .before .check-instance .ensures .1) (c .before .if1 .left)
 
 returns-2 : tie.Need-returns-2
+unfolding encodeAnswer encodeSlice
 returns-2 c =
-    let s = c .before .before .before .before .before .before .before .before .before .before in
-    let i = c .before .before .before .before .before .before .before .check-instance in
-    laws.then-no (s .args .b .now) (s .args .m) (s .args .p .now) (s .args .z .now) (i .result .answer) (i .result .checked) (i .ensures .0) (i .ensures .1) (c .before .before .before .before .if1 .left) (c .before .before .ask-encoding .result) (c .before .before .ask-encoding .ensures) (c .if2 .taken)
+    let e = call-answers (c .before .before .before .before .before .before .before .before .before .before .args .b .now) (c .before .before .before .before .before .before .before .before .before .before .args .m) (c .before .before .before .before .before .before .before .check-instance .result .answer) (c .before .before .before .before .before .before .before .check-instance .result .checked) (c .before .before .before .before .before .before .before .check-instance .ensures .0) (c .before .before .before .before .before .before .before .check-instance .ensures .1) (asks (c .before .before .before .before .before .before .before .before .before .before)) count (c .before .before .before .before .if1 .left) (c .before .before .ask-encoding .result) (c .before .before .ask-encoding .ensures) in
+    (e, slice-refused _ (c .before .before .ask-encoding .result) e _ (c .before .before .before .before .before .before .before .before .before .before .args .z .now) (c .if2 .taken))
 
 write-valuation-requires : tie.Need-write-valuation-requires
 write-valuation-requires c κs =
-    let s = c .before .before .before .before .before .before .before .before .before .before .before .before in
-    let i = c .before .before .before .before .before .before .before .before .before .check-instance in
-    let y = laws.then-ready (s .args .b .now) (s .args .m) (s .args .p .now) (s .args .z .now) (i .result .answer) (i .result .checked) (i .ensures .0) (i .ensures .1) (c .before .before .before .before .before .before .if1 .left) (c .before .before .before .before .ask-encoding .result) (c .before .before .before .before .ask-encoding .ensures) (c .before .before .if2 .left) in
-    (limits-known (s .args .b .now) (i .result .checked) (laws.passed (s .args .b .now) (s .args .m) (s .args .p .now) (s .args .z .now) (i .result .answer) (i .result .checked) (i .ensures .0) (i .ensures .1) (c .before .before .before .before .before .before .if1 .left)), (y .0, y .1))
+    let w = passed (c .before .before .before .before .before .before .before .before .before .before .before .before .args .b .now) (c .before .before .before .before .before .before .before .before .before .before .before .before .args .m) (c .before .before .before .before .before .before .before .before .before .check-instance .result .answer) (c .before .before .before .before .before .before .before .before .before .check-instance .result .checked) (c .before .before .before .before .before .before .before .before .before .check-instance .ensures .0) (c .before .before .before .before .before .before .before .before .before .check-instance .ensures .1) (c .before .before .before .before .before .before .if1 .left) in
+    let y = ready (c .before .before .before .before .before .before .before .before .before .before .before .before .args .b .now) (c .before .before .before .before .before .before .before .before .before .check-instance .result .checked) w (c .before .before .before .before .before .before .before .before .before .before .before .before .args .p .now) (length (c .before .before .before .before .before .before .before .before .before .before .before .before .args .z .now)) (sym (ap (λ (a : Answer). a .number) (c .before .before .before .before .ask-encoding .ensures)) ∙ c .before .before .if2 .left) in
+    (limits-known _ _ w, (y .0, y .1))
 
 same-length : tie.Need-same-length
 same-length c = search needs
 
 returns-3 : tie.Need-returns-3
+unfolding encodeAnswer encodeSlice
 returns-3 c =
-    let s = c .before .before .before .before .before .before .before .before .before .before .before .before .before .before in
-    let i = c .before .before .before .before .before .before .before .before .before .before .before .check-instance in
-    laws.then-yes (s .args .b .now) (s .args .m) (s .args .p .now) (s .args .z .now) (i .result .answer) (i .result .checked) (i .ensures .0) (i .ensures .1) (c .before .before .before .before .before .before .before .before .if1 .left) (c .before .before .before .before .before .before .ask-encoding .result) (c .before .before .before .before .before .before .ask-encoding .ensures) (c .before .before .before .before .if2 .left) (c .before .write-valuation .last .0) (c .before .write-valuation .ensures)
+    let w = passed (c .before .before .before .before .before .before .before .before .before .before .before .before .before .before .args .b .now) (c .before .before .before .before .before .before .before .before .before .before .before .before .before .before .args .m) (c .before .before .before .before .before .before .before .before .before .before .before .check-instance .result .answer) (c .before .before .before .before .before .before .before .before .before .before .before .check-instance .result .checked) (c .before .before .before .before .before .before .before .before .before .before .before .check-instance .ensures .0) (c .before .before .before .before .before .before .before .before .before .before .before .check-instance .ensures .1) (c .before .before .before .before .before .before .before .before .if1 .left) in
+    let e = call-answers (c .before .before .before .before .before .before .before .before .before .before .before .before .before .before .args .b .now) (c .before .before .before .before .before .before .before .before .before .before .before .before .before .before .args .m) (c .before .before .before .before .before .before .before .before .before .before .before .check-instance .result .answer) (c .before .before .before .before .before .before .before .before .before .before .before .check-instance .result .checked) (c .before .before .before .before .before .before .before .before .before .before .before .check-instance .ensures .0) (c .before .before .before .before .before .before .before .before .before .before .before .check-instance .ensures .1) (asks (c .before .before .before .before .before .before .before .before .before .before .before .before .before .before)) count (c .before .before .before .before .before .before .before .before .if1 .left) (c .before .before .before .before .before .before .ask-encoding .result) (c .before .before .before .before .before .before .ask-encoding .ensures) in
+    let same = sizes-same _ _ w ∙ ap (λ (J : Instance). J .sizes) (horizon (c .before .before .before .before .before .before .before .before .before .before .before .before .before .before .args .b .now) (c .before .before .before .before .before .before .before .before .before .before .before .before .before .before .args .m) (c .before .before .before .before .before .before .before .before .before .before .before .check-instance .result .answer) (c .before .before .before .before .before .before .before .before .before .before .before .check-instance .result .checked) (c .before .before .before .before .before .before .before .before .before .before .before .check-instance .ensures .0) (c .before .before .before .before .before .before .before .before .before .before .before .check-instance .ensures .1) (c .before .before .before .before .before .before .before .before .if1 .left)) in
+    (e, c .before .write-valuation .ensures ∙ ap (λ (s : Sizes). filled (planValuation s (c .before .before .before .before .before .before .before .before .before .before .before .before .before .before .args .p .now)) (c .before .before .before .before .before .before .before .before .before .before .before .before .before .before .args .z .now)) same
+    ∙ slice-filled _ (c .before .before .before .before .before .before .ask-encoding .result) e _ (c .before .before .before .before .before .before .before .before .before .before .before .before .before .before .args .z .now) (c .before .before .before .before .if2 .left))
 
 pub encode-spec : {M : Type 1} → statement M
 encode-spec =

@@ -82,7 +82,7 @@ loop-again c =
       c .z .given .1 ∙ turn .inv .1,
       filled-block (λ a. for (start .args .s .n) λ v. entryFor (start .args .s) (start .args .p .now) (start .args .t .0) a v ∷ []) (start .args .s .n) (turn .a) (λ j l. for1-length (start .args .s .n) _) (turn .z) (start .args .z .now) (c .before .write-agent .last .0) (turn .inv .2)
           (omega (arith, place-of (c .before .before .before .before .before), turn .inv .1, start .pre .1))
-          (c .before .write-agent .ensures ∙ ap (λ (x : ℕ). filled (for (start .args .s .n) λ v. cond (eqb x v) (X (start .args .s) (start .args .t .0) (turn .a) v) (¬X (start .args .s) (start .args .t .0) (turn .a) v) ∷ []) (take (length (turn .z) - turn .a * start .args .s .n) (drop (turn .a * start .args .s .n) (turn .z)))) (c .before .before .before .wide .ensures)),
+          (c .before .write-agent .ensures ∙ ap (λ (x : ℕ). filled (for (start .args .s .n) λ v. cond (eqb x v) (X (start .args .s) (start .args .t .0) (turn .a) v) (¬X (start .args .s) (start .args .t .0) (turn .a) v) ∷ []) (take (length (turn .z) - turn .a * start .args .s .n) (drop (turn .a * start .args .s .n) (turn .z)))) (c .before .before .before .wide .ensures .0)),
     )
 
 same-length : tie.Need-same-length Inv-loop μ-loop

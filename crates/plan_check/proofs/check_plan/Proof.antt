@@ -1,34 +1,52 @@
 -- `plan_check::check_plan` meets its contract: the instance check decides, or the length, or the plan's questions, or the cost is counted. Assumes nothing.
 use mathlib.Core.Path.{sym, _∙_}
+use mathlib.Core.List.{List}
+use Prim.Native.Nat.{ℕ}
+use Rattle.answers.specs.Answers.{Question}
+use Rattle.instance.specs.Instance.{Instance}
 use Rattle.instance.proofs.Accepted.{limits-known}
-use Rattle.plan_check.proofs.Laws.{stop-instance, passed, refused-length, refused-plan, accepted-plan}
+use Rattle.instance.proofs.Call.{passed, instance-refuses, call-answers}
+use Rattle.plan.specs.Plan.{cost}
+use Rattle.calls.specs.Calls.{checkRest, checkAnswer}
+use Rattle.plan_check.proofs.Laws.{stop-13, stop-plan, pass-plan}
 use borrow.Author.Needs.{needs}
 use Rattle.plan_check.proofs.check_plan.Statement.{statement}
 use Rattle.plan_check.proofs.check_plan.Tie as tie
+
+-- the questions after 1 to 10, and the count
+abbrev asks : tie.Start → Instance → List Question
+asks s I = checkRest I (s .args .p .now)
+
+abbrev count : tie.Start → Instance → ℕ
+count s I = cost (I .sizes) (s .args .p .now)
 
 check-instance-requires : tie.Need-check-instance-requires
 check-instance-requires c κs = search needs
 
 returns : tie.Need-returns
-returns c = stop-instance (c .before .before .before .before .before .before .args .b .now) (c .before .before .before .before .before .before .args .m) (c .before .before .before .before .before .before .args .p .now) (c .before .before .before .check-instance .result .answer) (c .before .before .before .check-instance .ensures .0) (c .if1 .taken)
+unfolding checkAnswer
+returns c = instance-refuses (c .before .before .before .before .before .before .args .b .now) (c .before .before .before .before .before .before .args .m) (c .before .before .before .check-instance .result .answer) (c .before .before .before .check-instance .result .checked) (c .before .before .before .check-instance .ensures .0) (c .before .before .before .check-instance .ensures .1) (asks (c .before .before .before .before .before .before)) (count (c .before .before .before .before .before .before)) (c .if1 .taken)
 
 plan-bytes-requires : tie.Need-plan-bytes-requires
-plan-bytes-requires c κs = limits-known _ _ (passed (c .before .before .before .before .before .before .before .before .args .b .now) (c .before .before .before .before .before .before .before .before .args .m) (c .before .before .before .before .before .before .before .before .args .p .now) (c .before .before .before .before .before .check-instance .result .answer) (c .before .before .before .before .before .check-instance .result .checked) (c .before .before .before .before .before .check-instance .ensures .0) (c .before .before .before .before .before .check-instance .ensures .1) (c .before .before .if1 .left))
+plan-bytes-requires c κs = limits-known _ _ (passed (c .before .before .before .before .before .before .before .before .args .b .now) (c .before .before .before .before .before .before .before .before .args .m) (c .before .before .before .before .before .check-instance .result .answer) (c .before .before .before .before .before .check-instance .result .checked) (c .before .before .before .before .before .check-instance .ensures .0) (c .before .before .before .before .before .check-instance .ensures .1) (c .before .before .if1 .left))
 
 returns-2 : tie.Need-returns-2
-returns-2 c = refused-length (c .before .before .before .before .before .before .before .before .before .before .args .b .now) (c .before .before .before .before .before .before .before .before .before .before .args .m) (c .before .before .before .before .before .before .before .before .before .before .args .p .now) (c .before .before .before .before .before .before .before .check-instance .result .answer) (c .before .before .before .before .before .before .before .check-instance .result .checked) (c .before .before .before .before .before .before .before .check-instance .ensures .0) (c .before .before .before .before .before .before .before .check-instance .ensures .1) (c .before .before .before .before .if1 .left) (λ e. c .if2 .taken (e ∙ sym (c .before .plan-bytes .ensures .0)))
+unfolding checkAnswer
+returns-2 c = call-answers (c .before .before .before .before .before .before .before .before .before .before .args .b .now) (c .before .before .before .before .before .before .before .before .before .before .args .m) (c .before .before .before .before .before .before .before .check-instance .result .answer) (c .before .before .before .before .before .before .before .check-instance .result .checked) (c .before .before .before .before .before .before .before .check-instance .ensures .0) (c .before .before .before .before .before .before .before .check-instance .ensures .1) (asks (c .before .before .before .before .before .before .before .before .before .before)) (count (c .before .before .before .before .before .before .before .before .before .before)) (c .before .before .before .before .if1 .left) _ (stop-13 (c .before .before .before .before .before .before .before .before .before .before .args .b .now) (c .before .before .before .before .before .before .before .check-instance .result .checked) (passed (c .before .before .before .before .before .before .before .before .before .before .args .b .now) (c .before .before .before .before .before .before .before .before .before .before .args .m) (c .before .before .before .before .before .before .before .check-instance .result .answer) (c .before .before .before .before .before .before .before .check-instance .result .checked) (c .before .before .before .before .before .before .before .check-instance .ensures .0) (c .before .before .before .before .before .before .before .check-instance .ensures .1) (c .before .before .before .before .if1 .left)) (c .before .before .before .before .before .before .before .before .before .before .args .p .now) (λ e. c .if2 .taken (e ∙ sym (c .before .plan-bytes .ensures .0))))
 
 ask-plan-requires : tie.Need-ask-plan-requires
-ask-plan-requires c κs = (passed (c .before .before .before .before .before .before .before .before .before .before .args .b .now) (c .before .before .before .before .before .before .before .before .before .before .args .m) (c .before .before .before .before .before .before .before .before .before .before .args .p .now) (c .before .before .before .before .before .before .before .check-instance .result .answer) (c .before .before .before .before .before .before .before .check-instance .result .checked) (c .before .before .before .before .before .before .before .check-instance .ensures .0) (c .before .before .before .before .before .before .before .check-instance .ensures .1) (c .before .before .before .before .if1 .left), c .if2 .left ∙ c .before .plan-bytes .ensures .0)
+ask-plan-requires c κs = ((passed (c .before .before .before .before .before .before .before .before .before .before .args .b .now) (c .before .before .before .before .before .before .before .before .before .before .args .m) (c .before .before .before .before .before .before .before .check-instance .result .answer) (c .before .before .before .before .before .before .before .check-instance .result .checked) (c .before .before .before .before .before .before .before .check-instance .ensures .0) (c .before .before .before .before .before .before .before .check-instance .ensures .1) (c .before .before .before .before .if1 .left)), (c .if2 .left ∙ c .before .plan-bytes .ensures .0))
 
 returns-3 : tie.Need-returns-3
-returns-3 c = refused-plan (c .before .before .before .before .before .before .before .before .before .before .before .before .before .args .b .now) (c .before .before .before .before .before .before .before .before .before .before .before .before .before .args .m) (c .before .before .before .before .before .before .before .before .before .before .before .before .before .args .p .now) (c .before .before .before .before .before .before .before .before .before .before .check-instance .result .answer) (c .before .before .before .before .before .before .before .before .before .before .check-instance .result .checked) (c .before .before .before .before .before .before .before .before .before .before .check-instance .ensures .0) (c .before .before .before .before .before .before .before .before .before .before .check-instance .ensures .1) (c .before .before .before .before .before .before .before .if1 .left) (c .before .before .before .if2 .left ∙ c .before .before .before .before .plan-bytes .ensures .0) (c .before .before .ask-plan .result) (c .before .before .ask-plan .ensures) (c .if3 .taken)
+unfolding checkAnswer
+returns-3 c = call-answers (c .before .before .before .before .before .before .before .before .before .before .before .before .before .args .b .now) (c .before .before .before .before .before .before .before .before .before .before .before .before .before .args .m) (c .before .before .before .before .before .before .before .before .before .before .check-instance .result .answer) (c .before .before .before .before .before .before .before .before .before .before .check-instance .result .checked) (c .before .before .before .before .before .before .before .before .before .before .check-instance .ensures .0) (c .before .before .before .before .before .before .before .before .before .before .check-instance .ensures .1) (asks (c .before .before .before .before .before .before .before .before .before .before .before .before .before)) (count (c .before .before .before .before .before .before .before .before .before .before .before .before .before)) (c .before .before .before .before .before .before .before .if1 .left) _ (stop-plan (c .before .before .before .before .before .before .before .before .before .before .before .before .before .args .b .now) (c .before .before .before .before .before .before .before .before .before .before .check-instance .result .checked) (passed (c .before .before .before .before .before .before .before .before .before .before .before .before .before .args .b .now) (c .before .before .before .before .before .before .before .before .before .before .before .before .before .args .m) (c .before .before .before .before .before .before .before .before .before .before .check-instance .result .answer) (c .before .before .before .before .before .before .before .before .before .before .check-instance .result .checked) (c .before .before .before .before .before .before .before .before .before .before .check-instance .ensures .0) (c .before .before .before .before .before .before .before .before .before .before .check-instance .ensures .1) (c .before .before .before .before .before .before .before .if1 .left)) (c .before .before .before .before .before .before .before .before .before .before .before .before .before .args .p .now) (c .before .before .before .if2 .left ∙ c .before .before .before .before .plan-bytes .ensures .0) (c .before .before .ask-plan .result) (c .before .before .ask-plan .ensures) (c .if3 .taken))
 
 plan-cost-requires : tie.Need-plan-cost-requires
 plan-cost-requires c κs = c .before .before .before .if2 .left ∙ c .before .before .before .before .plan-bytes .ensures .0
 
 returns-4 : tie.Need-returns-4
-returns-4 c = accepted-plan (c .before .before .before .before .before .before .before .before .before .before .before .before .before .before .args .b .now) (c .before .before .before .before .before .before .before .before .before .before .before .before .before .before .args .m) (c .before .before .before .before .before .before .before .before .before .before .before .before .before .before .args .p .now) (c .before .before .before .before .before .before .before .before .before .before .before .check-instance .result .answer) (c .before .before .before .before .before .before .before .before .before .before .before .check-instance .result .checked) (c .before .before .before .before .before .before .before .before .before .before .before .check-instance .ensures .0) (c .before .before .before .before .before .before .before .before .before .before .before .check-instance .ensures .1) (c .before .before .before .before .before .before .before .before .if1 .left) (c .before .before .before .before .if2 .left ∙ c .before .before .before .before .before .plan-bytes .ensures .0) (c .before .before .before .ask-plan .result) (c .before .before .before .ask-plan .ensures) (c .plan-cost .result) (c .plan-cost .ensures) (c .before .if3 .left)
+unfolding checkAnswer
+returns-4 c = call-answers (c .before .before .before .before .before .before .before .before .before .before .before .before .before .before .args .b .now) (c .before .before .before .before .before .before .before .before .before .before .before .before .before .before .args .m) (c .before .before .before .before .before .before .before .before .before .before .before .check-instance .result .answer) (c .before .before .before .before .before .before .before .before .before .before .before .check-instance .result .checked) (c .before .before .before .before .before .before .before .before .before .before .before .check-instance .ensures .0) (c .before .before .before .before .before .before .before .before .before .before .before .check-instance .ensures .1) (asks (c .before .before .before .before .before .before .before .before .before .before .before .before .before .before)) (count (c .before .before .before .before .before .before .before .before .before .before .before .before .before .before)) (c .before .before .before .before .before .before .before .before .if1 .left) _ (pass-plan (c .before .before .before .before .before .before .before .before .before .before .before .before .before .before .args .b .now) (c .before .before .before .before .before .before .before .before .before .before .before .check-instance .result .checked) (passed (c .before .before .before .before .before .before .before .before .before .before .before .before .before .before .args .b .now) (c .before .before .before .before .before .before .before .before .before .before .before .before .before .before .args .m) (c .before .before .before .before .before .before .before .before .before .before .before .check-instance .result .answer) (c .before .before .before .before .before .before .before .before .before .before .before .check-instance .result .checked) (c .before .before .before .before .before .before .before .before .before .before .before .check-instance .ensures .0) (c .before .before .before .before .before .before .before .before .before .before .before .check-instance .ensures .1) (c .before .before .before .before .before .before .before .before .if1 .left)) (c .before .before .before .before .before .before .before .before .before .before .before .before .before .before .args .p .now) (c .before .before .before .before .if2 .left ∙ c .before .before .before .before .before .plan-bytes .ensures .0) (c .before .before .before .ask-plan .result) (c .before .before .before .ask-plan .ensures) (c .plan-cost .result) (c .plan-cost .ensures) (c .before .if3 .left))
 
 pub check-plan-spec : {M : Type 1} → statement M
 check-plan-spec =
