@@ -1,5 +1,5 @@
 -- What one row of entries says, what all rows together say, and that this is what a valuation makes true.
-use mathlib.Core.Path.{_≡_, refl}
+use mathlib.Core.Path.{_≡_, refl, subst}
 use mathlib.Core.Logic.{_↔_, _≢_, _⊎_, inl, inr, ⊎-elim, by-cases, Iff·trans, Iff·symm}
 use mathlib.Core.List.{List}
 use mathlib.Core.Bool.{Bool, true, false}
@@ -55,58 +55,65 @@ module _ (es : List ℤ) where
     abbrev pub Came : ℕ → ℕ → Type 0
     Came r x = Right r × (base + n ≤ r → Seen n q x)
 
-    module _ (count v : ℕ) (o : Tallied (denies es) base (base + n) count v) where
+    -- entry i of the row, by its vertex
+    row-at : (P : ℕ → Type 0) → ((v : ℕ) → v < n → P (base + v)) → (i : ℕ) → base ≤ i → i < base + n → P i
+    row-at P h i l r = let e : base + (i - base) ≡ i = omega arith in subst P e (h (i - base) (omega arith))
+
+    module _ (count v : ℕ) (o : Tallied (λ u. denies es (base + u)) n count v) where
       pub came-none : count ≡ 0 → Came (base + n) n
       came-none e =
           let (z, g) = o .none e in (
-            record { least = omega arith; within = le-refl _; before = λ i h l. denied-right i (g i h l); here = λ l. absurd (let f : ⊥ = omega arith in f) },
+            record {
+              least = omega arith;
+              within = le-refl _;
+              before = row-at (λ i. T (rightEntry es i)) (λ u l. denied-right (base + u) (g u l));
+              here = λ l. absurd (let f : ⊥ = omega arith in f);
+            },
             λ h. record {
               most = omega arith;
               one = λ l. absurd (let z : ⊥ = omega arith in z);
-              none = λ d u l t. not-both (base + u) t (g (base + u) (omega arith) (omega arith));
+              none = λ d u l t. not-both (base + u) t (g u l);
               several = λ d. absurd (let z : ⊥ = omega arith in z);
             },
           )
 
       module _ (e : count ≡ 1) where
-        abbrev least : base ≤ v
-        least = o .one e .0
+        most : v < n
+        most = o .one e .0
 
-        abbrev most : v < base + n
-        most = o .one e .1
+        rest : (u : ℕ) → u < n → u ≢ v → T (rightEntry es (base + u))
+        rest u l d = denied-right (base + u) (o .one e .2 u l d)
 
-        pub came-one : T (rightEntry es v) → Came (base + n) (v - base)
+        pub came-one : T (rightEntry es (base + v)) → Came (base + n) v
         came-one r =
-            let t = right-says v r (o .one e .2) in
-            let l = least in
-            let b = most in
-            let rest = o .one e .3 in (
+            let t = right-says (base + v) r (o .one e .1) in
+            let b = most in (
               record {
                 least = omega arith;
                 within = le-refl _;
-                before = λ i h o. by-cases (ℕ-discrete i v) (λ p. or-iff (says es i) (denies es i) .1 (inl (rw p t))) (λ p. denied-right i (rest i h o p));
+                before = row-at (λ i. T (rightEntry es i)) (λ u l. by-cases (ℕ-discrete u v) (λ p. rw p r) (λ p. rest u l p));
                 here = λ r. absurd (let z : ⊥ = omega arith in z);
               },
               λ h.
                   record {
                     most = omega arith;
-                    one = λ x u o. (
-                      (λ y. by-cases (ℕ-discrete (base + u) v) (λ p. omega arith) (λ p. absurd (not-both (base + u) y (rest (base + u) (omega arith) (omega arith) p)))),
-                      (λ y. let e″ : base + u ≡ v = omega arith in rw e″ t),
+                    one = λ x u l. (
+                      (λ y. by-cases (ℕ-discrete u v) (λ p. p) (λ p. absurd (not-both (base + u) y (o .one e .2 u l p)))),
+                      (λ y. rw y t),
                     );
                     none = λ x. absurd (let z : ⊥ = omega arith in z);
                     several = λ x. absurd (let z : ⊥ = omega arith in z);
                   },
             )
 
-        pub came-wrong : (T (rightEntry es v) → ⊥) → Came v 0
+        pub came-wrong : (T (rightEntry es (base + v)) → ⊥) → Came (base + v) 0
         came-wrong t =
-            let l = least in
             let b = most in (
               record {
-                least = l;
+                least = omega arith;
                 within = omega arith;
-                before = λ i h p. denied-right i (o .one e .3 i h (omega arith) (λ q. omega arith));
+                before = λ i h p.
+                    row-at (λ i. i < base + v → T (rightEntry es i)) (λ u l q. rest u l (λ z. let f : ⊥ = omega arith in f)) i h (omega arith) p;
                 here = λ r. t;
               },
               λ h. absurd (let z : ⊥ = omega arith in z),
@@ -116,20 +123,18 @@ module _ (es : List ℤ) where
       came-several d d′ u r = (
         r,
         λ h.
-            let (x, y, a, b, c, f, g) = o .more (omega arith) in
-            let e : base + (x - base) ≡ x = omega arith in
-            let e′ : base + (y - base) ≡ y = omega arith in
+            let (x, y, a, b, f, g) = o .more (omega arith) in
             record {
               most = omega arith;
               one = λ l. absurd (let z : ⊥ = omega arith in z);
               none = λ d. absurd (let z : ⊥ = omega arith in z);
               several = λ q. (
-                x - base,
-                y - base,
-                omega arith,
-                omega arith,
-                rw e (right-says x (r .before x a (omega arith)) f),
-                rw e′ (right-says y (r .before y (omega arith) (omega arith)) g),
+                x,
+                y,
+                a,
+                b,
+                right-says (base + x) (r .before (base + x) (omega arith) (omega arith)) f,
+                right-says (base + y) (r .before (base + y) (omega arith) (omega arith)) g,
               );
             },
       )
@@ -182,7 +187,7 @@ bool-same true false h = absurd (h .0 tt)
 bool-same false true h = absurd (h .1 tt)
 bool-same false false h = refl
 
-module _ (s : Sizes) (es : List ℤ) (w : Valuation s es) where
+module _ (s : Sizes) (es : List ℤ) (w : Valuation (variableCount s) es) where
   open Sizes s using (n, k, m)
 
   -- one entry tells
@@ -218,7 +223,7 @@ module _ (s : Sizes) (es : List ℤ) (e : length es ≡ variableCount s) (places
   pub done-right : FirstFault (variableCount s) (rightEntry es) (suc m * k * n)
   done-right = rw (cells-count s) (fault-none refl (λ j l. o .right j (omega (arith, cells-count s))))
 
-  valid : Valuation s es
+  valid : Valuation (variableCount s) es
   valid =
       record {
         size = e;

@@ -15,8 +15,9 @@ use Rattle.lists.proofs.Slices.{for-room}
 use Rattle.lists.proofs.Blocks.{for1-length}
 use Rattle.instance.specs.declared.Sizes.{Sizes}
 use Rattle.instance.specs.declared.Checked.{Checked}
+use Rattle.instance.specs.Instance.{Instance}
 use Rattle.formula.specs.Formula.{Clause, clauses}
-use Rattle.formula.specs.Blocks.{Given, given, steps, cells, groups, group, block, family}
+use Rattle.formula.specs.Blocks.{Given, given, steps, cells, block, family}
 use Rattle.formula.proofs.Blocks.{Same, family-blocks, family-same, clauses-families}
 use Rattle.plan.specs.Plan.{place}
 use Rattle.valuation.specs.Valuation.{true?, satisfied?, named}
@@ -25,10 +26,9 @@ use Rattle.valuation.proofs.Families.{places-cong, read-E}
 use Rattle.valuation.proofs.Entries.{named-places}
 use Rattle.instance.specs.Accepted.{Accepted, instanceOf}
 use Rattle.instance.proofs.Accepted.{sizes-same, start-at, goal-at}
-use Rattle.satisfaction.specs.Rows.{Fault, Read, held, row, Before}
+use Rattle.satisfaction.specs.Rows.{Fault, Read, heldBy, row, Before}
 use Rattle.satisfaction.proofs.Laws.{for-stop, fault-all}
 use Rattle.satisfaction.proofs.Truth.{length-D, length-E, length-F, length-G}
-use Rattle.satisfaction.proofs.Steps.{sized}
 
 -- the last of the seven
 past-two : (f : ℕ) → f ≢ 0 → f ≢ 1 → f ≢ 2 → 3 ≤ f
@@ -37,57 +37,38 @@ past-two f p q r = omega arith
 pub last-family : (f : ℕ) → f < 7 → f ≢ 0 → f ≢ 1 → f ≢ 2 → f ≢ 3 → f ≢ 4 → f ≢ 5 → f ≡ 6
 last-family f l p q r x y z = let h = past-two f p q r in omega arith
 
--- the number of rows
-module _ (s : Sizes) where
-  open Sizes s using (m)
-
-  pub steps-ends : (j : ℕ) → j < 2 → 1 ≡ steps s j
-  unfolding steps
-  steps-ends j l = by-cases (ℕ-discrete j 0) (λ e. ap (steps s) (sym e)) (λ d. let e : j ≡ 1 = omega arith in ap (steps s) (sym e))
-
-  pub steps-times : (j : ℕ) → 2 ≤ j → j < 5 → suc m ≡ steps s j
-  unfolding steps
-  steps-times j h l =
-      by-cases (ℕ-discrete j 2) (λ e. ap (steps s) (sym e))
-      (λ c. by-cases (ℕ-discrete j 3) (λ e. ap (steps s) (sym e)) (λ d. let e : j ≡ 4 = omega arith in ap (steps s) (sym e)))
-
-  pub steps-moves : (j : ℕ) → 5 ≤ j → j < 7 → m ≡ steps s j
-  unfolding steps
-  steps-moves j h l =
-      by-cases (ℕ-discrete j 5) (λ e. ap (steps s) (sym e)) (λ d. let e : j ≡ 6 = omega arith in ap (steps s) (sym e))
-
 -- the lengths of the rows
 module _ (g : Given) (t : ℕ) where
   open Given g using (sizes)
   open Sizes sizes using (n, k)
 
   pub size-A : length (row g 0 t) ≡ k
-  unfolding row block group cells groups
+  unfolding row block cells
   size-A = for1-length k _
 
   pub size-B : length (row g 1 t) ≡ k
-  unfolding row block group cells groups
+  unfolding row block cells
   size-B = for1-length k _
 
   pub size-C : length (row g 2 t) ≡ k
-  unfolding row block group cells groups
+  unfolding row block cells
   size-C = for1-length k _
 
   pub size-D : length (row g 3 t) ≡ k * (n * (n - 1) / 2)
-  unfolding row cells
-  size-D = for-length k _ _ (λ a l. length-D g t a)
+  unfolding row block cells
+  size-D = for-length k _ _ (λ a l. length-D sizes t a)
 
   pub size-E : length (row g 4 t) ≡ n * (k * (k - 1) / 2)
-  unfolding row cells
-  size-E = for-length n _ _ (λ v l. length-E g t v)
+  unfolding row block cells
+  size-E = for-length n _ _ (λ v l. length-E sizes t v)
 
   pub size-F : length (row g 5 t) ≡ k * n
-  unfolding row cells
-  size-F = for-length k _ _ (λ a l. length-F g t a)
+  unfolding row block cells
+  size-F = for-length k _ _ (λ a l. length-F sizes (g .near) t a)
 
   pub size-G : length (row g 6 t) ≡ k * ((k - 1) * n)
-  unfolding row cells
-  size-G = for-length k _ _ (λ a l. length-G g t a l)
+  unfolding row block cells
+  size-G = for-length k _ _ (λ a l. length-G sizes t a l)
 
 module _ (g : Given) where
   family-rows : (j : ℕ) → family g j ≡ for (steps (g .sizes) j) (row g j)
@@ -122,11 +103,11 @@ module _ (g : Given) where
   all-families es at e h = rw e (fault-all es (for 7 (family g)) h)
 
 -- the formula's families are those of what the code has
-pub whole : (b : List ℕ) (c : Checked) → Accepted b c → (es : List ℤ) (r : ℕ) → Fault es (for 7 (family (held b c))) r → Fault es (clauses (instanceOf b c)) r
+pub whole : (b : List ℕ) (c : Checked) → Accepted b c → (es : List ℤ) (r : ℕ) → Fault es (for 7 (family (heldBy b c))) r → Fault es (clauses (instanceOf b c)) r
 whole b c w es r f =
     let I = instanceOf b c in
-    let e : Same (held b c) (given I) = record { sizes = sizes-same b c w; start = start-at b c w; goal = goal-at b c w; near = λ u v p q. refl } in
-    subst (λ (L : List Clause). Fault es L r) (for-ext 7 _ _ (λ j l. family-same (held b c) (given I) e j) ∙ sym (clauses-families I)) f
+    let e : Same (heldBy b c) (given I) = record { sizes = sizes-same b c w; start = start-at b c w; goal = goal-at b c w; near = λ u v p q. refl } in
+    subst (λ (L : List Clause). Fault es L r) (for-ext 7 _ _ (λ j l. family-same (heldBy b c) (given I) e j) ∙ sym (clauses-families I)) f
 
 -- ---- of entries that have been read
 -- where one vertex is left to each agent at each time, the pass has found it
@@ -152,14 +133,18 @@ module _ (g : Given) (es : List ℤ) (p : List ℕ) (rd : Read (g .sizes) es p) 
   abbrev s : Sizes
   s = g .sizes
 
+  -- an instance of these sizes: families C, D and E go by them alone
+  sized : Instance
+  sized = record { sizes = s; low = λ i. 0; high = λ i. 0; start = λ i. 0; goal = λ i. 0 }
+
   -- C and D leave one
   pub places : (which : ℕ) → 4 ≤ which → Before g es which → Places s (true? es) (place s p)
-  unfolding Before family
+  unfolding Before family sized
   places which l h =
-      let o = named-places (sized s) es (rd .valid) (h 2 (omega arith)) (h 3 (omega arith)) in
+      let o = named-places sized es (rd .valid) (h 2 (omega arith)) (h 3 (omega arith)) in
       places-cong s (true? es) (named s es) (place s p) o (place-named s es p rd o)
 
   -- E leaves no vertex to two agents
   pub apart : (which : ℕ) → 5 ≤ which → Before g es which → (t : ℕ) → t < suc (s .m) → (i j : ℕ) → i < j → j < s .k → place s p t i ≢ place s p t j
-  unfolding Before family
-  apart which l h = read-E (sized s) (true? es) (place s p) (places which (omega arith) h) .0 (h 4 (omega arith))
+  unfolding Before family sized
+  apart which l h = read-E sized (true? es) (place s p) (places which (omega arith) h) .0 (h 4 (omega arith))

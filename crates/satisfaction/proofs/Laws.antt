@@ -8,6 +8,7 @@ use native.Mathlib.Nat.{le-refl}
 use native.Mathlib.Decide.{decLt}
 use native.Mathlib.Numerals.{add-one}
 use native.Mathlib.Omega.{arith}
+use borrow.Author.Count.{below-more, below-none}
 use lib.ListN.{length, getD, length-append, List·getD-append}
 use lib.Seq.{getD-append-add}
 use lib.Dec.{T, ltb}
@@ -36,39 +37,36 @@ module _ (test : ℕ → Bool) (low n i : ℕ) (b : (j : ℕ) → low ≤ j → 
       record { least = omega arith; within = le-refl n; before = λ j r l. b j r (omega arith); here = λ r. absurd (let f : ⊥ = omega arith in f) }
 
 -- a tally, one number more at a time
-module _ (test : ℕ → Bool) (low : ℕ) where
-  pub tallied-none : Tallied test low low 0 0
+module _ (test : ℕ → Bool) where
+  pub tallied-none : Tallied test 0 0 0
   tallied-none =
       record {
-        none = λ e. (refl, λ i h l. absurd (let f : ⊥ = omega arith in f));
+        none = λ e. (refl, below-none _);
         one = λ e. absurd (let f : ⊥ = omega arith in f);
         more = λ h. absurd (let f : ⊥ = omega arith in f);
       }
 
-  module _ (i count sum : ℕ) (o : Tallied test low i count sum) where
-    below : (P : ℕ → Type 0) → ((j : ℕ) → low ≤ j → j < i → P j) → P i → (j : ℕ) → low ≤ j → j < i + 1 → P j
-    below P h x j r l = by-cases (decLt j i) (λ b. h j r b) (λ b. let e : i ≡ j = omega arith in subst P e x)
-
-    pub tallied-pass : T (test i) → Tallied test low (i + 1) count sum
+  module _ (i count sum : ℕ) (o : Tallied test i count sum) where
+    pub tallied-pass : T (test i) → Tallied test (i + 1) count sum
     tallied-pass t =
         record {
-          none = λ e. let (z, h) = o .none e in (z, below (λ j. T (test j)) h t);
-          one = λ e. let (a, b, f, h) = o .one e in (a, omega arith, f, below (λ j. j ≢ sum → T (test j)) h (λ d. t));
-          more = λ e. let (v, w, a, b, c, f, g) = o .more e in (v, w, a, b, omega arith, f, g);
+          none = λ e. let (z, h) = o .none e in (z, below-more _ _ h t);
+          one = λ e. let (b, f, h) = o .one e in (omega arith, f, below-more (λ j. j ≢ sum → T (test j)) _ h (λ d. t));
+          more = λ e. let (v, w, b, c, f, g) = o .more e in (v, w, b, omega arith, f, g);
         }
 
-    pub tallied-fail : low ≤ i → (T (test i) → ⊥) → Tallied test low (i + 1) (count + 1) (sum + i)
-    tallied-fail l f =
+    pub tallied-fail : (T (test i) → ⊥) → Tallied test (i + 1) (count + 1) (sum + i)
+    tallied-fail f =
         record {
           none = λ e. absurd (let f : ⊥ = omega arith in f);
           one = λ e.
               let (z, h) = o .none (omega arith) in
               let q : sum + i ≡ i = omega arith in
-              rw q (l, omega arith, f, below (λ j. j ≢ i → T (test j)) (λ j a b d. h j a b) (λ d. absurd (d refl)));
+              rw q (omega arith, f, below-more (λ j. j ≢ i → T (test j)) _ (λ j b d. h j b) (λ d. absurd (d refl)));
           more = λ e.
               by-cases (decLt count 2)
-              (λ b. let (a, c, g, h) = o .one (omega arith) in (sum, i, a, c, omega arith, g, f))
-              (λ b. let (v, w, a, c, d, g, h) = o .more (omega arith) in (v, w, a, c, omega arith, g, h));
+              (λ b. let (c, g, h) = o .one (omega arith) in (sum, i, c, omega arith, g, f))
+              (λ b. let (v, w, c, d, g, h) = o .more (omega arith) in (v, w, c, omega arith, g, h));
         }
 
 module _ (es : List ℤ) where

@@ -11,8 +11,8 @@ use lib.ListN.{getD}
 use lib.Dec.{T, eqb}
 use Rattle.lists.specs.Loop.{every}
 use Rattle.instance.specs.declared.Sizes.{Sizes}
-use Rattle.instance.specs.Instance.{Instance, adjacent}
-use Rattle.plan.specs.Plan.{place, condition1, condition2}
+use Rattle.instance.specs.Instance.{Instance}
+use Rattle.plan.specs.Plan.{Row, place, condition, condition2}
 use Rattle.lists.proofs.Tests.{or-imp, not-iff, eqb-iff, every-iff}
 use Rattle.answers.specs.Fault.{FirstFault}
 use Rattle.satisfaction.specs.Rows.{Lowest}
@@ -57,10 +57,6 @@ shared-agent k P n v f d z a e g =
     by-cases (decLt i a) (λ l. absurd (simp (not-iff, eqb-iff) at (g .before i l) (q ∙ sym e))) (λ l. omega arith)
 
 -- ---- condition 2, of agents that go from P to Q
--- an instance of these sizes: condition 2 goes by them alone
-abbrev pub sized : Sizes → Instance
-sized s = record { sizes = s; low = λ i. 0; high = λ i. 0; start = λ i. 0; goal = λ i. 0 }
-
 module _ (k : ℕ) (P Q : ℕ → ℕ) where
   pub keeps-or : (a : ℕ) → T (eqb (P a) (Q a) || (every k λ b. not (eqb (P b) (Q a)))) ↔ (P a ≢ Q a → (b : ℕ) → b < k → P b ≢ Q a)
   keeps-or a = simp (or-imp, every-iff, not-iff, eqb-iff) ((λ h. h), (λ h. h))
@@ -83,20 +79,11 @@ module _ (k : ℕ) (P Q : ℕ → ℕ) where
       let stood : P b ≡ Q r = by-cases (ℕ-discrete (P b) (Q r)) (λ q. q) (λ q. absurd (g .here lb (simp (not-iff, eqb-iff) (λ q′. q (q′ ∙ e))))) in
       record { agent = l; stander = lb; another = λ q. moves (rw q at stood); stood = stood; before = before-b }
 
-pub fault-cong : (n r : ℕ) (f g : ℕ → Bool) → ((i : ℕ) → f i ≡ g i) → FirstFault n f r → FirstFault n g r
-fault-cong n r f g e h = record { within = h .within; before = λ i l. rw (e i) at (h .before i l); here = λ l t. h .here l (rw (e r) t) }
-
--- ---- what the calls of the plan check say, as the rows alone say it
-pub plain-1 : (I : Instance) (s : Sizes) → s ≡ I .sizes → (p : List ℕ) (t r : ℕ) → FirstFault (s .k) (condition1 I p t) r
-    → FirstFault (s .k) (λ a. eqb (place s p t a) (place s p (suc t) a) || adjacent I (place s p t a) (place s p (suc t) a)) r
-unfolding condition1
-plain-1 I s e p t r f =
-    subst (λ (z : Sizes). FirstFault (s .k) (λ a. eqb (place z p t a) (place z p (suc t) a) || adjacent I (place z p t a) (place z p (suc t) a)) r) (sym e) f
-
-pub plain-2 : (s : Sizes) (p : List ℕ) (t r : ℕ) → FirstFault (s .k) (condition2 (sized s) p t) r
-    → FirstFault (s .k) (λ a. eqb (place s p t a) (place s p (suc t) a) || (every (s .k) λ b. not (eqb (place s p t b) (place s p (suc t) a)))) r
+-- condition 2 as the rows alone say it
+pub plain-2 : (I : Instance) (s : Sizes) → s ≡ I .sizes → (P Q : Row) (r : ℕ) → FirstFault (s .k) (condition I 1 P Q) r
+    → FirstFault (s .k) (λ a. eqb (P a) (Q a) || (every (s .k) λ b. not (eqb (P b) (Q a)))) r
 unfolding condition2
-plain-2 s p t r f = f
+plain-2 I s e P Q r f = subst (λ (z : Sizes). FirstFault (s .k) (condition2 z P Q) r) (sym e) f
 
 pub next-row : (s : Sizes) (p : List ℕ) (t a : ℕ) → getD p (t * s .k + s .k + a) 0 ≡ place s p (suc t) a
 next-row s p t a = rw suc-mul

@@ -20,14 +20,13 @@ use Rattle.lists.proofs.Sums.{above-length, others-length}
 use Rattle.answers.specs.Fault.{FirstFault}
 use Rattle.instance.specs.declared.Sizes.{Sizes}
 use Rattle.formula.specs.Variables.{Literal, X, ¬X, index, variableCount}
-use Rattle.formula.specs.Formula.{Clause, somewhere, groupG}
-use Rattle.formula.specs.Blocks.{Given, cells, groups, group, block}
+use Rattle.formula.specs.Formula.{Clause, somewhere, blockC, blockD, blockE, blockF, blockG}
 use Rattle.plan.specs.Plan.{place}
 use Rattle.valuation.specs.Valuation.{true?, satisfied?}
 use Rattle.valuation.specs.Satisfying.{Valuation}
 use Rattle.valuation.specs.Places.{Places}
 use Rattle.valuation.proofs.Entries.{true-no}
-use Rattle.satisfaction.specs.Rows.{Fault, Stop, says, denies, Seen, Read, Lowest, only, row}
+use Rattle.satisfaction.specs.Rows.{Fault, Stop, says, denies, Seen, Read, Lowest}
 use Rattle.satisfaction.proofs.Entries.{right-says, skip-le, read-true, right-at, denied-or-true, cells-count}
 use Rattle.satisfaction.proofs.Steps.{keeps-or, Enters}
 use Rattle.satisfaction.proofs.Laws.{blocks-stop, blocks-pass, fault-all, for-stop, singles, pairs-pass, pairs-two}
@@ -37,27 +36,22 @@ abbrev follows : Sizes → ℕ → ℕ → ℕ → List Clause
 follows s t a b = for (s .n) λ v. (¬X s t b v ∷ ¬X s (suc t) a v ∷ []) ∷ []
 
 -- the lengths of the blocks
-module _ (g : Given) where
-  open Given g using (sizes)
-  open Sizes sizes using (n, k, m)
+module _ (s : Sizes) where
+  open Sizes s using (n, k, m)
 
-  pub length-D : (t a : ℕ) → length (block g 3 t a) ≡ n * (n - 1) / 2
-  unfolding block group groups
-  length-D t a = above-length n 1 (λ v w. (¬X sizes t a v ∷ ¬X sizes t a w ∷ []) ∷ []) (λ v w. refl) ∙ mul-one _
+  pub length-D : (t a : ℕ) → length (blockD s t a) ≡ n * (n - 1) / 2
+  length-D t a = above-length n 1 (λ v w. (¬X s t a v ∷ ¬X s t a w ∷ []) ∷ []) (λ v w. refl) ∙ mul-one _
 
-  pub length-E : (t v : ℕ) → length (block g 4 t v) ≡ k * (k - 1) / 2
-  unfolding block group groups
-  length-E t v = above-length k 1 (λ a b. (¬X sizes t a v ∷ ¬X sizes t b v ∷ []) ∷ []) (λ a b. refl) ∙ mul-one _
+  pub length-E : (t v : ℕ) → length (blockE s t v) ≡ k * (k - 1) / 2
+  length-E t v = above-length k 1 (λ a b. (¬X s t a v ∷ ¬X s t b v ∷ []) ∷ []) (λ a b. refl) ∙ mul-one _
 
-  pub length-F : (t a : ℕ) → length (block g 5 t a) ≡ n
-  unfolding block group groups
-  length-F t a = for1-length n _
+  pub length-F : (near : ℕ → ℕ → Bool) (t a : ℕ) → length (blockF s near t a) ≡ n
+  length-F near t a = for1-length n _
 
-  pub length-G : (t a : ℕ) → a < k → length (block g 6 t a) ≡ (k - 1) * n
-  unfolding block group groups
-  length-G t a l = others-length k n a l (follows sizes t a) (λ b h. for1-length n _)
+  pub length-G : (t a : ℕ) → a < k → length (blockG s t a) ≡ (k - 1) * n
+  length-G t a l = others-length k n a l (follows s t a) (λ b h. for1-length n _)
 
-module _ (s : Sizes) (es : List ℤ) (w : Valuation s es) where
+module _ (s : Sizes) (es : List ℤ) (w : Valuation (variableCount s) es) where
   open Sizes s using (n, k, m)
 
   abbrev q : ℕ → ℕ → ℕ → Bool
@@ -81,8 +75,7 @@ module _ (s : Sizes) (es : List ℤ) (w : Valuation s es) where
     abbrev seen : (a : ℕ) → a < k → Seen n (q t a) (place s p t a)
     seen a y = rd .cells t a x y
 
-    pub in-C : (z r : ℕ) → z ≡ n → FirstFault k (λ a. not (eqb (getD p (t * k + a) 0) z)) r → Fault es (row (only s) 2 t) r
-    unfolding row block group cells groups
+    pub in-C : (z r : ℕ) → z ≡ n → FirstFault k (λ a. not (eqb (getD p (t * k + a) 0) z)) r → Fault es (for k (blockC s t)) r
     in-C z r e f =
         singles es k (somewhere s t) r
         record {
@@ -109,8 +102,7 @@ module _ (s : Sizes) (es : List ℤ) (w : Valuation s es) where
     abbrev iffD : (a : ℕ) → a < k → (v u : ℕ) → v < n → u < n → T (sat (¬X s t a v ∷ ¬X s t a u ∷ [])) ↔ (T (q t a v) → T (q t a u) → ⊥)
     iffD a y v u l r = not-both t a v t a u x y l x y r
 
-    pass-D : (a : ℕ) → a < k → place s p t a ≢ suc n → T (all sat (block (only s) 3 t a))
-    unfolding block group groups
+    pass-D : (a : ℕ) → a < k → place s p t a ≢ suc n → T (all sat (blockD s t a))
     pass-D a y d =
         pairs-pass es n (λ v u. ¬X s t a v ∷ ¬X s t a u ∷ []) (q t a) (iffD a y) (λ v u o l h i.
         let c = seen a y in
@@ -118,8 +110,8 @@ module _ (s : Sizes) (es : List ℤ) (w : Valuation s es) where
         (λ r. let e = c .one r v (omega arith) .0 h in let e′ = c .one r u l .0 i in omega arith)
         (λ g. let m = c .most in c .none (omega arith) u l i))
 
-    passed-D : (a : ℕ) → a ≤ k → ((b : ℕ) → b < a → place s p t b ≢ suc n) → T (all sat (for a (block (only s) 3 t)))
-    passed-D a l h = for-all sat a (block (only s) 3 t) .1 (λ b o. pass-D b (omega arith) (h b o))
+    passed-D : (a : ℕ) → a ≤ k → ((b : ℕ) → b < a → place s p t b ≢ suc n) → T (all sat (for a (blockD s t)))
+    passed-D a l h = for-all sat a (blockD s t) .1 (λ b o. pass-D b (omega arith) (h b o))
 
     end-D : {a : ℕ} → a < k → (t * k + a) * n + n ≤ variableCount s
     end-D {a} l = omega (arith, place-lt (suc m) k t a x l, cells-count s, suc-mul (t * k + a) n, mul-le-mul-right n (place-lt (suc m) k t a x l))
@@ -128,10 +120,9 @@ module _ (s : Sizes) (es : List ℤ) (w : Valuation s es) where
       below-D : (b : ℕ) → b < a → place s p t b ≢ suc n
       below-D b l o = simp (not-iff, eqb-iff) at (f .before b l) (o ∙ sym e)
 
-      pub none-D : a ≡ k → Fault es (row (only s) 3 t) (k * (n * (n - 1) / 2))
-      unfolding row cells
+      pub none-D : a ≡ k → Fault es (for k (blockD s t)) (k * (n * (n - 1) / 2))
       none-D o =
-          blocks-pass es (block (only s) 3 t) (n * (n - 1) / 2) k (length-D (only s) t) (passed-D k (le-refl k) (λ b l. below-D b (omega arith)))
+          blocks-pass es (blockD s t) (n * (n - 1) / 2) k (length-D s t) (passed-D k (le-refl k) (λ b l. below-D b (omega arith)))
 
       abbrev b : ℕ
       b = (t * k + a) * n
@@ -159,8 +150,8 @@ module _ (s : Sizes) (es : List ℤ) (w : Valuation s es) where
             omega (arith, skip-le es (v + 1) (b + n) u (b + u′) h (omega arith) (says-q u′ r′ j))
 
         pub here-D : Stop (denies es) (v + 1) ((t * k + a) * n + n) u
-            → Fault es (row (only s) 3 t) (a * (n * (n - 1) / 2) + ((v - (t * k + a) * n) * (2 * n - (v - (t * k + a) * n) - 1) / 2 + (u - v - 1)))
-        unfolding row block group cells groups index
+            → Fault es (for k (blockD s t)) (a * (n * (n - 1) / 2) + ((v - (t * k + a) * n) * (2 * n - (v - (t * k + a) * n) - 1) / 2 + (u - v - 1)))
+        unfolding index
         here-D h =
             let l = agent-D in
             let lv = first-D in
@@ -180,12 +171,12 @@ module _ (s : Sizes) (es : List ℤ) (w : Valuation s es) where
             let k₁ = skip-le es b (b + n) v (b + y) g (omega arith) c in
             by-cases (decLt v (b + y)) (λ lt′. let k₂ = skip-le es (v + 1) (b + n) u (b + y) h (omega arith) c in absurd (let z : ⊥ = omega arith in z)) (λ lt′. omega arith)) in
             let at : ℕ = (v - b) * (2 * n - (v - b) - 1) / 2 in
-            blocks-stop es (block (only s) 3 t) (n * (n - 1) / 2) k a (at + (u - v - 1)) (length-D (only s) t) l (passed-D a (omega arith) below-D)
-            (subst (λ (y : ℕ). Fault es (block (only s) 3 t a) (at + y)) e′ (two .0))
-            (omega (arith, two .1, length-D (only s) t a, e′))
+            blocks-stop es (blockD s t) (n * (n - 1) / 2) k a (at + (u - v - 1)) (length-D s t) l (passed-D a (omega arith) below-D)
+            (subst (λ (y : ℕ). Fault es (blockD s t a) (at + y)) e′ (two .0))
+            (omega (arith, two .1, length-D s t a, e′))
 
 -- ---- E, F and G, by the places
-module _ (s : Sizes) (es : List ℤ) (w : Valuation s es) (P : ℕ → ℕ → ℕ) (c : Places s (true? es) P) where
+module _ (s : Sizes) (es : List ℤ) (w : Valuation (variableCount s) es) (P : ℕ → ℕ → ℕ) (c : Places s (true? es) P) where
   open Sizes s using (n, k, m)
 
   abbrev qP : ℕ → ℕ → ℕ → Bool
@@ -199,26 +190,23 @@ module _ (s : Sizes) (es : List ℤ) (w : Valuation s es) (P : ℕ → ℕ → �
     iffE v z a b l r = not-both s es w t a v t b v x l z x r z
 
     -- no two are at v
-    pass-E : (v : ℕ) → v < n → ((a b : ℕ) → a < b → b < k → P t a ≡ v → P t b ≡ v → ⊥) → T (all satP (block (only s) 4 t v))
-    unfolding block group groups
+    pass-E : (v : ℕ) → v < n → ((a b : ℕ) → a < b → b < k → P t a ≡ v → P t b ≡ v → ⊥) → T (all satP (blockE s t v))
     pass-E v z h =
         pairs-pass es k (λ a b. ¬X s t a v ∷ ¬X s t b v ∷ []) (λ a. qP t a v) (iffE v z) (λ a b o l f g.
         h a b o l (sym (c .here t a v x (omega arith) z .0 f)) (sym (c .here t b v x l z .0 g)))
 
     module _ (v : ℕ) (f : Lowest k (P t) n v) where
-      below-E : (y : ℕ) → y < v → T (all satP (block (only s) 4 t y))
+      below-E : (y : ℕ) → y < v → T (all satP (blockE s t y))
       below-E y l = pass-E y (omega (arith, f .within)) (λ a b o l′ e e′. let h = f .before a b o l′ (e ∙ sym e′) in omega arith)
 
-      pub none-E : v ≡ n → Fault es (row (only s) 4 t) (n * (k * (k - 1) / 2))
-      unfolding row cells
+      pub none-E : v ≡ n → Fault es (for n (blockE s t)) (n * (k * (k - 1) / 2))
       none-E e =
-          blocks-pass es (block (only s) 4 t) (k * (k - 1) / 2) n (length-E (only s) t)
-          (for-all satP n (block (only s) 4 t) .1 (λ y l. below-E y (omega arith)))
+          blocks-pass es (blockE s t) (k * (k - 1) / 2) n (length-E s t)
+          (for-all satP n (blockE s t) .1 (λ y l. below-E y (omega arith)))
 
       -- a is the first agent on v, and b counts the agents from there to the next
       pub here-E : v ≢ n → (z a b : ℕ) → z ≡ v → FirstFault k (λ i. not (eqb (P t i) z)) a → FirstFault (k - a - 1) (λ i. not (eqb (P t (a + 1 + i)) z)) b
-          → Fault es (row (only s) 4 t) (v * (k * (k - 1) / 2) + (a * (2 * k - a - 1) / 2 + b))
-      unfolding row block group cells groups
+          → Fault es (for n (blockE s t)) (v * (k * (k - 1) / 2) + (a * (2 * k - a - 1) / 2 + b))
       here-E d z a b e g h =
           let l : v < n = omega (arith, f .within) in
           let (a′, b′, o, r, i, j) = f .here l in
@@ -238,15 +226,12 @@ module _ (s : Sizes) (es : List ℤ) (w : Valuation s es) (P : ℕ → ℕ → �
           let q′ = sym (c .here t y v x (omega arith) l .0 q) in
           by-cases (decLt y a) (λ p. absurd (before-a y p q′)) (λ p. by-cases (decLt a y) (λ p′. absurd (before-b y p′ lt q′)) (λ p′. omega arith))) in
           let e′ : a + 1 + b - a - 1 ≡ b = omega arith in
-          blocks-stop es (block (only s) 4 t) (k * (k - 1) / 2) n v (a * (2 * k - a - 1) / 2 + b) (length-E (only s) t) l
-          (for-all satP v (block (only s) 4 t) .1 below-E)
-          (subst (λ (y : ℕ). Fault es (block (only s) 4 t v) (a * (2 * k - a - 1) / 2 + y)) e′ (two .0))
-          (omega (arith, two .1, length-E (only s) t v, e′))
+          blocks-stop es (blockE s t) (k * (k - 1) / 2) n v (a * (2 * k - a - 1) / 2 + b) (length-E s t) l
+          (for-all satP v (blockE s t) .1 below-E)
+          (subst (λ (y : ℕ). Fault es (blockE s t v) (a * (2 * k - a - 1) / 2 + y)) e′ (two .0))
+          (omega (arith, two .1, length-E s t v, e′))
 
   module _ (near : ℕ → ℕ → Bool) (t : ℕ) (x : t < m) where
-    abbrev g : Given
-    g = record { sizes = s; start = λ a. 0; goal = λ a. 0; near = near }
-
     abbrev clauseF : ℕ → ℕ → Clause
     clauseF a v = ¬X s t a v ∷ X s (suc t) a v ∷ (for n λ u. when (near v u) (X s (suc t) a u ∷ []))
 
@@ -268,12 +253,10 @@ module _ (s : Sizes) (es : List ℤ) (w : Valuation s es) (P : ℕ → ℕ → �
           )),
         )
 
-    pass-F : (a : ℕ) → a < k → (P t a ≢ P (suc t) a → T (near (P t a) (P (suc t) a))) → T (all satP (block g 5 t a))
-    unfolding block group groups
+    pass-F : (a : ℕ) → a < k → (P t a ≢ P (suc t) a → T (near (P t a) (P (suc t) a))) → T (all satP (blockF s near t a))
     pass-F a y h = for-all satP n _ .1 (λ v l. one-all satP (clauseF a v) .1 (iffF a v y l .1 (λ e d. rw e (h (λ e′. d (e ∙ e′))))))
 
-    here-F : (a : ℕ) → a < k → P t a ≢ P (suc t) a → (T (near (P t a) (P (suc t) a)) → ⊥) → Fault es (block g 5 t a) (P t a)
-    unfolding block group groups
+    here-F : (a : ℕ) → a < k → P t a ≢ P (suc t) a → (T (near (P t a) (P (suc t) a)) → ⊥) → Fault es (blockF s near t a) (P t a)
     here-F a y d o =
         let i = c .inside t a (omega arith) y in
         singles es n (clauseF a) (P t a)
@@ -285,22 +268,20 @@ module _ (s : Sizes) (es : List ℤ) (w : Valuation s es) (P : ℕ → ℕ → �
 
     -- r is the first agent that neither keeps its vertex nor crosses an edge
     module _ (r : ℕ) (f : FirstFault k (λ a. eqb (P t a) (P (suc t) a) || near (P t a) (P (suc t) a)) r) where
-      below-F : (a : ℕ) → a < r → T (all satP (block g 5 t a))
+      below-F : (a : ℕ) → a < r → T (all satP (blockF s near t a))
       below-F a l =
           pass-F a (omega (arith, f .within)) (λ d. or-imp (eqb (P t a) (P (suc t) a)) _ .0 (f .before a l) (λ e. d (eqb-iff _ _ .0 e)))
 
-      pub none-rowF : r ≡ k → Fault es (row g 5 t) (k * n)
-      unfolding row cells
+      pub none-rowF : r ≡ k → Fault es (for k (blockF s near t)) (k * n)
       none-rowF e =
-          blocks-pass es (block g 5 t) n k (length-F g t) (for-all satP k _ .1 (λ a l. below-F a (omega arith)))
+          blocks-pass es (blockF s near t) n k (length-F s near t) (for-all satP k _ .1 (λ a l. below-F a (omega arith)))
 
-      pub here-rowF : r ≢ k → Fault es (row g 5 t) (r * n + P t r)
-      unfolding row cells
+      pub here-rowF : r ≢ k → Fault es (for k (blockF s near t)) (r * n + P t r)
       here-rowF d =
           let l : r < k = omega (arith, f .within) in
           let no : (T (eqb (P t r) (P (suc t) r)) → ⊥) × (T (near (P t r) (P (suc t) r)) → ⊥) =
           ((λ e. f .here l (or-imp (eqb (P t r) (P (suc t) r)) _ .1 (λ h. absurd (h e)))), (λ o. f .here l (or-imp (eqb (P t r) (P (suc t) r)) _ .1 (λ h. o)))) in
-          blocks-stop es (block g 5 t) n k r (P t r) (length-F g t) l
+          blocks-stop es (blockF s near t) n k r (P t r) (length-F s near t) l
           (for-all satP r _ .1 below-F)
           (here-F r l (λ e. no .0 (eqb-iff _ _ .1 e)) (no .1))
           (c .inside t r (omega arith) l)
@@ -308,7 +289,7 @@ module _ (s : Sizes) (es : List ℤ) (w : Valuation s es) (P : ℕ → ℕ → �
   -- G, where no two agents share a vertex at time t
   module _ (t : ℕ) (x : t < m) (apart : (a b : ℕ) → a < b → b < k → P t a ≢ P t b) where
     abbrev other : ℕ → ℕ → List Clause
-    other = groupG s t
+    other a b = when (not (eqb a b)) (follows s t a b)
 
     iffG : (a b v : ℕ) → a < k → b < k → v < n → T (satP (¬X s t b v ∷ ¬X s (suc t) a v ∷ [])) ↔ (v ≡ P t b → v ≡ P (suc t) a → ⊥)
     iffG a b v y z l =
@@ -344,8 +325,7 @@ module _ (s : Sizes) (es : List ℤ) (w : Valuation s es) (P : ℕ → ℕ → �
     above-others a b l = others-length b n a l (follows s t a) (λ i h. for1-length n _)
 
     here-others : (a b : ℕ) → a < k → b < k → b ≢ a → ((i : ℕ) → i < b → i ≢ a → P t i ≢ P (suc t) a) → P t b ≡ P (suc t) a
-        → Fault es (block (only s) 6 t a) (length (for b (other a)) + P (suc t) a) × (length (for b (other a)) + P (suc t) a < (k - 1) * n)
-    unfolding block group groups
+        → Fault es (blockG s t a) (length (for b (other a)) + P (suc t) a) × (length (for b (other a)) + P (suc t) a < (k - 1) * n)
     here-others a b y z d h e =
         let o : other a b ≡ follows s t a b = rw (ne-eqb a b (λ e. d (sym e))) in
         let i = c .inside (suc t) a (omega arith) y in
@@ -357,8 +337,7 @@ module _ (s : Sizes) (es : List ℤ) (w : Valuation s es) (P : ℕ → ℕ → �
 
     -- r is the first agent that changes its vertex and goes to one on which an agent stood
     module _ (r : ℕ) (f : FirstFault k (λ a. eqb (P t a) (P (suc t) a) || (every k λ b. not (eqb (P t b) (P (suc t) a)))) r) where
-      below-G : (a : ℕ) → a < r → T (all satP (block (only s) 6 t a))
-      unfolding block group groups
+      below-G : (a : ℕ) → a < r → T (all satP (blockG s t a))
       below-G a l =
           let y : a < k = omega (arith, f .within) in
           pass-others a k y (le-refl k) (λ b o d e.
@@ -366,14 +345,12 @@ module _ (s : Sizes) (es : List ℤ) (w : Valuation s es) (P : ℕ → ℕ → �
           (λ q. by-cases (decLt a b) (λ p. apart a b p o (q ∙ sym e)) (λ p. apart b a (omega arith) y (e ∙ sym q)))
           (λ q. keeps-or k (P t) (P (suc t)) a .0 (f .before a l) q b o e))
 
-      pub none-rowG : r ≡ k → Fault es (row (only s) 6 t) (k * ((k - 1) * n))
-      unfolding row cells
+      pub none-rowG : r ≡ k → Fault es (for k (blockG s t)) (k * ((k - 1) * n))
       none-rowG e =
-          subst (Fault es (for k (block (only s) 6 t))) (for-length k ((k - 1) * n) (block (only s) 6 t) (λ a l. length-G (only s) t a l))
-          (fault-all es (for k (block (only s) 6 t)) (for-all satP k _ .1 (λ a l. below-G a (omega arith))))
+          subst (Fault es (for k (blockG s t))) (for-length k ((k - 1) * n) (blockG s t) (λ a l. length-G s t a l))
+          (fault-all es (for k (blockG s t)) (for-all satP k _ .1 (λ a l. below-G a (omega arith))))
 
-      pub here-rowG : (b i : ℕ) → Enters k (P t) (P (suc t)) r b → (b < r → i ≡ b) → (r < b → i ≡ b - 1) → Fault es (row (only s) 6 t) (r * ((k - 1) * n) + (i * n + P (suc t) r))
-      unfolding row cells
+      pub here-rowG : (b i : ℕ) → Enters k (P t) (P (suc t)) r b → (b < r → i ≡ b) → (r < b → i ≡ b - 1) → Fault es (for k (blockG s t)) (r * ((k - 1) * n) + (i * n + P (suc t) r))
       here-rowG b i en h h′ =
           let l = en .agent in
           let d = en .another in
@@ -381,12 +358,12 @@ module _ (s : Sizes) (es : List ℤ) (w : Valuation s es) (P : ℕ → ℕ → �
           by-cases (decLt b r) (λ o. below-others r b o ∙ ap (λ (x : ℕ). x * n) (sym (h o)))
           (λ o. let o′ : r < b = omega arith in above-others r b o′ ∙ ap (λ (x : ℕ). x * n) (sym (h′ o′))) in
           let (g, o) = here-others r b l (en .stander) d (λ i lt q. en .before i lt) (en .stood) in
-          subst (λ (x : ℕ). Fault es (for k (block (only s) 6 t)) (r * ((k - 1) * n) + (x + P (suc t) r))) e
-          (subst (λ (x : ℕ). Fault es (for k (block (only s) 6 t)) (x + (length (for b (other r)) + P (suc t) r))) (for-length r ((k - 1) * n) (block (only s) 6 t) (λ a o. length-G (only s) t a (omega arith)))
-          (for-stop es (block (only s) 6 t) k r (length (for b (other r)) + P (suc t) r) l (for-all satP r _ .1 below-G) g (omega (arith, length-G (only s) t r l))))
+          subst (λ (x : ℕ). Fault es (for k (blockG s t)) (r * ((k - 1) * n) + (x + P (suc t) r))) e
+          (subst (λ (x : ℕ). Fault es (for k (blockG s t)) (x + (length (for b (other r)) + P (suc t) r))) (for-length r ((k - 1) * n) (blockG s t) (λ a o. length-G s t a (omega arith)))
+          (for-stop es (blockG s t) k r (length (for b (other r)) + P (suc t) r) l (for-all satP r _ .1 below-G) g (omega (arith, length-G s t r l))))
 
 -- ---- A and B, by one entry each
-pub units-fault : (s : Sizes) (es : List ℤ) → Valuation s es → (t : ℕ) (P : ℕ → ℕ) (r : ℕ) → t ≤ s .m → ((a : ℕ) → a < s .k → P a < s .n)
+pub units-fault : (s : Sizes) (es : List ℤ) → Valuation (variableCount s) es → (t : ℕ) (P : ℕ → ℕ) (r : ℕ) → t ≤ s .m → ((a : ℕ) → a < s .k → P a < s .n)
     → FirstFault (s .k) (λ a. not (denies es ((t * s .k + a) * s .n + P a))) r → FirstFault (s .k) (λ a. true? es (X s t a (P a))) r
 unfolding index
 units-fault s es w t P r x y f =

@@ -2,7 +2,7 @@
 use mathlib.Core.Path.{_≡_}
 use mathlib.Core.Logic.{_↔_, _≢_}
 use mathlib.Core.List.{List, []}
-use mathlib.Core.Bool.{Bool, false}
+use mathlib.Core.Bool.{Bool}
 use Prim.Native.Nat.{ℕ, suc, _≤_, _<_}
 use lib.ListN.{length, getD}
 use lib.Dec.{T}
@@ -12,9 +12,9 @@ use Rattle.answers.specs.Fault.{FirstFault}
 use Rattle.instance.specs.declared.Sizes.{Sizes}
 use Rattle.instance.specs.declared.Checked.{Checked}
 use Rattle.instance.specs.Instance.{adjacent}
-use Rattle.formula.specs.Variables.{X}
+use Rattle.formula.specs.Variables.{X, variableCount}
 use Rattle.formula.specs.Formula.{Clause}
-use Rattle.formula.specs.Blocks.{Given, cells, family, block}
+use Rattle.formula.specs.Blocks.{Given, held, cells, family, block}
 use Rattle.plan.specs.Plan.{planBytes, place}
 use Rattle.valuation.specs.Valuation.{entry, sameNumber, true?, satisfied?}
 use Rattle.valuation.specs.Satisfying.{Valuation}
@@ -31,11 +31,11 @@ pub record Stop (test : ℕ → Bool) (low n r : ℕ) : Type 0 where
   pub before : (i : ℕ) → low ≤ i → i < r → T (test i)
   pub here : r < n → T (test r) → ⊥
 
--- of the numbers from `low` on, below n: how many fail the test, and the sum of those that do
-pub record Tallied (test : ℕ → Bool) (low n count sum : ℕ) : Type 0 where
-  pub none : count ≡ 0 → (sum ≡ 0) × ((i : ℕ) → low ≤ i → i < n → T (test i))
-  pub one : count ≡ 1 → (low ≤ sum) × (sum < n) × (T (test sum) → ⊥) × ((i : ℕ) → low ≤ i → i < n → i ≢ sum → T (test i))
-  pub more : 2 ≤ count → (v w : ℕ) × (low ≤ v) × (v < w) × (w < n) × (T (test v) → ⊥) × (T (test w) → ⊥)
+-- of the numbers below n: how many fail the test, and the sum of those that do
+pub record Tallied (test : ℕ → Bool) (n count sum : ℕ) : Type 0 where
+  pub none : count ≡ 0 → (sum ≡ 0) × ((i : ℕ) → i < n → T (test i))
+  pub one : count ≡ 1 → (sum < n) × (T (test sum) → ⊥) × ((i : ℕ) → i < n → i ≢ sum → T (test i))
+  pub more : 2 ≤ count → (v w : ℕ) × (v < w) × (w < n) × (T (test v) → ⊥) × (T (test w) → ⊥)
 
 -- entry i is the variable number i + 1; entry i is its negative
 module _ (entries : List ℤ) where
@@ -64,21 +64,12 @@ module _ (s : Sizes) where
   -- byte t·k + a of p is what the entries say of agent a at time t
   pub record Read (entries : List ℤ) (p : List ℕ) : Type 0 where
     pub size : length p ≡ planBytes s
-    pub valid : Valuation s entries
+    pub valid : Valuation (variableCount s) entries
     pub cells : (t a : ℕ) → t < suc m → a < k → Seen n (λ v. true? entries (X s t a v)) (place s p t a)
 
--- what the families are given: by sizes alone, for those that need no more; and as the code has it
-abbrev pub only : Sizes → Given
-only s = record { sizes = s; start = λ a. 0; goal = λ a. 0; near = λ v w. false }
-
-abbrev pub held : List ℕ → Checked → Given
-held b c =
-    record {
-      sizes = c .sizes;
-      start = λ a. getD (c .starts) a 0;
-      goal = λ a. getD (c .goals) a 0;
-      near = adjacent (instanceOf b c);
-    }
+-- what the families are given, as the code has it
+abbrev pub heldBy : List ℕ → Checked → Given
+heldBy b c = held c (adjacent (instanceOf b c))
 
 module _ (g : Given) where
   -- row t of the family with a number: its blocks of time t

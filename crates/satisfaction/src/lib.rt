@@ -9,9 +9,11 @@ ghost use mathlib.Core.Path.{_≡_};
 ghost use mathlib.Core.Bool.{_&&_, _||_};
 ghost use Prim.Native.Nat.{ℕ, suc, _+_, _*_, _-_, _/_, _<_, _≤_};
 ghost use lib.ListN.{length, getD, take};
+ghost use Rattle.lists.specs.Loop.{for};
 ghost use Rattle.answers.specs.Fault.{FirstFault};
-ghost use Rattle.formula.specs.Variables.{variableCount, X};
-ghost use Rattle.formula.specs.Formula.{clauses};
+ghost use Rattle.instance.specs.Instance.{adjacent};
+ghost use Rattle.formula.specs.Variables.{highest, variableCount, X};
+ghost use Rattle.formula.specs.Formula.{clauses, blockC, blockD, blockE, blockF, blockG};
 ghost use Rattle.formula.specs.Blocks.{steps};
 ghost use Rattle.instance.specs.Limits.{Limits};
 ghost use Rattle.plan.specs.Plan.{planBytes, place};
@@ -19,7 +21,7 @@ ghost use Rattle.valuation.specs.Valuation.{true?, rightEntry};
 ghost use Rattle.valuation.specs.Satisfying.{Valuation};
 ghost use Rattle.valuation.specs.Places.{Places};
 ghost use Rattle.instance.specs.Accepted.{Accepted, instanceOf};
-ghost use Rattle.satisfaction.specs.Rows.{Fault, Stop, Tallied, says, denies, Seen, Read, Lowest, only, held, row, Before};
+ghost use Rattle.satisfaction.specs.Rows.{Fault, Stop, Tallied, says, denies, Seen, Read, Lowest, heldBy, row, Before};
 ghost use lib.IntN.{ℤ};
 ghost use mathlib.Core.List.{List};
 ghost use mathlib.Core.Logic.{_≢_};
@@ -42,22 +44,15 @@ pub struct Part {
     pub fault: usize,
 }
 
-// Of some entries: how many are not their variables' negatives, and the sum of their indexes.
+// Of the entries of one agent and time: how many are not their variables' negatives, and the sum of their vertices.
 pub struct Tally {
     pub count: u32,
     pub sum: u32,
 }
 
-// A byte as a number.
-fn wide(x: u8) -> usize
-    ensures { λ r. ⌜ (r ≡ x) × (r < 256) ⌝ }
-{
-    x as usize
-}
-
 // Is entry i its variable's negative or, where that is asked too, its variable?
 fn passes(entries: &[i32], i: usize, both: bool) -> bool
-    requires { ⌜ (i < length (now entries)) × (i < 33792) ⌝ }
+    requires { ⌜ (i < length (now entries)) × (i < highest) ⌝ }
     ensures { λ r. ⌜ r ≡ ((both && says (now (entries .entry)) i) || denies (now (entries .entry)) i) ⌝ }
 {
     let e = entries[i];
@@ -68,17 +63,17 @@ fn passes(entries: &[i32], i: usize, both: bool) -> bool
     variables::is_negation(e, x)
 }
 
-// The entries from `low` to `end`. The loop has one way out, so that the compiler may take several entries at once.
-fn tally_row(entries: &[i32], low: usize, end: usize) -> Tally
-    requires { ⌜ (low ≤ end) × (end ≤ length (now entries)) × (end ≤ 33792) ⌝ }
-    ensures { λ r. ⌜ Tallied (denies (now (entries .entry))) low end (r .count) (r .sum) ⌝ }
+// The n entries from `base` on. The loop has one way out, so that the compiler may take several entries at once.
+fn tally_row(entries: &[i32], base: usize, n: usize) -> Tally
+    requires { ⌜ (base + n ≤ length (now entries)) × (base + n ≤ highest) × (n ≤ 64) ⌝ }
+    ensures { λ r. ⌜ Tallied (λ v. denies (now (entries .entry)) (base + v)) n (r .count) (r .sum) ⌝ }
 {
     let mut count: u32 = 0;
     let mut sum: u32 = 0;
-    for i in low..end {
-        if !passes(entries, i, false) {
+    for v in 0..n {
+        if !passes(entries, base + v, false) {
             count += 1;
-            sum += i as u32;
+            sum += v as u32;
         }
     }
     Tally { count, sum }
@@ -86,7 +81,7 @@ fn tally_row(entries: &[i32], low: usize, end: usize) -> Tally
 
 // The first entry from `low` on that is not its variable's negative nor, where that is asked too, its variable; or `end`.
 fn stop_from(entries: &[i32], low: usize, end: usize, both: bool) -> usize
-    requires { ⌜ (low ≤ end) × (end ≤ length (now entries)) × (end ≤ 33792) ⌝ }
+    requires { ⌜ (low ≤ end) × (end ≤ length (now entries)) × (end ≤ highest) ⌝ }
     ensures { λ r. ⌜ Stop (λ i. (both && says (now (entries .entry)) i) || denies (now (entries .entry)) i) low end r ⌝ }
 {
     for i in low..end {
@@ -99,12 +94,12 @@ fn stop_from(entries: &[i32], low: usize, end: usize, both: bool) -> usize
 
 // The n entries from `base` on.
 fn read_row(entries: &[i32], base: usize, n: usize) -> Row
-    requires { ⌜ (base + n ≤ length (now entries)) × (base + n ≤ 33792) ⌝ }
+    requires { ⌜ (base + n ≤ length (now entries)) × (base + n ≤ highest) × (n ≤ 64) ⌝ }
     ensures { λ r. ⌜ Stop (rightEntry (now (entries .entry))) base (base + n) (r .wrong) ⌝ }
     ensures { λ r. ⌜ (base + n ≤ r .wrong → Seen n (λ v. says (now (entries .entry)) (base + v)) (r .place)) ⌝ }
 {
     let end = base + n;
-    let t = tally_row(entries, base, end);
+    let t = tally_row(entries, base, n);
     if t.count == 0 {
         return Row {
             wrong: end,
@@ -113,13 +108,17 @@ fn read_row(entries: &[i32], base: usize, n: usize) -> Row
     }
     if t.count == 1 {
         let v = t.sum as usize;
-        if passes(entries, v, true) {
+        let at = base + v;
+        if passes(entries, at, true) {
             return Row {
                 wrong: end,
-                place: v - base,
+                place: v,
             };
         }
-        return Row { wrong: v, place: 0 };
+        return Row {
+            wrong: at,
+            place: 0,
+        };
     }
     let u = stop_from(entries, base, end, true);
     Row {
@@ -137,7 +136,7 @@ pub fn read_entries(entries: &[i32], s: Sizes) -> Reading
     ensures { λ r. ⌜ (variableCount s ≤ r .wrong → Read s (now (entries .entry)) (take (planBytes s) (r .places))) ⌝ }
 {
     let n = s.n;
-    let cells = (s.m + 1) * s.k;
+    let cells = counts::plan_bytes(s);
     let mut places = [0u8; 528];
     for i in 0..cells {
         let base = i * n;
@@ -159,14 +158,14 @@ pub fn read_entries(entries: &[i32], s: Sizes) -> Reading
 // Families A and B: the first agent that is not at its vertex of the array at time t, or k.
 fn unit_fault(entries: &[i32], s: Sizes, t: usize, ends: [u8; 16]) -> usize
     requires { ⌜ Limits s ⌝ }
-    requires { ⌜ Valuation s (now entries) ⌝ }
+    requires { ⌜ Valuation (variableCount s) (now entries) ⌝ }
     requires { ⌜ (t ≤ s .m) × (length ends ≡ 16) × ((a : ℕ) → a < s .k → getD ends a 0 < s .n) ⌝ }
     ensures { λ r. ⌜ FirstFault (s .k) (λ a. true? (now (entries .entry)) (X s t a (getD ends a 0))) r ⌝ }
 {
     let n = s.n;
     let k = s.k;
     for a in 0..k {
-        let i = (t * k + a) * n + wide(ends[a]);
+        let i = (t * k + a) * n + instance::wide(ends[a]);
         if passes(entries, i, false) {
             return a;
         }
@@ -178,21 +177,13 @@ fn unit_fault(entries: &[i32], s: Sizes, t: usize, ends: [u8; 16]) -> usize
 fn fault_c(p: &[u8], s: Sizes, t: usize) -> usize
     requires { ⌜ Limits s ⌝ }
     requires { ⌜ (length (now p) ≡ planBytes s) × (t ≤ s .m) ⌝ }
-    ensures { λ r. ⌜ ((es : List ℤ) → Read s es (now (p .entry)) → Fault es (row (only s) 2 t) r) ⌝ }
+    ensures { λ r. ⌜ ((es : List ℤ) → Read s es (now (p .entry)) → Fault es (for (s .k) (blockC s t)) r) ⌝ }
 {
     let k = s.k;
     conditions::first_on(p, t * k, k, s.n as u8)
 }
 
-// The number of pairs v < w below n.
-fn pairs_of(n: usize) -> usize
-    requires { ⌜ (1 ≤ n) × (n ≤ 64) ⌝ }
-    ensures { λ r. ⌜ (r ≡ n * (n - 1) / 2) × (r ≤ 2048) ⌝ }
-{
-    n * (n - 1) / 2
-}
-
-// The place of a pair among them: of v and the number that stands `gap` numbers after the next.
+// The place of a pair among the pairs v < w below n: of v and the number that stands `gap` numbers after the next.
 fn pair_at(n: usize, v: usize, gap: usize) -> usize
     requires { ⌜ (v < n) × (n ≤ 64) × (gap ≤ 64) ⌝ }
     ensures { λ r. ⌜ (r ≡ v * (2 * n - v - 1) / 2 + gap) × (r ≤ 8192) ⌝ }
@@ -205,11 +196,11 @@ fn fault_d(entries: &[i32], p: &[u8], s: Sizes, t: usize) -> usize
     requires { ⌜ Limits s ⌝ }
     requires { ⌜ Read s (now entries) (now p) ⌝ }
     requires { ⌜ t ≤ s .m ⌝ }
-    ensures { λ r. ⌜ Fault (now (entries .entry)) (row (only s) 3 t) r ⌝ }
+    ensures { λ r. ⌜ Fault (now (entries .entry)) (for (s .k) (blockD s t)) r ⌝ }
 {
     let n = s.n;
     let k = s.k;
-    let size = pairs_of(n);
+    let size = counts::pair_count(n);
     let row = t * k;
     let a = conditions::first_on(p, row, k, (n + 1) as u8);
     if a == k {
@@ -228,7 +219,7 @@ fn lower(p: &[u8], row: usize, a: usize, low: usize) -> usize
     ensures { λ r. ⌜ ((n : ℕ) → Lowest a (λ i. getD (now (p .entry)) (row + i) 0) n low → Lowest (a + 1) (λ i. getD (now (p .entry)) (row + i) 0) n r) ⌝ }
 {
     let x = p[row + a];
-    let v = wide(x);
+    let v = instance::wide(x);
     if low <= v {
         return low;
     }
@@ -254,11 +245,11 @@ fn lowest_shared(p: &[u8], row: usize, k: usize, n: usize) -> usize
 fn fault_e(p: &[u8], s: Sizes, t: usize) -> usize
     requires { ⌜ Limits s ⌝ }
     requires { ⌜ (length (now p) ≡ planBytes s) × (t ≤ s .m) ⌝ }
-    ensures { λ r. ⌜ ((es : List ℤ) → Valuation s es → Places s (true? es) (place s (now (p .entry))) → Fault es (row (only s) 4 t) r) ⌝ }
+    ensures { λ r. ⌜ ((es : List ℤ) → Valuation (variableCount s) es → Places s (true? es) (place s (now (p .entry))) → Fault es (for (s .n) (blockE s t)) r) ⌝ }
 {
     let n = s.n;
     let k = s.k;
-    let size = pairs_of(k);
+    let size = counts::pair_count(k);
     let row = t * k;
     let v = lowest_shared(p, row, k, n);
     if v == n {
@@ -273,16 +264,16 @@ fn fault_e(p: &[u8], s: Sizes, t: usize) -> usize
 fn fault_f(b: &[u8], c: Checked, p: &[u8], t: usize) -> usize
     requires { ⌜ Accepted (now b) c ⌝ }
     requires { ⌜ (length (now p) ≡ planBytes (c .sizes)) × (t < c .sizes .m) ⌝ }
-    ensures { λ r. ⌜ ((es : List ℤ) → Valuation (c .sizes) es → Places (c .sizes) (true? es) (place (c .sizes) (now (p .entry))) → Fault es (row (held (now (b .entry)) c) 5 t) r) ⌝ }
+    ensures { λ r. ⌜ ((es : List ℤ) → Valuation (variableCount (c .sizes)) es → Places (c .sizes) (true? es) (place (c .sizes) (now (p .entry))) → Fault es (for (c .sizes .k) (blockF (c .sizes) (adjacent (instanceOf (now (b .entry)) c)) t)) r) ⌝ }
 {
     let s = c.sizes;
     let n = s.n;
     let k = s.k;
-    let a = conditions::fault_1(b, c, p, t);
+    let a = conditions::step_fault(b, c, 0, p, t);
     if a == k {
         return k * n;
     }
-    a * n + wide(p[t * k + a])
+    a * n + instance::wide(p[t * k + a])
 }
 
 // The place of agent b among the agents other than a.
@@ -297,47 +288,33 @@ fn other_at(a: usize, b: usize) -> usize
 
 // Family G at time t, where no two agents share a vertex then: the first agent that fails condition 2, the agent that stood where it
 // goes, and that vertex.
-fn fault_g(p: &[u8], s: Sizes, t: usize) -> usize
-    requires { ⌜ Limits s ⌝ }
-    requires { ⌜ (length (now p) ≡ planBytes s) × (t < s .m) ⌝ }
-    requires { ⌜ ((a b : ℕ) → a < b → b < s .k → place s (now p) t a ≢ place s (now p) t b) ⌝ }
-    ensures { λ r. ⌜ ((es : List ℤ) → Valuation s es → Places s (true? es) (place s (now (p .entry))) → Fault es (row (only s) 6 t) r) ⌝ }
+fn fault_g(b: &[u8], c: Checked, p: &[u8], t: usize) -> usize
+    requires { ⌜ Accepted (now b) c ⌝ }
+    requires { ⌜ (length (now p) ≡ planBytes (c .sizes)) × (t < c .sizes .m) ⌝ }
+    requires { ⌜ ((i j : ℕ) → i < j → j < c .sizes .k → place (c .sizes) (now p) t i ≢ place (c .sizes) (now p) t j) ⌝ }
+    ensures { λ r. ⌜ ((es : List ℤ) → Valuation (variableCount (c .sizes)) es → Places (c .sizes) (true? es) (place (c .sizes) (now (p .entry))) → Fault es (for (c .sizes .k) (blockG (c .sizes) t)) r) ⌝ }
 {
+    let s = c.sizes;
     let n = s.n;
     let k = s.k;
     let size = (k - 1) * n;
     let row = t * k;
-    let a = conditions::fault_2(s, p, t);
+    let a = conditions::step_fault(b, c, 1, p, t);
     if a == k {
         return k * size;
     }
     let w = p[row + k + a];
-    let b = conditions::first_on(p, row, k, w);
-    a * size + (other_at(a, b) * n + wide(w))
-}
-
-// The number of rows of a family.
-fn rows_of(s: Sizes, which: usize) -> usize
-    requires { ⌜ Limits s ⌝ }
-    requires { ⌜ which < 7 ⌝ }
-    ensures { λ r. ⌜ (r ≡ steps s which) × (r ≤ 33) ⌝ }
-{
-    if which < 2 {
-        return 1;
-    }
-    if which < 5 {
-        return s.m + 1;
-    }
-    s.m
+    let stander = conditions::first_on(p, row, k, w);
+    a * size + (other_at(a, stander) * n + instance::wide(w))
 }
 
 // Row t of a family, where the families before it have a true literal in every clause.
 fn row_fault(b: &[u8], c: Checked, entries: &[i32], p: &[u8], which: usize, t: usize) -> Part
     requires { ⌜ Accepted (now b) c ⌝ }
     requires { ⌜ Read (c .sizes) (now entries) (now p) ⌝ }
-    requires { ⌜ (which < 7) × (t < steps (c .sizes) which) × Before (held (now b) c) (now entries) which ⌝ }
-    ensures { λ r. ⌜ (length (row (held (now (b .entry)) c) which t) ≡ r .size) × (r .size ≤ 32768) ⌝ }
-    ensures { λ r. ⌜ Fault (now (entries .entry)) (row (held (now (b .entry)) c) which t) (r .fault) ⌝ }
+    requires { ⌜ (which < 7) × (t < steps (c .sizes) which) × Before (heldBy (now b) c) (now entries) which ⌝ }
+    ensures { λ r. ⌜ (length (row (heldBy (now (b .entry)) c) which t) ≡ r .size) × (r .size ≤ 32768) ⌝ }
+    ensures { λ r. ⌜ Fault (now (entries .entry)) (row (heldBy (now (b .entry)) c) which t) (r .fault) ⌝ }
 {
     let s = c.sizes;
     let n = s.n;
@@ -362,11 +339,11 @@ fn row_fault(b: &[u8], c: Checked, entries: &[i32], p: &[u8], which: usize, t: u
             fault: fault_c(p, s, t),
         },
         3 => Part {
-            size: k * pairs_of(n),
+            size: k * counts::pair_count(n),
             fault: fault_d(entries, p, s, t),
         },
         4 => Part {
-            size: n * pairs_of(k),
+            size: n * counts::pair_count(k),
             fault: fault_e(p, s, t),
         },
         5 => Part {
@@ -375,7 +352,7 @@ fn row_fault(b: &[u8], c: Checked, entries: &[i32], p: &[u8], which: usize, t: u
         },
         _ => Part {
             size: k * ((k - 1) * n),
-            fault: fault_g(p, s, t),
+            fault: fault_g(b, c, p, t),
         },
     }
 }
@@ -389,7 +366,7 @@ pub fn clause_fault(b: &[u8], c: Checked, entries: &[i32], p: &[u8]) -> usize
     let s = c.sizes;
     let mut at: usize = 0;
     for which in 0..7usize {
-        let count = rows_of(s, which);
+        let count = counts::steps_of(s, which);
         for t in 0..count {
             let r = row_fault(b, c, entries, p, which, t);
             if r.fault < r.size {

@@ -11,7 +11,7 @@ use Rattle.lists.proofs.Loops.{for-all}
 use Rattle.valuation.specs.Valuation.{satisfied?}
 use Rattle.formula.specs.Blocks.{steps, family}
 use Rattle.instance.proofs.Accepted.{limits-known}
-use Rattle.satisfaction.specs.Rows.{Before, held, row}
+use Rattle.satisfaction.specs.Rows.{Before, heldBy, row}
 use Rattle.satisfaction.proofs.Laws.{block-passed}
 use Rattle.satisfaction.proofs.Families.{in-families, next-family, all-families, whole}
 use Rattle.satisfaction.proofs.clause_fault.Statement.{statement}
@@ -19,14 +19,14 @@ use Rattle.satisfaction.proofs.clause_fault.Tie as tie
 
 abbrev Inv-loop2 : tie.InvT-loop2
 Inv-loop2 b c entries p s at₀ which count t₀ at t =
-    (t ≤ count) × (at ≤ which * 1081344 + t * 32768) × (at ≡ length (for which (family (held b c))) + length (for t (row (held b c) which)))
-    × T (all (satisfied? entries) (for t (row (held b c) which)))
+    (t ≤ count) × (at ≤ which * 1081344 + t * 32768) × (at ≡ length (for which (family (heldBy b c))) + length (for t (row (heldBy b c) which)))
+    × T (all (satisfied? entries) (for t (row (heldBy b c) which)))
 
 abbrev μ-loop2 : tie.MeasureT-loop2
 μ-loop2 b c entries p s at₀ which count t₀ at t = count - t
 
 abbrev Inv-loop : tie.InvT-loop
-Inv-loop b c entries p s at₀ which₀ at which = (which ≤ 7) × (at ≤ which * 1081344) × (at ≡ length (for which (family (held b c)))) × T (all (satisfied? entries) (for which (family (held b c))))
+Inv-loop b c entries p s at₀ which₀ at which = (which ≤ 7) × (at ≤ which * 1081344) × (at ≡ length (for which (family (heldBy b c)))) × T (all (satisfied? entries) (for which (family (heldBy b c))))
 
 abbrev μ-loop : tie.MeasureT-loop
 μ-loop b c entries p s at₀ which₀ at which = 7 - which
@@ -34,27 +34,27 @@ abbrev μ-loop : tie.MeasureT-loop
 loop-holds : tie.Need-loop-holds Inv-loop2 μ-loop2 Inv-loop μ-loop
 loop-holds c = (omega arith, omega arith, refl, tt)
 
-rows-of-requires : tie.Need-rows-of-requires Inv-loop2 μ-loop2 Inv-loop μ-loop
-rows-of-requires c κs = (limits-known (c .before .before .before .before .before .args .b .now) (c .before .before .before .before .before .args .c) (c .before .before .before .before .before .pre .0), c .loop-test .taken)
+steps-of-requires : tie.Need-steps-of-requires Inv-loop2 μ-loop2 Inv-loop μ-loop
+steps-of-requires c κs = (limits-known (c .before .before .before .before .before .args .b .now) (c .before .before .before .before .before .args .c) (c .before .before .before .before .before .pre .0), c .loop-test .taken)
 
 loop2-holds : tie.Need-loop2-holds Inv-loop2 μ-loop2 Inv-loop μ-loop
 loop2-holds c = (omega arith, omega (arith, c .before .before .loop .inv .1), omega (arith, c .before .before .loop .inv .2), tt)
 
 row-fault-requires : tie.Need-row-fault-requires Inv-loop2 μ-loop2 Inv-loop μ-loop
 unfolding Before
-row-fault-requires c κs = (c .before .before .before .before .before .before .before .before .pre .0, (c .before .before .before .before .before .before .before .before .pre .1, (c .before .before .before .loop-test .taken, omega (arith, c .loop2-test .taken, c .before .before .rows-of .ensures .0), for-all (satisfied? (c .before .before .before .before .before .before .before .before .args .entries .now)) (c .before .before .before .before .loop .which) (family (held (c .before .before .before .before .before .before .before .before .args .b .now) (c .before .before .before .before .before .before .before .before .args .c))) .0 (c .before .before .before .before .loop .inv .3))))
+row-fault-requires c κs = (c .before .before .before .before .before .before .before .before .pre .0, (c .before .before .before .before .before .before .before .before .pre .1, (c .before .before .before .loop-test .taken, omega (arith, c .loop2-test .taken, c .before .before .steps-of .ensures .0), for-all (satisfied? (c .before .before .before .before .before .before .before .before .args .entries .now)) (c .before .before .before .before .loop .which) (family (heldBy (c .before .before .before .before .before .before .before .before .args .b .now) (c .before .before .before .before .before .before .before .before .args .c))) .0 (c .before .before .before .before .loop .inv .3))))
 
 add-result : tie.Need-add-result Inv-loop2 μ-loop2 Inv-loop μ-loop
-add-result c = omega (arith, c .before .before .before .before .before .loop2 .inv .0, c .before .before .before .before .before .loop2 .inv .1, c .before .before .before .before .before .before .rows-of .ensures .1, c .before .before .before .row-fault .ensures .0 .1, c .before .before .before .before .before .before .before .loop-test .taken, c .before .if1 .taken)
+add-result c = omega (arith, c .before .before .before .before .before .loop2 .inv .0, c .before .before .before .before .before .loop2 .inv .1, c .before .before .before .before .before .before .steps-of .ensures .1, c .before .before .before .row-fault .ensures .0 .1, c .before .before .before .before .before .before .before .loop-test .taken, c .before .if1 .taken)
 
 returns : tie.Need-returns Inv-loop2 μ-loop2 Inv-loop μ-loop
-returns c = whole (c .before .before .before .before .before .before .before .before .before .before .before .before .args .b .now) (c .before .before .before .before .before .before .before .before .before .before .before .before .args .c) (c .before .before .before .before .before .before .before .before .before .before .before .before .pre .0) (c .before .before .before .before .before .before .before .before .before .before .before .before .args .entries .now) _ (in-families (held (c .before .before .before .before .before .before .before .before .before .before .before .before .args .b .now) (c .before .before .before .before .before .before .before .before .before .before .before .before .args .c)) (c .before .before .before .before .before .before .before .before .before .before .before .before .args .entries .now) (c .before .before .before .before .before .before .before .before .loop .which) (c .before .before .before .before .before .loop2 .at) (c .before .before .before .before .before .loop2 .t) (c .before .before .before .before .before .before .before .before .loop .inv .3) (c .before .before .before .before .before .loop2 .inv .2) (c .before .before .before .before .before .loop2 .inv .3) (c .before .before .before .row-fault .result .fault) (c .before .before .before .before .before .before .before .loop-test .taken) (omega (arith, c .before .before .before .before .loop2-test .taken, c .before .before .before .before .before .before .rows-of .ensures .0)) (c .before .before .before .row-fault .ensures .1) (omega (arith, c .before .before .before .row-fault .ensures .0 .0, c .before .if1 .taken)))
+returns c = whole (c .before .before .before .before .before .before .before .before .before .before .before .before .args .b .now) (c .before .before .before .before .before .before .before .before .before .before .before .before .args .c) (c .before .before .before .before .before .before .before .before .before .before .before .before .pre .0) (c .before .before .before .before .before .before .before .before .before .before .before .before .args .entries .now) _ (in-families (heldBy (c .before .before .before .before .before .before .before .before .before .before .before .before .args .b .now) (c .before .before .before .before .before .before .before .before .before .before .before .before .args .c)) (c .before .before .before .before .before .before .before .before .before .before .before .before .args .entries .now) (c .before .before .before .before .before .before .before .before .loop .which) (c .before .before .before .before .before .loop2 .at) (c .before .before .before .before .before .loop2 .t) (c .before .before .before .before .before .before .before .before .loop .inv .3) (c .before .before .before .before .before .loop2 .inv .2) (c .before .before .before .before .before .loop2 .inv .3) (c .before .before .before .row-fault .result .fault) (c .before .before .before .before .before .before .before .loop-test .taken) (omega (arith, c .before .before .before .before .loop2-test .taken, c .before .before .before .before .before .before .steps-of .ensures .0)) (c .before .before .before .row-fault .ensures .1) (omega (arith, c .before .before .before .row-fault .ensures .0 .0, c .before .if1 .taken)))
 
 add-at : tie.Need-add-at Inv-loop2 μ-loop2 Inv-loop μ-loop
-add-at c = omega (arith, c .before .before .before .before .before .loop2 .inv .0, c .before .before .before .before .before .loop2 .inv .1, c .before .before .before .before .before .before .rows-of .ensures .1, c .before .before .before .row-fault .ensures .0 .1, c .before .before .before .before .before .before .before .loop-test .taken)
+add-at c = omega (arith, c .before .before .before .before .before .loop2 .inv .0, c .before .before .before .before .before .loop2 .inv .1, c .before .before .before .before .before .before .steps-of .ensures .1, c .before .before .before .row-fault .ensures .0 .1, c .before .before .before .before .before .before .before .loop-test .taken)
 
 add-t : tie.Need-add-t Inv-loop2 μ-loop2 Inv-loop μ-loop
-add-t c = omega (arith, c .before .before .before .before .loop2-test .taken, c .before .before .before .before .before .before .rows-of .ensures .1)
+add-t c = omega (arith, c .before .before .before .before .loop2-test .taken, c .before .before .before .before .before .before .steps-of .ensures .1)
 
 loop2-less : tie.Need-loop2-less Inv-loop2 μ-loop2 Inv-loop μ-loop
 loop2-less c = search needs
@@ -64,7 +64,7 @@ loop2-again c = (
   omega (arith, c .before .before .before .before .loop2-test .taken),
   omega (arith, c .before .before .before .before .before .loop2 .inv .1, c .before .before .before .row-fault .ensures .0 .1),
   rw add-one (rw length-append (omega (arith, c .before .before .before .before .before .loop2 .inv .2, c .before .before .before .row-fault .ensures .0 .0))),
-  block-passed (c .before .before .before .before .before .before .before .before .before .before .before .before .args .entries .now) (row (held (c .before .before .before .before .before .before .before .before .before .before .before .before .args .b .now) (c .before .before .before .before .before .before .before .before .before .before .before .before .args .c)) (c .before .before .before .before .before .before .before .before .loop .which)) (c .before .before .before .before .before .loop2 .t) (c .before .before .before .row-fault .result .fault) (c .before .before .before .before .before .loop2 .inv .3) (c .before .before .before .row-fault .ensures .1) (omega (arith, c .before .before .before .row-fault .ensures .0 .0, c .before .if1 .left)),
+  block-passed (c .before .before .before .before .before .before .before .before .before .before .before .before .args .entries .now) (row (heldBy (c .before .before .before .before .before .before .before .before .before .before .before .before .args .b .now) (c .before .before .before .before .before .before .before .before .before .before .before .before .args .c)) (c .before .before .before .before .before .before .before .before .loop .which)) (c .before .before .before .before .before .loop2 .t) (c .before .before .before .row-fault .result .fault) (c .before .before .before .before .before .loop2 .inv .3) (c .before .before .before .row-fault .ensures .1) (omega (arith, c .before .before .before .row-fault .ensures .0 .0, c .before .if1 .left)),
 )
 
 add-which : tie.Need-add-which Inv-loop2 μ-loop2 Inv-loop μ-loop
@@ -75,14 +75,14 @@ loop-less c = search needs
 
 loop-again : tie.Need-loop-again Inv-loop2 μ-loop2 Inv-loop μ-loop
 loop-again c =
-    let e : c .before .loop2 .t ≡ steps (c .before .before .before .before .before .before .before .before .args .c .sizes) (c .before .before .before .before .loop .which) = omega (arith, c .before .loop2 .inv .0, c .loop2-test .left, c .before .before .rows-of .ensures .0) in
-    let o = next-family (held (c .before .before .before .before .before .before .before .before .args .b .now) (c .before .before .before .before .before .before .before .before .args .c)) (c .before .before .before .before .before .before .before .before .args .entries .now) (c .before .before .before .before .loop .which) (c .before .loop2 .at) (c .before .loop2 .t) (c .before .before .before .before .loop .inv .3) (c .before .loop2 .inv .2) (c .before .loop2 .inv .3) e in
-    (omega (arith, c .before .before .before .loop-test .taken), omega (arith, c .before .loop2 .inv .0, c .before .loop2 .inv .1, c .before .before .rows-of .ensures .1), o .0, o .1)
+    let e : c .before .loop2 .t ≡ steps (c .before .before .before .before .before .before .before .before .args .c .sizes) (c .before .before .before .before .loop .which) = omega (arith, c .before .loop2 .inv .0, c .loop2-test .left, c .before .before .steps-of .ensures .0) in
+    let o = next-family (heldBy (c .before .before .before .before .before .before .before .before .args .b .now) (c .before .before .before .before .before .before .before .before .args .c)) (c .before .before .before .before .before .before .before .before .args .entries .now) (c .before .before .before .before .loop .which) (c .before .loop2 .at) (c .before .loop2 .t) (c .before .before .before .before .loop .inv .3) (c .before .loop2 .inv .2) (c .before .loop2 .inv .3) e in
+    (omega (arith, c .before .before .before .loop-test .taken), omega (arith, c .before .loop2 .inv .0, c .before .loop2 .inv .1, c .before .before .steps-of .ensures .1), o .0, o .1)
 
 returns-2 : tie.Need-returns-2 Inv-loop2 μ-loop2 Inv-loop μ-loop
 returns-2 c =
     let e : c .before .loop .which ≡ 7 = omega arith in
-    whole (c .before .before .before .before .before .args .b .now) (c .before .before .before .before .before .args .c) (c .before .before .before .before .before .pre .0) (c .before .before .before .before .before .args .entries .now) _ (all-families (held (c .before .before .before .before .before .args .b .now) (c .before .before .before .before .before .args .c)) (c .before .before .before .before .before .args .entries .now) (c .before .loop .at) (rw e at (c .before .loop .inv .2)) (rw e at (c .before .loop .inv .3)))
+    whole (c .before .before .before .before .before .args .b .now) (c .before .before .before .before .before .args .c) (c .before .before .before .before .before .pre .0) (c .before .before .before .before .before .args .entries .now) _ (all-families (heldBy (c .before .before .before .before .before .args .b .now) (c .before .before .before .before .before .args .c)) (c .before .before .before .before .before .args .entries .now) (c .before .loop .at) (rw e at (c .before .loop .inv .2)) (rw e at (c .before .loop .inv .3)))
 
 pub clause-fault-spec : {M : Type 1} → statement M
 clause-fault-spec =
@@ -93,7 +93,7 @@ clause-fault-spec =
     Inv-loop
     μ-loop
     loop-holds
-    rows-of-requires
+    steps-of-requires
     loop2-holds
     row-fault-requires
     add-result

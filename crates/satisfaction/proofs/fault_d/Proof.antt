@@ -3,6 +3,7 @@ use Prim.Native.Nat.{_+_, _-_, _*_, _/_, _≤_, _<_}
 use native.Mathlib.Omega.{arith}
 use native.Mathlib.Numerals.{add-one}
 use lib.ListN.{length}
+use Rattle.formula.specs.Variables.{highest}
 use Rattle.satisfaction.proofs.Bounds.{Products, products, row-fits, blocks-fit, entries-fit}
 use Rattle.satisfaction.proofs.Truth.{none-D, first-D, second-D, here-D}
 use Rattle.satisfaction.proofs.fault_d.Statement.{statement}
@@ -15,8 +16,8 @@ known s = products (s .args .s) (s .pre .0)
 room : (s : tie.Start) → (s .args .t * s .args .s .k + s .args .s .k ≤ length (s .args .p .now)) × (length (s .args .p .now) ≤ 528)
 room s = let e = s .pre .1 .0 .size in (omega (arith, row-fits (s .args .s) (s .args .t) (s .pre .1 .1)), omega (arith, known s .cells))
 
-pairs-of-requires : tie.Need-pairs-of-requires
-pairs-of-requires c κs = (c .before .pre .0 .n-least, c .before .pre .0 .n-most)
+pair-count-requires : tie.Need-pair-count-requires
+pair-count-requires c κs = c .before .pre .0 .n-most
 
 mul-row : tie.Need-mul-row
 mul-row c = omega (arith, room (c .before .before))
@@ -31,13 +32,13 @@ first-on-requires : tie.Need-first-on-requires
 first-on-requires c κs = room (c .before .before) .0
 
 mul-result : tie.Need-mul-result
-mul-result c = rw (c .before .before .pairs-of .ensures .0) (omega (arith, known (c .before .before .before .before) .D))
+mul-result c = rw (c .before .before .pair-count .ensures .0) (omega (arith, known (c .before .before .before .before) .D))
 
 returns : tie.Need-returns
-returns c = rw (c .before .before .pairs-of .ensures .0) (none-D (c .before .before .before .before .args .s) (c .before .before .before .before .args .entries .now) (c .before .before .before .before .pre .1 .0 .valid) (c .before .before .before .before .args .p .now) (c .before .before .before .before .pre .1 .0) (c .before .before .before .before .args .t) (let h = c .before .before .before .before .pre .1 .1 in omega arith) (c .before .before .before .before .args .s .n + 1) (c .before .first-on .result) (add-one _) (c .before .first-on .ensures) (c .if1 .taken))
+returns c = rw (c .before .before .pair-count .ensures .0) (none-D (c .before .before .before .before .args .s) (c .before .before .before .before .args .entries .now) (c .before .before .before .before .pre .1 .0 .valid) (c .before .before .before .before .args .p .now) (c .before .before .before .before .pre .1 .0) (c .before .before .before .before .args .t) (let h = c .before .before .before .before .pre .1 .1 in omega arith) (c .before .before .before .before .args .s .n + 1) (c .before .first-on .result) (add-one _) (c .before .first-on .ensures) (c .if1 .taken))
 
 -- the agent's entries
-ends : (c : tie.Else1) → ((c .before .before .before .before .args .t * c .before .before .before .before .args .s .k + c .before .first-on .result) * c .before .before .before .before .args .s .n + c .before .before .before .before .args .s .n ≤ length (c .before .before .before .before .args .entries .now)) × (length (c .before .before .before .before .args .entries .now) ≤ 33792) × (c .before .first-on .result < c .before .before .before .before .args .s .k) × (c .before .before .before .before .args .t * c .before .before .before .before .args .s .k + c .before .first-on .result < 528)
+ends : (c : tie.Else1) → ((c .before .before .before .before .args .t * c .before .before .before .before .args .s .k + c .before .first-on .result) * c .before .before .before .before .args .s .n + c .before .before .before .before .args .s .n ≤ length (c .before .before .before .before .args .entries .now)) × (length (c .before .before .before .before .args .entries .now) ≤ highest) × (c .before .first-on .result < c .before .before .before .before .args .s .k) × (c .before .before .before .before .args .t * c .before .before .before .before .args .s .k + c .before .first-on .result < 528)
 ends c =
     let l : c .before .first-on .result < c .before .before .before .before .args .s .k = omega (arith, c .before .first-on .ensures .within, c .if1 .left) in
     let o = entries-fit (c .before .before .before .before .args .s) (c .before .before .before .before .args .t * c .before .before .before .before .args .s .k + c .before .first-on .result) (c .before .before .before .before .pre .0) (omega (arith, room (c .before .before .before .before) .0, c .before .before .before .before .pre .1 .0 .size)) in
@@ -70,7 +71,7 @@ stop-from-requires-2 : tie.Need-stop-from-requires-2
 stop-from-requires-2 c κs = (omega (arith, first c), omega (arith, ends (c .before)), omega (arith, ends (c .before)))
 
 mul-result-2 : tie.Need-mul-result-2
-mul-result-2 c = rw (c .before .before .before .before .pairs-of .ensures .0) (omega (arith, known (c .before .before .before .before .before .before) .D, blocks-fit _ _ (c .before .before .before .before .before .before .args .s .n * (c .before .before .before .before .before .before .args .s .n - 1) / 2) (c .before .before .before .first-on .ensures .within)))
+mul-result-2 c = rw (c .before .before .before .before .pair-count .ensures .0) (omega (arith, known (c .before .before .before .before .before .before) .D, blocks-fit _ _ (c .before .before .before .before .before .before .args .s .n * (c .before .before .before .before .before .before .args .s .n - 1) / 2) (c .before .before .before .first-on .ensures .within)))
 
 sub-pair-at : tie.Need-sub-pair-at
 sub-pair-at c = omega (arith, c .before .stop-from .ensures .least)
@@ -85,16 +86,16 @@ pair-at-requires : tie.Need-pair-at-requires
 pair-at-requires c κs = (omega (arith, c .before .stop-from .ensures .least, first (c .before)), c .before .before .before .before .before .before .pre .0 .n-most, omega (arith, c .before .stop-from .ensures .least, c .stop-from2 .ensures .least, second c, c .before .before .before .before .before .before .pre .0 .n-most))
 
 add-result : tie.Need-add-result
-add-result c = rw (c .before .before .before .before .before .pairs-of .ensures .0) (omega (arith, known (c .before .before .before .before .before .before .before) .D, blocks-fit _ _ (c .before .before .before .before .before .before .before .args .s .n * (c .before .before .before .before .before .before .before .args .s .n - 1) / 2) (c .before .before .before .before .first-on .ensures .within), c .pair-at .ensures .1))
+add-result c = rw (c .before .before .before .before .before .pair-count .ensures .0) (omega (arith, known (c .before .before .before .before .before .before .before) .D, blocks-fit _ _ (c .before .before .before .before .before .before .before .args .s .n * (c .before .before .before .before .before .before .before .args .s .n - 1) / 2) (c .before .before .before .before .first-on .ensures .within), c .pair-at .ensures .1))
 
 returns-2 : tie.Need-returns-2
-returns-2 c = rw (c .before .before .before .before .before .pairs-of .ensures .0, c .pair-at .ensures .0) (here-D (c .before .before .before .before .before .before .before .args .s) (c .before .before .before .before .before .before .before .args .entries .now) (c .before .before .before .before .before .before .before .pre .1 .0 .valid) (c .before .before .before .before .before .before .before .args .p .now) (c .before .before .before .before .before .before .before .pre .1 .0) (c .before .before .before .before .before .before .before .args .t) (let h = c .before .before .before .before .before .before .before .pre .1 .1 in omega arith) (c .before .before .before .before .before .before .before .args .s .n + 1) (c .before .before .before .before .first-on .result) (add-one _) (c .before .before .before .before .first-on .ensures) (c .before .before .before .if1 .left) (c .before .before .stop-from .result) (c .before .stop-from2 .result) (c .before .before .stop-from .ensures) (c .before .stop-from2 .ensures))
+returns-2 c = rw (c .before .before .before .before .before .pair-count .ensures .0, c .pair-at .ensures .0) (here-D (c .before .before .before .before .before .before .before .args .s) (c .before .before .before .before .before .before .before .args .entries .now) (c .before .before .before .before .before .before .before .pre .1 .0 .valid) (c .before .before .before .before .before .before .before .args .p .now) (c .before .before .before .before .before .before .before .pre .1 .0) (c .before .before .before .before .before .before .before .args .t) (let h = c .before .before .before .before .before .before .before .pre .1 .1 in omega arith) (c .before .before .before .before .before .before .before .args .s .n + 1) (c .before .before .before .before .first-on .result) (add-one _) (c .before .before .before .before .first-on .ensures) (c .before .before .before .if1 .left) (c .before .before .stop-from .result) (c .before .stop-from2 .result) (c .before .before .stop-from .ensures) (c .before .stop-from2 .ensures))
 
 pub fault-d-spec : {M : Type 1} → statement M
 fault-d-spec =
     tie.close
     (tie.spec
-    pairs-of-requires
+    pair-count-requires
     mul-row
     add-first-on
     cast-first-on

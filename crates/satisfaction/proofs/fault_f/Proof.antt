@@ -5,13 +5,10 @@ use borrow.Author.Needs.{needs}
 use lib.ListN.{length}
 use Rattle.instance.specs.Limits.{Limits}
 use Rattle.instance.specs.Instance.{adjacent}
-use Rattle.formula.specs.Blocks.{cells, groups, group, block}
-use Rattle.plan.specs.Plan.{place}
+use Rattle.plan.specs.Plan.{place, condition1}
 use Rattle.instance.specs.Accepted.{instanceOf}
-use Rattle.instance.proofs.Accepted.{limits-known, sizes-same}
-use Rattle.satisfaction.specs.Rows.{row}
+use Rattle.instance.proofs.Accepted.{limits-known}
 use Rattle.satisfaction.proofs.Bounds.{Products, products, row-fits, blocks-fit}
-use Rattle.satisfaction.proofs.Steps.{plain-1}
 use Rattle.satisfaction.proofs.Truth.{none-rowF, here-rowF}
 use Rattle.satisfaction.proofs.fault_f.Statement.{statement}
 use Rattle.satisfaction.proofs.fault_f.Tie as tie
@@ -23,43 +20,43 @@ known s = let l = limits-known (s .args .b .now) (s .args .c) (s .pre .0) in (pr
 room : (s : tie.Start) → (s .args .t * s .args .c .sizes .k + s .args .c .sizes .k ≤ length (s .args .p .now)) × (length (s .args .p .now) ≤ 528)
 room s = let e = s .pre .1 .0 in let h = s .pre .1 .1 in (omega (arith, row-fits (s .args .c .sizes) (s .args .t) (omega arith)), omega (arith, known s .0 .cells))
 
-fault-1-requires : tie.Need-fault-1-requires
-fault-1-requires c κs = search needs
+step-fault-requires : tie.Need-step-fault-requires
+step-fault-requires c κs = search needs
 
 mul-result : tie.Need-mul-result
 mul-result c = omega (arith, known (c .before .before .before .before .before) .0 .F)
 
 returns : tie.Need-returns
-unfolding row block group cells groups
-returns c = λ es w c′. none-rowF (c .before .before .before .before .before .args .c .sizes) es w (place (c .before .before .before .before .before .args .c .sizes) (c .before .before .before .before .before .args .p .now)) c′ (adjacent (instanceOf (c .before .before .before .before .before .args .b .now) (c .before .before .before .before .before .args .c))) (c .before .before .before .before .before .args .t) (c .before .before .before .before .before .pre .1 .1) (c .before .fault-1 .result) (plain-1 (instanceOf (c .before .before .before .before .before .args .b .now) (c .before .before .before .before .before .args .c)) (c .before .before .before .before .before .args .c .sizes) (sizes-same (c .before .before .before .before .before .args .b .now) (c .before .before .before .before .before .args .c) (c .before .before .before .before .before .pre .0)) (c .before .before .before .before .before .args .p .now) (c .before .before .before .before .before .args .t) (c .before .fault-1 .result) (c .before .fault-1 .ensures)) (c .if1 .taken)
+unfolding condition1
+returns c = λ es w c′. none-rowF (c .before .before .before .before .before .args .c .sizes) es w (place (c .before .before .before .before .before .args .c .sizes) (c .before .before .before .before .before .args .p .now)) c′ (adjacent (instanceOf (c .before .before .before .before .before .args .b .now) (c .before .before .before .before .before .args .c))) (c .before .before .before .before .before .args .t) (c .before .before .before .before .before .pre .1 .1) (c .before .step-fault .result) (c .before .step-fault .ensures) (c .if1 .taken)
 
 mul-result-2 : tie.Need-mul-result-2
-mul-result-2 c = omega (arith, known (c .before .before .before .before .before) .0 .F, blocks-fit _ _ (c .before .before .before .before .before .args .c .sizes .n) (c .before .fault-1 .ensures .within))
+mul-result-2 c = omega (arith, known (c .before .before .before .before .before) .0 .F, blocks-fit _ _ (c .before .before .before .before .before .args .c .sizes .n) (c .before .step-fault .ensures .within))
 
 mul-wide : tie.Need-mul-wide
 mul-wide c = omega (arith, room (c .before .before .before .before .before))
 
 add-wide : tie.Need-add-wide
-add-wide c = omega (arith, room (c .before .before .before .before .before), c .before .fault-1 .ensures .within, known (c .before .before .before .before .before) .1 .k-most)
+add-wide c = omega (arith, room (c .before .before .before .before .before), c .before .step-fault .ensures .within, known (c .before .before .before .before .before) .1 .k-most)
 
 shared-slice-read-wide : tie.Need-shared-slice-read-wide
-shared-slice-read-wide c = omega (arith, room (c .before .before .before .before .before .before), c .before .before .fault-1 .ensures .within, c .before .if1 .left)
+shared-slice-read-wide c = omega (arith, room (c .before .before .before .before .before .before), c .before .before .step-fault .ensures .within, c .before .if1 .left)
 
 wide-requires : tie.Need-wide-requires
 wide-requires c κs = search needs
 
 add-result : tie.Need-add-result
-add-result c = omega (arith, known (c .before .before .before .before .before .before .before) .0 .F, blocks-fit _ _ (c .before .before .before .before .before .before .before .args .c .sizes .n) (c .before .before .before .fault-1 .ensures .within), c .wide .ensures .1)
+add-result c = omega (arith, known (c .before .before .before .before .before .before .before) .0 .F, blocks-fit _ _ (c .before .before .before .before .before .before .before .args .c .sizes .n) (c .before .before .before .step-fault .ensures .within), c .wide .ensures .1)
 
 returns-2 : tie.Need-returns-2
-unfolding row block group cells groups
-returns-2 c = λ es w c′. rw (c .wide .ensures .0) (here-rowF (c .before .before .before .before .before .before .before .args .c .sizes) es w (place (c .before .before .before .before .before .before .before .args .c .sizes) (c .before .before .before .before .before .before .before .args .p .now)) c′ (adjacent (instanceOf (c .before .before .before .before .before .before .before .args .b .now) (c .before .before .before .before .before .before .before .args .c))) (c .before .before .before .before .before .before .before .args .t) (c .before .before .before .before .before .before .before .pre .1 .1) (c .before .before .before .fault-1 .result) (plain-1 (instanceOf (c .before .before .before .before .before .before .before .args .b .now) (c .before .before .before .before .before .before .before .args .c)) (c .before .before .before .before .before .before .before .args .c .sizes) (sizes-same (c .before .before .before .before .before .before .before .args .b .now) (c .before .before .before .before .before .before .before .args .c) (c .before .before .before .before .before .before .before .pre .0)) (c .before .before .before .before .before .before .before .args .p .now) (c .before .before .before .before .before .before .before .args .t) (c .before .before .before .fault-1 .result) (c .before .before .before .fault-1 .ensures)) (c .before .before .if1 .left))
+unfolding condition1
+returns-2 c = λ es w c′. rw (c .wide .ensures .0) (here-rowF (c .before .before .before .before .before .before .before .args .c .sizes) es w (place (c .before .before .before .before .before .before .before .args .c .sizes) (c .before .before .before .before .before .before .before .args .p .now)) c′ (adjacent (instanceOf (c .before .before .before .before .before .before .before .args .b .now) (c .before .before .before .before .before .before .before .args .c))) (c .before .before .before .before .before .before .before .args .t) (c .before .before .before .before .before .before .before .pre .1 .1) (c .before .before .before .step-fault .result) (c .before .before .before .step-fault .ensures) (c .before .before .if1 .left))
 
 pub fault-f-spec : {M : Type 1} → statement M
 fault-f-spec =
     tie.close
     (tie.spec
-    fault-1-requires
+    step-fault-requires
     mul-result
     returns
     mul-result-2

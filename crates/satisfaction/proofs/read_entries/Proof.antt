@@ -20,14 +20,11 @@ known : (s : tie.Start Inv-loop μ-loop) → Products (s .args .s)
 known s = products (s .args .s) (s .pre .0)
 
 -- row i stands within the entries
-room : (c : tie.In-loop Inv-loop μ-loop) → (c .before .loop .i * c .before .before .before .before .args .s .n + c .before .before .before .before .args .s .n ≤ variableCount (c .before .before .before .before .args .s)) × (variableCount (c .before .before .before .before .args .s) ≤ 33792)
-room c = entries-fit (c .before .before .before .before .args .s) (c .before .loop .i) (c .before .before .before .before .pre .0) (omega (arith, known (c .before .before .before .before) .after, c .loop-test .taken))
+room : (c : tie.In-loop Inv-loop μ-loop) → (c .before .loop .i * c .before .before .before .args .s .n + c .before .before .before .args .s .n ≤ variableCount (c .before .before .before .args .s)) × (variableCount (c .before .before .before .args .s) ≤ 33792)
+room c = entries-fit (c .before .before .before .args .s) (c .before .loop .i) (c .before .before .before .pre .0) (omega (arith, c .before .before .plan-bytes .ensures .0, c .loop-test .taken))
 
-add-cells : tie.Need-add-cells Inv-loop μ-loop
-add-cells c = omega (arith, c .before .pre .0 .m-most)
-
-mul-cells : tie.Need-mul-cells Inv-loop μ-loop
-mul-cells c = omega (arith, known (c .before .before) .cells, known (c .before .before) .after)
+plan-bytes-requires : tie.Need-plan-bytes-requires Inv-loop μ-loop
+plan-bytes-requires c κs = c .pre .0
 
 loop-holds : tie.Need-loop-holds Inv-loop μ-loop
 loop-holds c = (omega arith, sofar-none _ _ _ (length-replicate {A = ℕ} 528 0))
@@ -36,37 +33,37 @@ mul-base : tie.Need-mul-base Inv-loop μ-loop
 mul-base c = omega (arith, room c)
 
 read-row-requires : tie.Need-read-row-requires Inv-loop μ-loop
-read-row-requires c κs = let e = c .before .before .before .before .pre .1 in omega (arith, room c)
+read-row-requires c κs = let e = c .before .before .before .pre .1 in (omega (arith, room c), omega (arith, room c), c .before .before .before .pre .0 .n-most)
 
 add-if1 : tie.Need-add-if1 Inv-loop μ-loop
 add-if1 c = omega (arith, room (c .before))
 
 returns : tie.Need-returns Inv-loop μ-loop
-returns c = (sofar-wrong (c .before .before .before .before .before .before .before .args .s .n) (c .before .before .before .before .before .before .before .args .entries .now) (c .before .before .before .before .loop .places) (c .before .before .before .before .loop .i) (c .before .before .before .before .loop .inv .1) (c .before .before .read-row .result .wrong) (c .before .before .read-row .result .place) (c .before .before .read-row .ensures) (variableCount (c .before .before .before .before .before .before .before .args .s)) (room (c .before .before .before) .0) (c .if1 .taken), (c .before .before .before .before .loop .inv .1 .size, λ h. absurd (let f : ⊥ = omega (arith, room (c .before .before .before) .0, c .if1 .taken) in f)))
+returns c = (sofar-wrong (c .before .before .before .before .before .before .args .s .n) (c .before .before .before .before .before .before .args .entries .now) (c .before .before .before .before .loop .places) (c .before .before .before .before .loop .i) (c .before .before .before .before .loop .inv .1) (c .before .before .read-row .result .wrong) (c .before .before .read-row .result .place) (c .before .before .read-row .ensures) (variableCount (c .before .before .before .before .before .before .args .s)) (room (c .before .before .before) .0) (c .if1 .taken), (c .before .before .before .before .loop .inv .1 .size, λ h. absurd (let f : ⊥ = omega (arith, room (c .before .before .before) .0, c .if1 .taken) in f)))
 
 cast-places : tie.Need-cast-places Inv-loop μ-loop
-cast-places c = let o = c .before .before .before .read-row .ensures .1 (c .before .if1 .left) in omega (arith, o .most, c .before .before .before .before .before .before .before .before .pre .0 .n-most)
+cast-places c = let o = c .before .before .before .read-row .ensures .1 (c .before .if1 .left) in omega (arith, o .most, c .before .before .before .before .before .before .before .pre .0 .n-most)
 
 array-write-places : tie.Need-array-write-places Inv-loop μ-loop
-array-write-places c = omega (arith, known (c .before .before .before .before .before .before .before .before) .cells, known (c .before .before .before .before .before .before .before .before) .after, c .before .before .before .before .loop-test .taken, c .before .before .before .before .before .loop .inv .1 .size)
+array-write-places c = omega (arith, known (c .before .before .before .before .before .before .before) .cells, c .before .before .before .before .before .before .plan-bytes .ensures .0, c .before .before .before .before .loop-test .taken, c .before .before .before .before .before .loop .inv .1 .size)
 
 add-i : tie.Need-add-i Inv-loop μ-loop
-add-i c = omega (arith, known (c .before .before .before .before .before .before .before .before) .cells, known (c .before .before .before .before .before .before .before .before) .after, c .before .before .before .before .loop-test .taken)
+add-i c = omega (arith, known (c .before .before .before .before .before .before .before) .cells, c .before .before .before .before .before .before .plan-bytes .ensures .0, c .before .before .before .before .loop-test .taken)
 
 loop-less : tie.Need-loop-less Inv-loop μ-loop
 loop-less c = search needs
 
 loop-again : tie.Need-loop-again Inv-loop μ-loop
-loop-again c = (omega (arith, c .before .before .before .before .loop-test .taken), sofar-more (c .before .before .before .before .before .before .before .before .args .s .n) (c .before .before .before .before .before .before .before .before .args .entries .now) (c .before .before .before .before .before .loop .places) (c .before .before .before .before .before .loop .i) (c .before .before .before .before .before .loop .inv .1) (c .before .before .before .read-row .result .wrong) (c .before .before .before .read-row .result .place) (c .before .before .before .read-row .ensures) (omega (arith, known (c .before .before .before .before .before .before .before .before) .cells, known (c .before .before .before .before .before .before .before .before) .after, c .before .before .before .before .loop-test .taken)) (c .before .if1 .left))
+loop-again c = (omega (arith, c .before .before .before .before .loop-test .taken), sofar-more (c .before .before .before .before .before .before .before .args .s .n) (c .before .before .before .before .before .before .before .args .entries .now) (c .before .before .before .before .before .loop .places) (c .before .before .before .before .before .loop .i) (c .before .before .before .before .before .loop .inv .1) (c .before .before .before .read-row .result .wrong) (c .before .before .before .read-row .result .place) (c .before .before .before .read-row .ensures) (omega (arith, known (c .before .before .before .before .before .before .before) .cells, c .before .before .before .before .before .before .plan-bytes .ensures .0, c .before .before .before .before .loop-test .taken)) (c .before .if1 .left))
 
-mul-t9 : tie.Need-mul-t9 Inv-loop μ-loop
-mul-t9 c = let s = c .before .before .before .before in let e : (s .args .s .m + 1) * s .args .s .k * s .args .s .n ≡ suc (s .args .s .m) * s .args .s .k * s .args .s .n = ap (λ (x : ℕ). x * s .args .s .n) (known s .after) in omega (arith, known s .entries)
+mul-t15 : tie.Need-mul-t15 Inv-loop μ-loop
+mul-t15 c = rw (c .before .before .plan-bytes .ensures .0) (omega (arith, known (c .before .before .before) .entries))
 
 returns-2 : tie.Need-returns-2 Inv-loop μ-loop
 returns-2 c =
-    let e : c .before .loop .i ≡ suc (c .before .before .before .before .args .s .m) * c .before .before .before .before .args .s .k = omega (arith, known (c .before .before .before .before) .after, c .before .loop .inv .0, c .loop-test .left) in
-    let o : Sofar (c .before .before .before .before .args .s .n) (c .before .before .before .before .args .entries .now) (c .before .loop .places) (suc (c .before .before .before .before .args .s .m) * c .before .before .before .before .args .s .k) = rw e at (c .before .loop .inv .1) in
-    rw (known (c .before .before .before .before) .after) (done-right (c .before .before .before .before .args .s) (c .before .before .before .before .args .entries .now) (c .before .before .before .before .pre .1) (c .before .loop .places) o, (o .size, λ h. done-read (c .before .before .before .before .args .s) (c .before .before .before .before .args .entries .now) (c .before .before .before .before .pre .1) (c .before .loop .places) o (known (c .before .before .before .before) .cells)))
+    let e : c .before .loop .i ≡ suc (c .before .before .before .args .s .m) * c .before .before .before .args .s .k = omega (arith, c .before .before .plan-bytes .ensures .0, c .before .loop .inv .0, c .loop-test .left) in
+    let o : Sofar (c .before .before .before .args .s .n) (c .before .before .before .args .entries .now) (c .before .loop .places) (suc (c .before .before .before .args .s .m) * c .before .before .before .args .s .k) = rw e at (c .before .loop .inv .1) in
+    rw (c .before .before .plan-bytes .ensures .0) (done-right (c .before .before .before .args .s) (c .before .before .before .args .entries .now) (c .before .before .before .pre .1) (c .before .loop .places) o, (o .size, λ h. done-read (c .before .before .before .args .s) (c .before .before .before .args .entries .now) (c .before .before .before .pre .1) (c .before .loop .places) o (known (c .before .before .before) .cells)))
 
 pub read-entries-spec : {M : Type 1} → statement M
 read-entries-spec =
@@ -74,8 +71,7 @@ read-entries-spec =
     (tie.spec
     Inv-loop
     μ-loop
-    add-cells
-    mul-cells
+    plan-bytes-requires
     loop-holds
     mul-base
     read-row-requires
@@ -86,5 +82,5 @@ read-entries-spec =
     add-i
     loop-less
     loop-again
-    mul-t9
+    mul-t15
     returns-2)

@@ -19,11 +19,11 @@ returns c = laws.came-none (c .before .before .before .args .entries .now) (c .b
 cast-v : tie.Need-cast-v
 cast-v c = search needs
 
-passes-requires : tie.Need-passes-requires
-passes-requires c κs = let o = c .before .before .before .before .before .tally-row .ensures .one (c .before .if2 .taken) in omega (arith, o .0, o .1, c .before .before .before .before .before .before .pre)
+add-at : tie.Need-add-at
+add-at c = let o = c .before .before .before .before .before .tally-row .ensures .one (c .before .if2 .taken) in omega (arith, o .0, c .before .before .before .before .before .before .pre)
 
-sub-t10 : tie.Need-sub-t10
-sub-t10 c = let o = c .before .before .before .before .before .before .before .tally-row .ensures .one (c .before .before .before .if2 .taken) in omega (arith, o .0, o .1, c .before .before .before .before .before .before .before .before .pre)
+passes-requires : tie.Need-passes-requires
+passes-requires c κs = let o = c .before .before .before .before .before .tally-row .ensures .one (c .before .if2 .taken) in omega (arith, o .0, c .before .before .before .before .before .before .pre)
 
 returns-2 : tie.Need-returns-2
 returns-2 c = laws.came-one (c .before .before .before .before .before .before .before .before .args .entries .now) (c .before .before .before .before .before .before .before .before .args .base) (c .before .before .before .before .before .before .before .before .args .n) (c .before .before .before .before .before .before .before .tally-row .result .count) (c .before .before .before .before .before .before .before .tally-row .result .sum) (c .before .before .before .before .before .before .before .tally-row .ensures) (c .before .before .before .if2 .taken) (holds (c .before .passes .ensures) (c .if3 .taken))
@@ -48,8 +48,8 @@ read-row-spec =
     tally-row-requires
     returns
     cast-v
+    add-at
     passes-requires
-    sub-t10
     returns-2
     returns-3
     stop-from-requires

@@ -4,10 +4,10 @@ use mathlib.Core.Path.{_≡_}
 use native.Mathlib.Omega.{arith}
 use lib.ListN.{getD}
 use Rattle.formula.specs.Variables.{X}
-use Rattle.formula.specs.Blocks.{steps, cells, groups, group, block}
+use Rattle.formula.specs.Blocks.{steps, cells, block}
 use Rattle.instance.specs.Limits.{Limits}
 use Rattle.instance.proofs.Accepted.{limits-known, starts-length, goals-length, starts-inside, goals-inside}
-use Rattle.satisfaction.specs.Rows.{held, row}
+use Rattle.satisfaction.specs.Rows.{heldBy, row}
 use Rattle.satisfaction.proofs.Bounds.{Products, products}
 use Rattle.satisfaction.proofs.Families.{last-family, size-A, size-B, size-C, size-D, size-E, size-F, size-G, places, apart}
 use Rattle.satisfaction.proofs.Truth.{units}
@@ -30,21 +30,21 @@ fault-c-requires : tie.Need-fault-c-requires
 unfolding steps
 fault-c-requires c κs = (limits (c .before .before .before .before), (c .before .before .before .before .pre .1 .0 .size, (let h : c .before .before .before .before .args .t < suc (c .before .before .before .before .args .c .sizes .m) = rw (c .match .keys3) at (c .before .before .before .before .pre .1 .1 .1) in omega arith)))
 
-pairs-of-requires : tie.Need-pairs-of-requires
-pairs-of-requires c κs = (limits (c .before .before .before .before) .n-least, limits (c .before .before .before .before) .n-most)
+pair-count-requires : tie.Need-pair-count-requires
+pair-count-requires c κs = limits (c .before .before .before .before) .n-most
 
 mul-t17 : tie.Need-mul-t17
-mul-t17 c = rw (c .pairs-of .ensures .0) (omega (arith, known (c .before .before .before .before .before) .D))
+mul-t17 c = rw (c .pair-count .ensures .0) (omega (arith, known (c .before .before .before .before .before) .D))
 
 fault-d-requires : tie.Need-fault-d-requires
 unfolding steps
 fault-d-requires c κs = (limits (c .before .before .before .before .before), (c .before .before .before .before .before .pre .1 .0, (let h : c .before .before .before .before .before .args .t < suc (c .before .before .before .before .before .args .c .sizes .m) = rw (c .before .match .keys4) at (c .before .before .before .before .before .pre .1 .1 .1) in omega arith)))
 
-pairs-of-requires-2 : tie.Need-pairs-of-requires-2
-pairs-of-requires-2 c κs = (limits (c .before .before .before .before) .k-least, omega (arith, limits (c .before .before .before .before) .k-most))
+pair-count-requires-2 : tie.Need-pair-count-requires-2
+pair-count-requires-2 c κs = omega (arith, limits (c .before .before .before .before) .k-most)
 
 mul-t20 : tie.Need-mul-t20
-mul-t20 c = rw (c .pairs-of2 .ensures .0) (omega (arith, known (c .before .before .before .before .before) .E))
+mul-t20 c = rw (c .pair-count2 .ensures .0) (omega (arith, known (c .before .before .before .before .before) .E))
 
 fault-e-requires : tie.Need-fault-e-requires
 unfolding steps
@@ -71,36 +71,37 @@ unfolding steps
 fault-g-requires c κs =
     let e : c .before .before .before .before .args .which ≡ 6 = (let x = c .match .rest in last-family (c .before .before .before .before .args .which) (c .before .before .before .before .pre .1 .1 .0) (x .0 .0 .0 .0 .0 .1) (x .0 .0 .0 .0 .1) (x .0 .0 .0 .1) (x .0 .0 .1) (x .0 .1) (x .1)) in
     let h : c .before .before .before .before .args .t < c .before .before .before .before .args .c .sizes .m = rw e at (c .before .before .before .before .pre .1 .1 .1) in
-    (limits (c .before .before .before .before), ((c .before .before .before .before .pre .1 .0 .size, h), apart (held (c .before .before .before .before .args .b .now) (c .before .before .before .before .args .c)) (c .before .before .before .before .args .entries .now) (c .before .before .before .before .args .p .now) (c .before .before .before .before .pre .1 .0) (c .before .before .before .before .args .which) (omega arith) (c .before .before .before .before .pre .1 .1 .2) (c .before .before .before .before .args .t) (omega arith)))
+    (c .before .before .before .before .pre .0, ((c .before .before .before .before .pre .1 .0 .size, h), apart (heldBy (c .before .before .before .before .args .b .now) (c .before .before .before .before .args .c)) (c .before .before .before .before .args .entries .now) (c .before .before .before .before .args .p .now) (c .before .before .before .before .pre .1 .0) (c .before .before .before .before .args .which) (omega arith) (c .before .before .before .before .pre .1 .1 .2) (c .before .before .before .before .args .t) (omega arith)))
 
 returns : tie.Need-returns
-unfolding row block group cells groups
-returns c = rw (c .before .before .match .keys1) ((size-A (held (c .before .before .before .before .before .before .args .b .now) (c .before .before .before .before .before .before .args .c)) (c .before .before .before .before .before .before .args .t), omega (arith, limits (c .before .before .before .before .before .before) .k-most)), units (c .before .before .before .before .before .before .args .entries .now) (c .before .before .before .before .before .before .args .c .sizes .k) (λ a. X (c .before .before .before .before .before .before .args .c .sizes) 0 a (getD (c .before .before .before .before .before .before .args .c .starts) a 0)) (c .unit-fault .result) (c .unit-fault .ensures))
+unfolding row block cells
+returns c = rw (c .before .before .match .keys1) ((size-A (heldBy (c .before .before .before .before .before .before .args .b .now) (c .before .before .before .before .before .before .args .c)) (c .before .before .before .before .before .before .args .t), omega (arith, limits (c .before .before .before .before .before .before) .k-most)), units (c .before .before .before .before .before .before .args .entries .now) (c .before .before .before .before .before .before .args .c .sizes .k) (λ a. X (c .before .before .before .before .before .before .args .c .sizes) 0 a (getD (c .before .before .before .before .before .before .args .c .starts) a 0)) (c .unit-fault .result) (c .unit-fault .ensures))
 
 returns-2 : tie.Need-returns-2
-unfolding row block group cells groups
-returns-2 c = rw (c .before .before .match .keys2) ((size-B (held (c .before .before .before .before .before .before .args .b .now) (c .before .before .before .before .before .before .args .c)) (c .before .before .before .before .before .before .args .t), omega (arith, limits (c .before .before .before .before .before .before) .k-most)), units (c .before .before .before .before .before .before .args .entries .now) (c .before .before .before .before .before .before .args .c .sizes .k) (λ a. X (c .before .before .before .before .before .before .args .c .sizes) (c .before .before .before .before .before .before .args .c .sizes .m) a (getD (c .before .before .before .before .before .before .args .c .goals) a 0)) (c .unit-fault2 .result) (c .unit-fault2 .ensures))
+unfolding row block cells
+returns-2 c = rw (c .before .before .match .keys2) ((size-B (heldBy (c .before .before .before .before .before .before .args .b .now) (c .before .before .before .before .before .before .args .c)) (c .before .before .before .before .before .before .args .t), omega (arith, limits (c .before .before .before .before .before .before) .k-most)), units (c .before .before .before .before .before .before .args .entries .now) (c .before .before .before .before .before .before .args .c .sizes .k) (λ a. X (c .before .before .before .before .before .before .args .c .sizes) (c .before .before .before .before .before .before .args .c .sizes .m) a (getD (c .before .before .before .before .before .before .args .c .goals) a 0)) (c .unit-fault2 .result) (c .unit-fault2 .ensures))
 
 returns-3 : tie.Need-returns-3
-unfolding row block group cells groups
-returns-3 c = rw (c .before .match .keys3) ((size-C (held (c .before .before .before .before .before .args .b .now) (c .before .before .before .before .before .args .c)) (c .before .before .before .before .before .args .t), omega (arith, limits (c .before .before .before .before .before) .k-most)), c .fault-c .ensures (c .before .before .before .before .before .args .entries .now) (c .before .before .before .before .before .pre .1 .0))
+unfolding row block cells
+returns-3 c = rw (c .before .match .keys3) ((size-C (heldBy (c .before .before .before .before .before .args .b .now) (c .before .before .before .before .before .args .c)) (c .before .before .before .before .before .args .t), omega (arith, limits (c .before .before .before .before .before) .k-most)), c .fault-c .ensures (c .before .before .before .before .before .args .entries .now) (c .before .before .before .before .before .pre .1 .0))
 
 returns-4 : tie.Need-returns-4
-unfolding row block group cells groups
-returns-4 c = rw (c .before .before .match .keys4, c .before .pairs-of .ensures .0) ((size-D (held (c .before .before .before .before .before .before .args .b .now) (c .before .before .before .before .before .before .args .c)) (c .before .before .before .before .before .before .args .t), omega (arith, known (c .before .before .before .before .before .before) .D)), c .fault-d .ensures)
+unfolding row block cells
+returns-4 c = rw (c .before .before .match .keys4, c .before .pair-count .ensures .0) ((size-D (heldBy (c .before .before .before .before .before .before .args .b .now) (c .before .before .before .before .before .before .args .c)) (c .before .before .before .before .before .before .args .t), omega (arith, known (c .before .before .before .before .before .before) .D)), c .fault-d .ensures)
 
 returns-5 : tie.Need-returns-5
-unfolding row block group cells groups
-returns-5 c = rw (c .before .before .match .keys5, c .before .pairs-of2 .ensures .0) ((size-E (held (c .before .before .before .before .before .before .args .b .now) (c .before .before .before .before .before .before .args .c)) (c .before .before .before .before .before .before .args .t), omega (arith, known (c .before .before .before .before .before .before) .E)), c .fault-e .ensures (c .before .before .before .before .before .before .args .entries .now) (c .before .before .before .before .before .before .pre .1 .0 .valid) (places (held (c .before .before .before .before .before .before .args .b .now) (c .before .before .before .before .before .before .args .c)) (c .before .before .before .before .before .before .args .entries .now) (c .before .before .before .before .before .before .args .p .now) (c .before .before .before .before .before .before .pre .1 .0) (c .before .before .before .before .before .before .args .which) (omega (arith, c .before .before .match .keys5)) (c .before .before .before .before .before .before .pre .1 .1 .2)))
+unfolding row block cells
+returns-5 c = rw (c .before .before .match .keys5, c .before .pair-count2 .ensures .0) ((size-E (heldBy (c .before .before .before .before .before .before .args .b .now) (c .before .before .before .before .before .before .args .c)) (c .before .before .before .before .before .before .args .t), omega (arith, known (c .before .before .before .before .before .before) .E)), c .fault-e .ensures (c .before .before .before .before .before .before .args .entries .now) (c .before .before .before .before .before .before .pre .1 .0 .valid) (places (heldBy (c .before .before .before .before .before .before .args .b .now) (c .before .before .before .before .before .before .args .c)) (c .before .before .before .before .before .before .args .entries .now) (c .before .before .before .before .before .before .args .p .now) (c .before .before .before .before .before .before .pre .1 .0) (c .before .before .before .before .before .before .args .which) (omega (arith, c .before .before .match .keys5)) (c .before .before .before .before .before .before .pre .1 .1 .2)))
 
 returns-6 : tie.Need-returns-6
-returns-6 c = rw (c .before .match .keys6) ((size-F (held (c .before .before .before .before .before .args .b .now) (c .before .before .before .before .before .args .c)) (c .before .before .before .before .before .args .t), omega (arith, known (c .before .before .before .before .before) .F)), c .fault-f .ensures (c .before .before .before .before .before .args .entries .now) (c .before .before .before .before .before .pre .1 .0 .valid) (places (held (c .before .before .before .before .before .args .b .now) (c .before .before .before .before .before .args .c)) (c .before .before .before .before .before .args .entries .now) (c .before .before .before .before .before .args .p .now) (c .before .before .before .before .before .pre .1 .0) (c .before .before .before .before .before .args .which) (omega (arith, c .before .match .keys6)) (c .before .before .before .before .before .pre .1 .1 .2)))
+unfolding row block cells
+returns-6 c = rw (c .before .match .keys6) ((size-F (heldBy (c .before .before .before .before .before .args .b .now) (c .before .before .before .before .before .args .c)) (c .before .before .before .before .before .args .t), omega (arith, known (c .before .before .before .before .before) .F)), c .fault-f .ensures (c .before .before .before .before .before .args .entries .now) (c .before .before .before .before .before .pre .1 .0 .valid) (places (heldBy (c .before .before .before .before .before .args .b .now) (c .before .before .before .before .before .args .c)) (c .before .before .before .before .before .args .entries .now) (c .before .before .before .before .before .args .p .now) (c .before .before .before .before .before .pre .1 .0) (c .before .before .before .before .before .args .which) (omega (arith, c .before .match .keys6)) (c .before .before .before .before .before .pre .1 .1 .2)))
 
 returns-7 : tie.Need-returns-7
-unfolding row block group cells groups
+unfolding row block cells
 returns-7 c =
     let e : c .before .before .before .before .before .args .which ≡ 6 = (let x = c .before .match .rest in last-family (c .before .before .before .before .before .args .which) (c .before .before .before .before .before .pre .1 .1 .0) (x .0 .0 .0 .0 .0 .1) (x .0 .0 .0 .0 .1) (x .0 .0 .0 .1) (x .0 .0 .1) (x .0 .1) (x .1)) in
-    rw e ((size-G (held (c .before .before .before .before .before .args .b .now) (c .before .before .before .before .before .args .c)) (c .before .before .before .before .before .args .t), omega (arith, known (c .before .before .before .before .before) .G)), c .fault-g .ensures (c .before .before .before .before .before .args .entries .now) (c .before .before .before .before .before .pre .1 .0 .valid) (places (held (c .before .before .before .before .before .args .b .now) (c .before .before .before .before .before .args .c)) (c .before .before .before .before .before .args .entries .now) (c .before .before .before .before .before .args .p .now) (c .before .before .before .before .before .pre .1 .0) (c .before .before .before .before .before .args .which) (omega arith) (c .before .before .before .before .before .pre .1 .1 .2)))
+    rw e ((size-G (heldBy (c .before .before .before .before .before .args .b .now) (c .before .before .before .before .before .args .c)) (c .before .before .before .before .before .args .t), omega (arith, known (c .before .before .before .before .before) .G)), c .fault-g .ensures (c .before .before .before .before .before .args .entries .now) (c .before .before .before .before .before .pre .1 .0 .valid) (places (heldBy (c .before .before .before .before .before .args .b .now) (c .before .before .before .before .before .args .c)) (c .before .before .before .before .before .args .entries .now) (c .before .before .before .before .before .args .p .now) (c .before .before .before .before .before .pre .1 .0) (c .before .before .before .before .before .args .which) (omega arith) (c .before .before .before .before .before .pre .1 .1 .2)))
 
 pub row-fault-spec : {M : Type 1} → statement M
 row-fault-spec =
@@ -109,10 +110,10 @@ row-fault-spec =
     unit-fault-requires
     unit-fault-requires-2
     fault-c-requires
-    pairs-of-requires
+    pair-count-requires
     mul-t17
     fault-d-requires
-    pairs-of-requires-2
+    pair-count-requires-2
     mul-t20
     fault-e-requires
     mul-t22

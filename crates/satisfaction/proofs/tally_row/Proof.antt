@@ -1,5 +1,6 @@
--- `satisfaction::tally_row` meets its contract: before turn i the entries from low to i are tallied. Assumes nothing.
-use Prim.Native.Nat.{_+_, _-_, _*_, _≤_}
+-- `satisfaction::tally_row` meets its contract: before turn v the entries below v are tallied. Assumes nothing.
+use mathlib.Core.Bool.{Bool}
+use Prim.Native.Nat.{ℕ, _+_, _-_, _*_, _≤_}
 use mathlib.Core.Path.{_≡_}
 use native.Mathlib.Omega.{arith}
 use borrow.Author.Needs.{needs}
@@ -12,13 +13,16 @@ use Rattle.satisfaction.proofs.tally_row.Statement.{statement}
 use Rattle.satisfaction.proofs.tally_row.Tie as tie
 
 abbrev Inv-loop : tie.InvT-loop
-Inv-loop entries low end count₀ sum₀ i₀ count sum i = (low ≤ i) × (i ≤ end) × (count ≤ i) × (sum ≤ i * 33792) × Tallied (denies entries) low i count sum
+Inv-loop entries base n count₀ sum₀ v₀ count sum v = (v ≤ n) × (count ≤ v) × (sum ≤ v * 64) × Tallied (λ u. denies entries (base + u)) v count sum
 
 abbrev μ-loop : tie.MeasureT-loop
-μ-loop entries low end count₀ sum₀ i₀ count sum i = end - i
+μ-loop entries base n count₀ sum₀ v₀ count sum v = n - v
 
 loop-holds : tie.Need-loop-holds Inv-loop μ-loop
-loop-holds c = (omega arith, omega arith, omega arith, omega arith, tallied-none _ _)
+loop-holds c = (omega arith, omega arith, omega arith, tallied-none _)
+
+add-passes : tie.Need-add-passes Inv-loop μ-loop
+add-passes c = search needs
 
 passes-requires : tie.Need-passes-requires Inv-loop μ-loop
 passes-requires c κs = search needs
@@ -32,8 +36,8 @@ cast-sum c = omega (arith, c .before .before .before .loop .inv, c .before .befo
 add-sum : tie.Need-add-sum Inv-loop μ-loop
 add-sum c = omega (arith, c .before .before .before .loop .inv, c .before .before .loop-test .taken, c .before .before .before .before .pre)
 
-add-i : tie.Need-add-i Inv-loop μ-loop
-add-i c = search needs
+add-v : tie.Need-add-v Inv-loop μ-loop
+add-v c = search needs
 
 loop-less : tie.Need-loop-less Inv-loop μ-loop
 loop-less c = search needs
@@ -41,20 +45,20 @@ loop-less c = search needs
 loop-again : tie.Need-loop-again Inv-loop μ-loop
 loop-again c =
     let l = c .before .before .before .loop in
-    let t = denies (c .before .before .before .before .args .entries .now) in
+    let t : ℕ → Bool = λ u. denies (c .before .before .before .before .args .entries .now) (c .before .before .before .before .args .base + u) in
     ⊎-elim
     (λ w.
-    let o : Tallied t (c .before .before .before .before .args .low) (l .i + 1) (c .if1 .count) (c .if1 .sum) =
-    rw (w .1, w .2) (tallied-fail (denies (c .before .before .before .before .args .entries .now)) (c .before .before .before .before .args .low) (l .i) (l .count) (l .sum) (l .inv .4) (l .inv .0) (fails (c .before .passes .ensures) (not-true _ (w .0 .taken)))) in
-    (omega arith, omega arith, omega (arith, w .1, l .inv .2), omega (arith, w .2, l .inv .3, l .inv .1, c .before .before .before .before .pre), o))
+    let o : Tallied t (l .v + 1) (c .if1 .count) (c .if1 .sum) =
+    rw (w .1, w .2) (tallied-fail t (l .v) (l .count) (l .sum) (l .inv .3) (fails (c .before .passes .ensures) (not-true _ (w .0 .taken)))) in
+    (omega arith, omega (arith, w .1, l .inv .1), omega (arith, w .2, l .inv .2, l .inv .0, c .before .before .before .before .pre), o))
     (λ w.
-    let o : Tallied t (c .before .before .before .before .args .low) (l .i + 1) (c .if1 .count) (c .if1 .sum) =
-    rw (w .1, w .2) (tallied-pass (denies (c .before .before .before .before .args .entries .now)) (c .before .before .before .before .args .low) (l .i) (l .count) (l .sum) (l .inv .4) (holds (c .before .passes .ensures) (not-false _ (w .0 .left)))) in
-    (omega arith, omega arith, omega (arith, w .1, l .inv .2), omega (arith, w .2, l .inv .3), o))
+    let o : Tallied t (l .v + 1) (c .if1 .count) (c .if1 .sum) =
+    rw (w .1, w .2) (tallied-pass t (l .v) (l .count) (l .sum) (l .inv .3) (holds (c .before .passes .ensures) (not-false _ (w .0 .left)))) in
+    (omega arith, omega (arith, w .1, l .inv .1), omega (arith, w .2, l .inv .2), o))
     (c .if1 .came)
 
 returns : tie.Need-returns Inv-loop μ-loop
-returns c = let e : c .before .loop .i ≡ c .before .before .args .end = omega arith in rw e at (c .before .loop .inv .4)
+returns c = let e : c .before .loop .v ≡ c .before .before .args .n = omega arith in rw e at (c .before .loop .inv .3)
 
 pub tally-row-spec : {M : Type 1} → statement M
 tally-row-spec =
@@ -63,11 +67,12 @@ tally-row-spec =
     Inv-loop
     μ-loop
     loop-holds
+    add-passes
     passes-requires
     add-count
     cast-sum
     add-sum
-    add-i
+    add-v
     loop-less
     loop-again
     returns)
