@@ -10,8 +10,7 @@ ghost use Rattle.answers.specs.Answers.{decide};
 ghost use Rattle.plan.specs.Plan.{planBytes};
 ghost use Rattle.valuation.specs.Valuation.{namedPlan};
 ghost use Rattle.instance.specs.Accepted.{Accepted, instanceOf};
-ghost use Rattle.calls.specs.Questions.{question14, question15, question23, question24};
-ghost use Rattle.calls.specs.Calls.{decodeAnswer, decodeSlice};
+ghost use Rattle.calls.specs.Calls.{decodeRest, decodeAnswer, decodeSlice};
 
 // An answer, and the plan where it is an acceptance.
 pub struct Decoded {
@@ -22,12 +21,12 @@ pub struct Decoded {
 // Questions 14, 15, 23 and 24, for a plan slice of the given size.
 fn ask_entries(b: &[u8], c: Checked, entries: &[i32], size: usize) -> Decoded
     requires { ⌜ Accepted (now b) c ⌝ }
-    ensures { λ r. ⌜ r .answer ≡ decide (question14 (instanceOf (now (b .entry)) c) (now (entries .entry)) ∷ question15 (instanceOf (now (b .entry)) c) size ∷ question23 (instanceOf (now (b .entry)) c) (now (entries .entry)) ∷ question24 (instanceOf (now (b .entry)) c) (now (entries .entry)) ∷ []) (planBytes (c .sizes)) ⌝ }
+    ensures { λ r. ⌜ r .answer ≡ decide (decodeRest (instanceOf (now (b .entry)) c) (now (entries .entry)) size) (planBytes (instanceOf (now (b .entry)) c .sizes)) ⌝ }
     ensures { λ r. ⌜ (length (r .places) ≡ 528) × (r .answer .number ≡ 0 → (r .answer .second ≡ planBytes (c .sizes)) × (take (planBytes (c .sizes)) (r .places) ≡ namedPlan (c .sizes) (now (entries .entry)))) ⌝ }
 {
     let s = c.sizes;
-    let count = s.n * s.k * (s.m + 1);
-    let bytes = (s.m + 1) * s.k;
+    let count = counts::variable_count(s);
+    let bytes = counts::plan_bytes(s);
     let len = entries.len();
     if len != count {
         return Decoded {
