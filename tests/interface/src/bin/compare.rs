@@ -7,7 +7,6 @@
 
 use independent::sample::{all_edges, instance_bytes, largest_instance, Generator};
 use interface::input::*;
-use interface::{Answer, Written};
 use std::fmt::Debug;
 use std::hint::black_box;
 use std::time::Instant;
@@ -29,6 +28,48 @@ fn asks(call: usize, number: usize) -> bool {
             DECODER => [14, 15, 23, 24].contains(&number),
             _ => number == 13 || (16..=22).contains(&number),
         }
+}
+
+/// An answer of either program; its clauses are 0 but for the writer's.
+#[derive(Clone, Copy, Debug, PartialEq)]
+struct Said {
+    number: u32,
+    second: u64,
+    clauses: u64,
+}
+
+impl Said {
+    fn new(number: u32, second: u64, clauses: u64) -> Said {
+        Said {
+            number,
+            second,
+            clauses,
+        }
+    }
+}
+
+impl From<runglaet::Answer> for Said {
+    fn from(answer: runglaet::Answer) -> Said {
+        Said::new(answer.number, answer.second, 0)
+    }
+}
+
+impl From<runglaet::Written> for Said {
+    fn from(answer: runglaet::Written) -> Said {
+        Said::new(answer.number, answer.second, answer.clauses)
+    }
+}
+
+impl From<independent::Answer> for Said {
+    fn from(answer: independent::Answer) -> Said {
+        Said::new(answer.number, answer.second, 0)
+    }
+}
+
+impl From<independent::Written> for Said {
+    fn from(answer: independent::Written) -> Said {
+        Said::new(answer.number, answer.second, answer.clauses)
+    }
 }
 
 /// What lent slices hold before a call; no call writes such a value.
@@ -113,19 +154,24 @@ impl Run {
     }
 
     /// Runs both on slices of `length` items; gives the answer and the slice.
-    fn both<T: Pattern>(
+    fn both<T, L, R>(
         &mut self,
         asked: &Asked,
         length: usize,
-        ours: impl FnOnce(&[u8], &mut [T]) -> Written,
-        theirs: impl FnOnce(&[u8], &mut [T]) -> Written,
-    ) -> (Written, Vec<T>) {
+        ours: impl FnOnce(&[u8], &mut [T]) -> L,
+        theirs: impl FnOnce(&[u8], &mut [T]) -> R,
+    ) -> (Said, Vec<T>)
+    where
+        T: Pattern,
+        L: Into<Said>,
+        R: Into<Said>,
+    {
         let lent = self.before..self.before + length;
         let mut left: Vec<T> = (0..lent.end + AFTER).map(T::pattern).collect();
         let mut right = left.clone();
         let instance = Input::new(self.before, asked.instance);
-        let answer = ours(instance.items(), black_box(&mut left[lent.clone()]));
-        let expected = theirs(asked.instance, &mut right[lent.clone()]);
+        let answer = ours(instance.items(), black_box(&mut left[lent.clone()])).into();
+        let expected = theirs(asked.instance, &mut right[lent.clone()]).into();
         if answer != expected {
             self.fail(
                 asked,
@@ -168,7 +214,7 @@ impl Run {
         (answer, left.split_off(lent.start))
     }
 
-    fn write(&mut self, instance: &[u8], horizon: u64, length: usize) -> (Written, Vec<i32>) {
+    fn write(&mut self, instance: &[u8], horizon: u64, length: usize) -> (Said, Vec<i32>) {
         let asked = Asked {
             call: WRITER,
             instance,
@@ -180,7 +226,7 @@ impl Run {
         let (answer, words) = self.both(
             &asked,
             length,
-            |instance, words| interface::write_formula(instance, horizon, words),
+            |instance, words| runglaet::write_formula(instance, horizon, words),
             |instance, words| independent::write_formula(instance, horizon, words),
         );
         if answer.number != 0 && answer.clauses != 0 {
@@ -195,7 +241,7 @@ impl Run {
         horizon: u64,
         clause: u64,
         length: usize,
-    ) -> (Written, Vec<i32>) {
+    ) -> (Said, Vec<i32>) {
         let asked = Asked {
             call: CLAUSE,
             instance,
@@ -207,8 +253,8 @@ impl Run {
         let result = self.both(
             &asked,
             length,
-            |instance, words| written(interface::clause(instance, horizon, clause, words)),
-            |instance, words| written(independent::clause(instance, horizon, clause, words)),
+            |instance, words| runglaet::clause(instance, horizon, clause, words),
+            |instance, words| independent::clause(instance, horizon, clause, words),
         );
         if result.0.number == 0 {
             self.given[Parts::of(instance).family(horizon as usize, clause)] += 1;
@@ -216,7 +262,7 @@ impl Run {
         result
     }
 
-    fn check(&mut self, instance: &[u8], horizon: u64, plan: &[u8]) -> Written {
+    fn check(&mut self, instance: &[u8], horizon: u64, plan: &[u8]) -> Said {
         let asked = Asked {
             call: CHECK,
             instance,
@@ -226,11 +272,11 @@ impl Run {
             entries: None,
         };
         let input = Input::new(self.before, plan);
-        let (answer, _) = self.both::<u8>(
+        let (answer, _) = self.both::<u8, _, _>(
             &asked,
             0,
-            |instance, _| written(interface::check_plan(instance, horizon, input.items())),
-            |instance, _| written(independent::check_plan(instance, horizon, plan)),
+            |instance, _| runglaet::check_plan(instance, horizon, input.items()),
+            |instance, _| independent::check_plan(instance, horizon, plan),
         );
         if input.items() != plan {
             self.fail(&asked, "the plan was changed");
@@ -244,7 +290,7 @@ impl Run {
         horizon: u64,
         entries: &[i32],
         length: usize,
-    ) -> (Written, Vec<u8>) {
+    ) -> (Said, Vec<u8>) {
         let asked = Asked {
             call: DECODER,
             instance,
@@ -257,8 +303,8 @@ impl Run {
         let result = self.both(
             &asked,
             length,
-            |instance, plan| written(interface::decode(instance, horizon, input.items(), plan)),
-            |instance, plan| written(independent::decode(instance, horizon, entries, plan)),
+            |instance, plan| runglaet::decode(instance, horizon, input.items(), plan),
+            |instance, plan| independent::decode(instance, horizon, entries, plan),
         );
         if input.items() != entries {
             self.fail(&asked, "the entries were changed");
@@ -276,7 +322,7 @@ impl Run {
         horizon: u64,
         plan: &[u8],
         length: usize,
-    ) -> (Written, Vec<i32>) {
+    ) -> (Said, Vec<i32>) {
         let asked = Asked {
             call: ENCODER,
             instance,
@@ -289,10 +335,8 @@ impl Run {
         let result = self.both(
             &asked,
             length,
-            |instance, entries| {
-                written(interface::encode(instance, horizon, input.items(), entries))
-            },
-            |instance, entries| written(independent::encode(instance, horizon, plan, entries)),
+            |instance, entries| runglaet::encode(instance, horizon, input.items(), entries),
+            |instance, entries| independent::encode(instance, horizon, plan, entries),
         );
         if input.items() != plan {
             self.fail(&asked, "the plan was changed");
@@ -682,14 +726,6 @@ fn mix(seed: u64, case: u64) -> u64 {
     z = (z ^ z >> 30).wrapping_mul(0xBF58_476D_1CE4_E5B9);
     z = (z ^ z >> 27).wrapping_mul(0x94D0_49BB_1331_11EB);
     z ^ z >> 31
-}
-
-fn written(answer: Answer) -> Written {
-    Written {
-        number: answer.number,
-        second: answer.second,
-        clauses: 0,
-    }
 }
 
 fn main() {
