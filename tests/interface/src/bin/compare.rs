@@ -5,6 +5,7 @@
 
 #![forbid(unsafe_code)]
 
+use independent::questions::ASKED;
 use independent::sample::{all_edges, instance_bytes, largest_instance, Generator};
 use interface::input::*;
 use std::fmt::Debug;
@@ -19,15 +20,8 @@ const DECODER: usize = 3;
 const ENCODER: usize = 4;
 
 /// Can the call give this number? 0 is accepted.
-fn asks(call: usize, number: usize) -> bool {
-    number <= 10
-        || match call {
-            WRITER => number == 12,
-            CLAUSE => number == 11 || number == 12,
-            CHECK => number == 13 || (17..=22).contains(&number),
-            DECODER => [14, 15, 23, 24].contains(&number),
-            _ => number == 13 || (16..=22).contains(&number),
-        }
+fn gives(call: usize, number: usize) -> bool {
+    number == 0 || ASKED[call].contains(&(number as u32))
 }
 
 /// An answer of either program; its clauses are 0 but for the writer's.
@@ -206,7 +200,7 @@ impl Run {
             );
         }
         let number = answer.number as usize;
-        if number > 24 || !asks(asked.call, number) {
+        if number > 24 || !gives(asked.call, number) {
             self.fail(asked, &format!("{answer:?}: not a number of this call"));
         }
         self.hits[asked.call][number] += 1;
@@ -637,7 +631,7 @@ impl Run {
         for number in 0..25 {
             let row: Vec<String> = (0..5)
                 .map(|call| match self.hits[call][number] {
-                    _ if !asks(call, number) => "-".to_string(),
+                    _ if !gives(call, number) => "-".to_string(),
                     0 => {
                         complete = false;
                         "NEVER".to_string()
