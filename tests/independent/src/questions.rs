@@ -33,7 +33,7 @@ pub const ASKED: [&[u32]; 5] = [
 /// The places of all items for which the question is answered no, rising. Items
 /// that the bytes given do not reach are left out.
 pub fn failing(question: u32, handed: &Handed) -> Vec<u64> {
-    let places = failing_places(question, handed).unwrap_or_default();
+    let places = all_places(question, handed).unwrap_or_default();
     places.into_iter().map(|place| place as u64).collect()
 }
 
@@ -51,7 +51,7 @@ pub fn first_no(questions: &[u32], handed: &Handed) -> Option<Item> {
 
 /// None where the bytes do not even reach the sizes that the question needs.
 /// Horizons are any, so places are counted in 128 bits.
-fn failing_places(question: u32, handed: &Handed) -> Option<Vec<u128>> {
+fn all_places(question: u32, handed: &Handed) -> Option<Vec<u128>> {
     let &Handed {
         instance,
         horizon,
@@ -60,7 +60,12 @@ fn failing_places(question: u32, handed: &Handed) -> Option<Vec<u128>> {
         entries,
         lent,
     } = handed;
-    let byte = |at: u128| instance.get(at as usize).map(|&byte| u128::from(byte));
+    let item = |bytes: &[u8], at: u128| {
+        let byte = bytes.get(usize::try_from(at).ok()?)?;
+        Some(u128::from(*byte))
+    };
+    let byte = |at: u128| item(instance, at);
+    let vertex = |i: u128| item(plan, i);
     let (length, m, lent) = (instance.len() as u128, u128::from(horizon), lent as u128);
     let n = || byte(0);
     let k = || byte(1);
@@ -68,7 +73,6 @@ fn failing_places(question: u32, handed: &Handed) -> Option<Vec<u128>> {
     let edge = |j: u128| Some((byte(4 + j)?, byte(4 + e()? + j)?));
     let start = |a: u128| byte(4 + 2 * e()? + a);
     let goal = |a: u128| byte(4 + 2 * e()? + k()? + a);
-    let vertex = |i: u128| plan.get(i as usize).map(|&v| u128::from(v));
     let plan_length = || Some((m + 1) * k()?);
     let variables = || Some(n()? * plan_length()?);
 

@@ -400,7 +400,7 @@ impl Cases {
         // There is no clause 8; 12 fails because an empty slice fits none.
         self.two(CLAUSE, &pair(1), 8, &[], 0, [(11, 8), (12, 2)]);
 
-        let both: [(Given, &[i32], usize, [Item; 2]); 8] = [
+        let valuations: [(Given, &[i32], usize, [Item; 2]); 8] = [
             (pair(33), &[1, -2], 34, [(10, 0), (14, 2)]),
             (pair(1), &[1, -2, -3], 1, [(14, 3), (15, 2)]),
             (pair(1), &[1, -2, 4, -3], 1, [(15, 2), (23, 2)]),
@@ -421,7 +421,7 @@ impl Cases {
                 [(24, 16), (24, 21)],
             ),
         ];
-        for (given, entries, lent, items) in both {
+        for (given, entries, lent, items) in valuations {
             self.two(DECODER, &given, 0, &payload_of(entries), lent, items);
         }
 

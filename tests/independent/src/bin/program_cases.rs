@@ -114,9 +114,9 @@ fn limits() -> Vec<Vec<u8>> {
     let mut inputs = vec![vec![], vec![32], largest(32, 4069), largest(0, 4069)];
     for length in [4068, 4070, 4071, 5000] {
         inputs.push(largest(32, length));
-        // Refused before its length is asked.
+        // Refused by 2, before the length is asked.
         inputs.push(vec![0; length]);
-        // Sizes for one more vertex or agent, and an edge count that would need every byte.
+        // One vertex, agent or edge too many.
         for (at, byte) in [(1, 65), (2, 17), (3, 0xE1)] {
             let mut input = largest(0, length);
             input[at] = byte;
