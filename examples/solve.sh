@@ -19,7 +19,9 @@ stop() {
 description=$1
 horizon=$2
 [ -f "$description" ] || stop "$description: no such file"
-[[ $horizon =~ ^(0|[1-9][0-9]{0,2})$ ]] && [ "$horizon" -le 255 ] || stop "the horizon must be a number from 0 to 255"
+if ! [[ $horizon =~ ^(0|[1-9][0-9]{0,2})$ ]] || [ "$horizon" -gt 255 ]; then
+    stop "the horizon must be a number from 0 to 255"
+fi
 
 if [ -n "${SOLVER:-}" ]; then
     [[ " $solvers " == *" $SOLVER "* ]] || stop "SOLVER must be one of: $solvers"
@@ -59,7 +61,7 @@ output=$folder/output.txt
 # The description as instance bytes, and the formula: the program reads the horizon in one byte, then the instance.
 "$shuttles" instance "$description" >"$instance"
 {
-    printf "\\x$(printf %02x "$horizon")"
+    printf %b "\\x$(printf %02x "$horizon")"
     cat "$instance"
 } | "$RUNGLAET_PROGRAM" >"$formula" || stop "the formula program failed"
 read -r first second number place <"$formula" || stop "the formula program printed nothing"

@@ -1,19 +1,19 @@
-#!/bin/sh
+#!/usr/bin/env bash
 # Compares the proved program `comparison` with the independent one on fresh cases.
 #   tests/compare.sh SEED PIECES COUNT
 # Each piece has its own seed, SEED and up, and COUNT random instances. Before them come all small instances (up to 4 vertices, 2 agents,
-# horizon 2), all clauses of every eleventh, all plans of tiny ones and all sign patterns of some with at most 16 variables. Needs cargo, and `rt check comparison` before.
+# horizon 2), all clauses of every eleventh, all plans of tiny ones and all sign patterns of some with at most 16 variables.
+# RUNGLAET_COMPARISON: the program, if it is not target/bin/comparison.
 set -eu
+cd "$(dirname "$0")/.."
+# shellcheck source=tests/common.sh
+. tests/common.sh
 seed=${1:-1} pieces=${2:-10} count=${3:-400}
-root=$(cd "$(dirname "$0")/.." && pwd)
-program=$root/target/bin/comparison
-[ -x "$program" ] || { echo "no $program: run 'rt check comparison'" >&2; exit 1; }
+program=$(made RUNGLAET_COMPARISON target/bin/comparison "rt check comparison")
+build independent
+cases=tests/independent/target/release/cases
 work=$(mktemp -d)
 trap 'rm -rf "$work"' EXIT
-CARGO_TARGET_DIR=${CARGO_TARGET_DIR:-$root/tests/independent/target}
-export CARGO_TARGET_DIR
-cargo build --quiet --release --offline --manifest-path "$root/tests/independent/Cargo.toml" --bin cases
-cases=$CARGO_TARGET_DIR/release/cases
 
 # piece MODE SEED COUNT: makes cases, runs them, and stops at a difference.
 piece() {

@@ -1,15 +1,18 @@
 //! A second, independent program for shuttle formulas, valuations and plans.
 //!
 //! The five calls and `check_instance` work on raw bytes and never panic.
-//! `plain` generates the clauses slowly, `sample` makes test inputs and
-//! `text` prints a formula as DIMACS CNF.
+//! `plain` generates the clauses slowly, `questions` asks one question at a
+//! time, `sample` and `parts` make test inputs and `text` prints a formula as
+//! DIMACS CNF.
 
 #![forbid(unsafe_code)]
 
 mod formula;
 mod instance;
+pub mod parts;
 pub mod plain;
 mod plan;
+pub mod questions;
 pub mod sample;
 pub mod text;
 mod valuation;

@@ -1,5 +1,7 @@
 //! Inputs for tests, the same for the same seed.
 
+use crate::questions::Item;
+
 /// The generator xorshift64*.
 pub struct Generator {
     state: u64,
@@ -148,4 +150,38 @@ pub fn instance_bytes(n: usize, edges: &[(u8, u8)], starts: &[u8], goals: &[u8])
 pub fn largest_instance() -> Vec<u8> {
     let agents: Vec<u8> = (0..16).collect();
     instance_bytes(64, &all_edges(64), &agents, &agents)
+}
+
+/// Instances with their horizons on which two items fail: of neighbouring
+/// questions first, then of one question. The first item is the answer.
+pub fn refused_twice() -> Vec<(Vec<u8>, u64, [Item; 2])> {
+    let path = [(0, 1), (1, 2)];
+    let edges = |edges: &[(u8, u8)]| instance_bytes(4, edges, &[0], &[1]);
+    let ends = |starts: &[u8], goals: &[u8]| instance_bytes(3, &path, starts, goals);
+    vec![
+        (vec![0, 1, 0], 1, [(1, 3), (2, 0)]),
+        (instance_bytes(0, &[], &[0], &[0]), 1, [(2, 0), (3, 1)]),
+        (
+            instance_bytes(2, &[(0, 1), (0, 1)], &[0, 1, 0], &[0, 1, 0]),
+            1,
+            [(3, 1), (4, 2)],
+        ),
+        // Sizes for two edges, bytes for one.
+        (vec![2, 1, 2, 0, 0, 1, 0, 1], 1, [(4, 2), (5, 8)]),
+        // One byte too many, and edge 1 is 2-2.
+        (vec![3, 1, 2, 0, 0, 2, 1, 2, 0, 1, 0], 1, [(5, 11), (6, 5)]),
+        (edges(&[(1, 2), (0, 0)]), 1, [(6, 5), (7, 5)]),
+        (edges(&[(0, 1), (0, 1), (3, 3)]), 1, [(6, 6), (7, 5)]),
+        (
+            instance_bytes(4, &[(0, 1), (0, 1)], &[4], &[1]),
+            1,
+            [(7, 5), (8, 8)],
+        ),
+        (ends(&[0, 0], &[2, 2]), 1, [(8, 9), (9, 11)]),
+        (ends(&[0, 1], &[2, 2]), 33, [(9, 11), (10, 0)]),
+        (edges(&[(0, 1), (2, 1), (3, 3)]), 1, [(6, 5), (6, 6)]),
+        (edges(&[(0, 2), (0, 1), (0, 1)]), 1, [(7, 5), (7, 6)]),
+        (ends(&[0, 3, 0], &[0, 1, 2]), 1, [(8, 9), (8, 10)]),
+        (ends(&[0, 1, 2], &[1, 1, 1]), 1, [(9, 12), (9, 13)]),
+    ]
 }

@@ -1,11 +1,10 @@
 //! Shuttle instances, plans and solvers' valuations on the command line.
 
 mod description;
-mod library;
 mod refusals;
 mod solver_output;
 
-use library::Answer;
+use runglaet::Answer;
 use solver_output::Verdict;
 use std::io::{Read, Write};
 use std::process::ExitCode;
@@ -80,7 +79,7 @@ fn decode(instance: &str, horizon: &str, numbers: bool) -> Outcome {
         Verdict::Satisfiable { literals, closed } => (literals, closed),
         Verdict::Unsatisfiable => {
             // The verdict is about an instance only where the library accepts it: then there is a clause 0.
-            let answer = library::clause(&instance, horizon, 0, &mut [0; 66]);
+            let answer = runglaet::clause(&instance, horizon, 0, &mut [0; 66]);
             if answer.number != 0 {
                 return refused(answer, &instance);
             }
@@ -95,11 +94,11 @@ fn decode(instance: &str, horizon: &str, numbers: bool) -> Outcome {
     }
     let entries = solver_output::entries(&literals, variables(&instance, horizon))?;
     let mut plan = vec![0; plan_bytes(&instance, horizon)];
-    let answer = library::decode(&instance, horizon, &entries, &mut plan);
+    let answer = runglaet::decode(&instance, horizon, &entries, &mut plan);
     if answer.number != 0 {
         return refused(answer, &instance);
     }
-    let answer = library::check_plan(&instance, horizon, &plan);
+    let answer = runglaet::check_plan(&instance, horizon, &plan);
     if answer.number != 0 {
         return refused(answer, &instance);
     }
@@ -113,7 +112,7 @@ fn decode(instance: &str, horizon: &str, numbers: bool) -> Outcome {
 fn encode(instance: &str, horizon: &str, plan: &[&str]) -> Outcome {
     let (instance, horizon, plan) = (bytes_of(instance)?, number(horizon)?, plan_of(plan)?);
     let mut entries = vec![0; variables(&instance, horizon)];
-    let answer = library::encode(&instance, horizon, &plan, &mut entries);
+    let answer = runglaet::encode(&instance, horizon, &plan, &mut entries);
     if answer.number != 0 {
         return refused(answer, &instance);
     }
@@ -127,7 +126,7 @@ fn encode(instance: &str, horizon: &str, plan: &[&str]) -> Outcome {
 
 fn check(instance: &str, horizon: &str, plan: &[&str]) -> Outcome {
     let (instance, horizon, plan) = (bytes_of(instance)?, number(horizon)?, plan_of(plan)?);
-    let answer = library::check_plan(&instance, horizon, &plan);
+    let answer = runglaet::check_plan(&instance, horizon, &plan);
     if answer.number != 0 {
         return refused(answer, &instance);
     }

@@ -1,6 +1,6 @@
 //! Plain words for every refusal, numbered as in include/runglaet.h and README.md.
 
-use crate::library::Answer;
+use runglaet::Answer;
 
 /// What the place of a refusal counts.
 #[derive(Clone, Copy)]

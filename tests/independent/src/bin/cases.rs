@@ -7,8 +7,10 @@
 
 #![forbid(unsafe_code)]
 
-use independent::sample::{all_edges, instance_bytes, largest_instance, Generator};
+use independent::questions::{failing, Handed, Item, ASKED};
+use independent::sample::{all_edges, instance_bytes, largest_instance, refused_twice, Generator};
 use independent::{check_plan, clause, decode, encode, plain, write_formula};
+use std::collections::BTreeSet;
 use std::fmt::Write;
 use std::{env, fs, process};
 
@@ -23,14 +25,10 @@ const WORDS: usize = 65_536;
 const PLAN_BYTES: usize = 1_024;
 const ENTRIES: usize = 40_000;
 
-/// The answers each kind can give, 0 and 1 to 10 apart.
-const ANSWERS: [(u8, &[usize]); 5] = [
-    (WRITER, &[12]),
-    (CLAUSE, &[11, 12]),
-    (PLAN, &[13, 17, 18, 19, 20, 21, 22]),
-    (DECODER, &[14, 15, 23, 24]),
-    (ENCODER, &[13, 16, 17, 18, 19, 20, 21, 22]),
-];
+/// The questions that a kind asks, in order.
+fn asked(kind: u8) -> &'static [u32] {
+    ASKED[usize::from(kind) - 1]
+}
 
 fn before(i: usize) -> u8 {
     (7 * (i % 32) + 3) as u8
@@ -46,6 +44,17 @@ fn hash_words(words: &[i32]) -> u64 {
 
 fn lent_words(length: usize) -> Vec<i32> {
     (0..length).map(|i| i32::from(before(i))).collect()
+}
+
+fn entries_of(payload: &[u8]) -> Vec<i32> {
+    let entries = payload.chunks_exact(4);
+    entries
+        .map(|c| i32::from_le_bytes([c[0], c[1], c[2], c[3]]))
+        .collect()
+}
+
+fn payload_of(entries: &[i32]) -> Vec<u8> {
+    entries.iter().flat_map(|x| x.to_le_bytes()).collect()
 }
 
 /// An instance with its horizon; accepted unless said otherwise.
@@ -84,10 +93,22 @@ struct Cases {
     input: Vec<u8>,
     output: String,
     times: [[usize; 25]; 6],
+    /// Kinds, with two questions that failed at once in a case that says so.
+    twice: BTreeSet<(u8, u32, u32)>,
+    /// Accepted plans with moves and waits, but not as many.
+    uneven: usize,
 }
 
 impl Cases {
-    fn put(&mut self, kind: u8, given: &Given, number: u64, payload: &[u8], lent: usize) {
+    /// Adds the case; gives the answer's number and second number, if it is not skipped.
+    fn put(
+        &mut self,
+        kind: u8,
+        given: &Given,
+        number: u64,
+        payload: &[u8],
+        lent: usize,
+    ) -> Option<Item> {
         self.input.push(kind);
         self.input.extend(given.m.to_le_bytes());
         self.input.extend(number.to_le_bytes());
@@ -105,7 +126,7 @@ impl Cases {
         };
         if !room {
             self.output.push_str("skip\n");
-            return;
+            return None;
         }
         let (b, m) = (&given.instance[..], given.m);
         let mut words = lent_words(if kind == DECODER { 0 } else { lent });
@@ -124,13 +145,14 @@ impl Cases {
             PLAN => {
                 hashed = Some(1);
                 let r = check_plan(b, m, payload);
+                if r.number == 0 {
+                    let (moves, waits) = (r.second, m * given.k() as u64 - r.second);
+                    self.uneven += usize::from(moves > 0 && waits > 0 && moves != waits);
+                }
                 (r.number, r.second)
             }
             DECODER => {
-                let entries: Vec<i32> = payload
-                    .chunks_exact(4)
-                    .map(|c| i32::from_le_bytes([c[0], c[1], c[2], c[3]]))
-                    .collect();
+                let entries = entries_of(payload);
                 let mut plan: Vec<u8> = (0..lent).map(before).collect();
                 let r = decode(b, m, &entries, &mut plan);
                 hashed = Some(hash(plan.iter().map(|&x| u64::from(x))));
@@ -144,6 +166,7 @@ impl Cases {
         let hashed = hashed.unwrap_or_else(|| hash_words(&words));
         writeln!(self.output, "{no} {second} {clauses} {hashed}").expect("a string takes all");
         self.times[usize::from(kind)][no as usize] += 1;
+        Some((no, second))
     }
 
     fn writer(&mut self, given: &Given, lent: usize) {
@@ -159,8 +182,7 @@ impl Cases {
     }
 
     fn decoder(&mut self, given: &Given, entries: &[i32], lent: usize) {
-        let payload: Vec<u8> = entries.iter().flat_map(|x| x.to_le_bytes()).collect();
-        self.put(DECODER, given, 0, &payload, lent);
+        self.put(DECODER, given, 0, &payload_of(entries), lent);
     }
 
     fn encoder(&mut self, given: &Given, plan: &[u8], lent: usize) {
@@ -319,6 +341,142 @@ impl Cases {
         self.plan(&given, &plan);
         self.decoder(&given, &[1, -2], 4);
         self.encoder(&given, &plan, 4);
+    }
+
+    /// A case on which two items fail, each asked by itself; the first is the answer.
+    fn two(
+        &mut self,
+        kind: u8,
+        given: &Given,
+        number: u64,
+        payload: &[u8],
+        lent: usize,
+        items: [Item; 2],
+    ) {
+        let (plan, entries) = match kind {
+            PLAN | ENCODER => (payload, vec![]),
+            _ => (&[][..], entries_of(payload)),
+        };
+        let handed = Handed {
+            instance: &given.instance,
+            horizon: given.m,
+            clause: (kind == CLAUSE).then_some(number),
+            plan,
+            entries: &entries,
+            lent,
+        };
+        for (question, place) in items {
+            let places = failing(question, &handed);
+            assert!(
+                asked(kind).contains(&question) && places.contains(&place),
+                "kind {kind}, {items:?}: {question} fails at {places:?}, not at {place}"
+            );
+        }
+        let answer = self.put(kind, given, number, payload, lent);
+        assert_eq!(answer, Some(items[0]), "kind {kind}, {items:?}");
+        self.twice.insert((kind, items[0].0, items[1].0));
+    }
+
+    /// Cases on which two items fail: of neighbouring questions of each call, of
+    /// two steps, and of one question. There is an input for every two neighbours.
+    fn two_at_once(&mut self) {
+        for (instance, m, items) in refused_twice() {
+            let given = Given { instance, m };
+            self.two(WRITER, &given, 0, &[], 5, items);
+            self.two(CLAUSE, &given, 0, &[], 3, items);
+            self.two(PLAN, &given, 0, &[0, 1, 0], 0, items);
+            self.two(DECODER, &given, 0, &payload_of(&[1, -2]), 4, items);
+            self.two(ENCODER, &given, 0, &[0, 1, 0], 4, items);
+        }
+        let given = |n: usize, edges: &[(u8, u8)], starts: &[u8], goals: &[u8], m: u64| Given {
+            instance: instance_bytes(n, edges, starts, goals),
+            m,
+        };
+        let pair = |m: u64| given(2, &[(0, 1)], &[0], &[1], m);
+
+        // The counts of document 01's table at m 33.
+        self.two(WRITER, &pair(33), 0, &[], 0, [(10, 0), (12, 472)]);
+        self.two(CLAUSE, &pair(33), 136, &[], 66, [(10, 0), (11, 136)]);
+        // There is no clause 8; 12 fails because an empty slice fits none.
+        self.two(CLAUSE, &pair(1), 8, &[], 0, [(11, 8), (12, 2)]);
+
+        let valuations: [(Given, &[i32], usize, [Item; 2]); 8] = [
+            (pair(33), &[1, -2], 34, [(10, 0), (14, 2)]),
+            (pair(1), &[1, -2, -3], 1, [(14, 3), (15, 2)]),
+            (pair(1), &[1, -2, 4, -3], 1, [(15, 2), (23, 2)]),
+            (pair(1), &[-1, -2, -3, 5], 2, [(23, 3), (24, 0)]),
+            (pair(1), &[1, -3, -2, 4], 2, [(23, 1), (23, 2)]),
+            (pair(1), &[-1, -2, -3, -4], 2, [(24, 0), (24, 1)]),
+            // Two agents change places: against G, and without the edge against F too.
+            (
+                given(2, &[(0, 1)], &[0, 1], &[1, 0], 1),
+                &[1, -2, -3, 4, -5, 6, 7, -8],
+                4,
+                [(24, 21), (24, 22)],
+            ),
+            (
+                given(2, &[], &[0, 1], &[1, 0], 1),
+                &[1, -2, -3, 4, -5, 6, 7, -8],
+                4,
+                [(24, 16), (24, 21)],
+            ),
+        ];
+        for (given, entries, lent, items) in valuations {
+            self.two(DECODER, &given, 0, &payload_of(entries), lent, items);
+        }
+
+        self.two(ENCODER, &pair(1), 0, &[0, 1, 0], 3, [(13, 3), (16, 4)]);
+        self.two(ENCODER, &pair(1), 0, &[0, 2], 3, [(16, 4), (17, 1)]);
+        let path = |starts: &[u8], goals: &[u8], m: u64| {
+            given(4, &[(0, 1), (1, 2), (2, 3)], starts, goals, m)
+        };
+        let star = given(4, &[(0, 1), (0, 2), (0, 3)], &[1, 2, 3], &[0, 1, 2], 1);
+        let apart = given(
+            5,
+            &[(0, 1), (0, 2), (3, 4)],
+            &[1, 2, 3, 4],
+            &[0, 1, 4, 3],
+            1,
+        );
+        let plans: [(Given, &[u8], [Item; 2]); 17] = [
+            (pair(33), &[0, 1, 0], [(10, 0), (13, 3)]),
+            (pair(1), &[0, 1, 9], [(13, 3), (17, 2)]),
+            (pair(1), &[1, 2], [(17, 1), (18, 0)]),
+            (path(&[0], &[3], 1), &[1, 3], [(18, 0), (19, 1)]),
+            // 19 of agent 1, 20 of agent 0.
+            (path(&[0, 1], &[1, 3], 1), &[0, 1, 1, 3], [(19, 3), (20, 2)]),
+            (path(&[0, 1], &[1, 2], 1), &[0, 1, 1, 1], [(20, 2), (21, 3)]),
+            // 20 of agent 2, 21 of agent 1.
+            (apart, &[1, 2, 3, 4, 0, 0, 4, 4], [(20, 6), (21, 5)]),
+            (path(&[0, 2], &[1, 2], 1), &[0, 2, 1, 1], [(21, 3), (22, 3)]),
+            // 20 or 21 in step 0, 19 in step 1.
+            (
+                path(&[0, 1], &[3, 2], 2),
+                &[0, 1, 1, 2, 3, 2],
+                [(20, 2), (19, 4)],
+            ),
+            (
+                path(&[0, 2], &[3, 1], 2),
+                &[0, 2, 1, 1, 3, 1],
+                [(21, 3), (19, 4)],
+            ),
+            // Two items of one question, in one step or in two.
+            (path(&[0], &[1], 2), &[0, 4, 255], [(17, 1), (17, 2)]),
+            (
+                path(&[0, 1, 2], &[0, 2, 1], 0),
+                &[0, 2, 1],
+                [(18, 1), (18, 2)],
+            ),
+            (path(&[0, 1], &[2, 3], 1), &[0, 1, 2, 3], [(19, 2), (19, 3)]),
+            (path(&[0], &[0], 2), &[0, 2, 0], [(19, 1), (19, 2)]),
+            (path(&[0, 1], &[1, 0], 1), &[0, 1, 1, 0], [(20, 2), (20, 3)]),
+            (star, &[1, 2, 3, 0, 0, 0], [(21, 4), (21, 5)]),
+            (path(&[0, 1], &[1, 2], 1), &[0, 1, 0, 1], [(22, 2), (22, 3)]),
+        ];
+        for (given, plan, items) in plans {
+            self.two(PLAN, &given, 0, plan, 0, items);
+            self.two(ENCODER, &given, 0, plan, given.variables(), items);
+        }
     }
 
     /// Malformed instances for the questions 1 to 10.
@@ -602,17 +760,33 @@ fn gate(cases: &mut Cases) {
         cases.formulas();
     }
     cases.largest(true);
+    cases.two_at_once();
 }
 
-/// Fails where a kind never gives an answer that it can give.
+/// Fails where a kind never gives an answer that it can give, where two
+/// neighbouring questions never fail at once, or where every accepted plan has
+/// no moves, no waits or as many of both.
 fn require_all(cases: &Cases) {
-    for (kind, numbers) in ANSWERS {
-        for number in (0..=10).chain(numbers.iter().copied()) {
-            if cases.times[usize::from(kind)][number] == 0 {
-                eprintln!("kind {kind} never gives {number}");
-                process::exit(1);
+    let mut missing = Vec::new();
+    for kind in WRITER..=ENCODER {
+        let times = &cases.times[usize::from(kind)];
+        for &number in [0].iter().chain(asked(kind)) {
+            if times[number as usize] == 0 {
+                missing.push(format!("kind {kind} never gives {number}"));
             }
         }
+        for both in asked(kind).windows(2) {
+            if !cases.twice.contains(&(kind, both[0], both[1])) {
+                missing.push(format!("kind {kind}: {both:?} never fail at once"));
+            }
+        }
+    }
+    if cases.uneven == 0 {
+        missing.push("no accepted plan has moves and waits in different numbers".to_string());
+    }
+    if !missing.is_empty() {
+        eprintln!("{}", missing.join("\n"));
+        process::exit(1);
     }
 }
 
@@ -630,6 +804,8 @@ fn main() {
         input: Vec::new(),
         output: String::new(),
         times: [[0; 25]; 6],
+        twice: BTreeSet::new(),
+        uneven: 0,
     };
     match mode {
         "gate" => {

@@ -1,6 +1,8 @@
 //! Each question, its place, and which of two refusals comes first.
 
 use super::{says, unwritten};
+use crate::parts::malform;
+use crate::questions::{first_no, Handed, ASKED};
 use crate::sample::{all_edges, instance_bytes, largest_instance, Generator};
 use crate::*;
 
@@ -298,4 +300,79 @@ fn size_limits_are_accepted() {
     let full: Vec<u8> = (0..16).collect();
     let instance = instance_bytes(16, &all_edges(16), &full, &full);
     assert_eq!(check_instance(&instance, 0), says(0, 0));
+}
+
+/// Each call answers the first no of its questions, asked one by one.
+#[test]
+fn calls_answer_the_first_no() {
+    let mut random = Generator::new(23);
+    let mut seen = [[false; 25]; 5];
+    for _ in 0..40_000 {
+        let n = 1 + random.below(5);
+        let k = 1 + random.below(n.min(3));
+        let m = random.below(4);
+        let percent = random.below(101);
+        let (mut instance, mut plan) = random.walk(n, k, percent, m);
+        let mut horizon = m as u64;
+        let mut entries = plain::valuation(n, &plan);
+        let total = clause(&instance, horizon, u64::MAX, &mut []).second;
+        let number = random.below(total as usize + 2) as u64;
+        if random.chance(40) {
+            let kind = 1 + random.below(13);
+            instance = malform(&mut random, kind, &instance);
+        }
+        if random.chance(10) {
+            horizon = [0, 32, 33, 1 << 32, u64::MAX][random.below(5)];
+        }
+        for _ in 0..random.below(3) {
+            random.damage(&mut plan);
+            let vertex = random.below(n) as u8;
+            let at = random.below(plan.len());
+            plan[at] = vertex;
+            let i = random.below(entries.len());
+            entries[i] = match random.below(8) {
+                0 => i32::MIN,
+                1 => entries[i] + 1,
+                _ => entries[i].wrapping_neg(),
+            };
+        }
+        if random.chance(10) {
+            plan.pop();
+            entries.push(1);
+        }
+        for (call, questions) in ASKED.into_iter().enumerate() {
+            let lent = match (random.below(4), call) {
+                (0, _) => random.below(6),
+                (_, 3) => 12,
+                _ => 2_000,
+            };
+            let (mut words, mut bytes) = (vec![7; lent], vec![7; lent]);
+            let answer = match call {
+                0 => {
+                    let written = write_formula(&instance, horizon, &mut words);
+                    says(written.number, written.second)
+                }
+                1 => clause(&instance, horizon, number, &mut words),
+                2 => check_plan(&instance, horizon, &plan),
+                3 => decode(&instance, horizon, &entries, &mut bytes),
+                _ => encode(&instance, horizon, &plan, &mut words),
+            };
+            let handed = Handed {
+                instance: &instance,
+                horizon,
+                clause: (call == 1).then_some(number),
+                plan: &plan,
+                entries: &entries,
+                lent,
+            };
+            match first_no(questions, &handed) {
+                Some((question, place)) => assert_eq!(answer, says(question, place)),
+                None => assert_eq!(answer.number, 0),
+            }
+            seen[call][answer.number as usize] = true;
+        }
+    }
+    for (seen, questions) in seen.iter().zip(ASKED) {
+        assert!(seen[0] && questions.iter().all(|&number| seen[number as usize]));
+    }
 }

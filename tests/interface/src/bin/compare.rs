@@ -5,9 +5,9 @@
 
 #![forbid(unsafe_code)]
 
+use independent::questions::ASKED;
 use independent::sample::{all_edges, instance_bytes, largest_instance, Generator};
 use interface::input::*;
-use interface::{Answer, Written};
 use std::fmt::Debug;
 use std::hint::black_box;
 use std::time::Instant;
@@ -20,15 +20,50 @@ const DECODER: usize = 3;
 const ENCODER: usize = 4;
 
 /// Can the call give this number? 0 is accepted.
-fn asks(call: usize, number: usize) -> bool {
-    number <= 10
-        || match call {
-            WRITER => number == 12,
-            CLAUSE => number == 11 || number == 12,
-            CHECK => number == 13 || (17..=22).contains(&number),
-            DECODER => [14, 15, 23, 24].contains(&number),
-            _ => number == 13 || (16..=22).contains(&number),
+fn gives(call: usize, number: usize) -> bool {
+    number == 0 || ASKED[call].contains(&(number as u32))
+}
+
+/// An answer of either program; its clauses are 0 but for the writer's.
+#[derive(Clone, Copy, Debug, PartialEq)]
+struct Said {
+    number: u32,
+    second: u64,
+    clauses: u64,
+}
+
+impl Said {
+    fn new(number: u32, second: u64, clauses: u64) -> Said {
+        Said {
+            number,
+            second,
+            clauses,
         }
+    }
+}
+
+impl From<runglaet::Answer> for Said {
+    fn from(answer: runglaet::Answer) -> Said {
+        Said::new(answer.number, answer.second, 0)
+    }
+}
+
+impl From<runglaet::Written> for Said {
+    fn from(answer: runglaet::Written) -> Said {
+        Said::new(answer.number, answer.second, answer.clauses)
+    }
+}
+
+impl From<independent::Answer> for Said {
+    fn from(answer: independent::Answer) -> Said {
+        Said::new(answer.number, answer.second, 0)
+    }
+}
+
+impl From<independent::Written> for Said {
+    fn from(answer: independent::Written) -> Said {
+        Said::new(answer.number, answer.second, answer.clauses)
+    }
 }
 
 /// What lent slices hold before a call; no call writes such a value.
@@ -113,19 +148,24 @@ impl Run {
     }
 
     /// Runs both on slices of `length` items; gives the answer and the slice.
-    fn both<T: Pattern>(
+    fn both<T, L, R>(
         &mut self,
         asked: &Asked,
         length: usize,
-        ours: impl FnOnce(&[u8], &mut [T]) -> Written,
-        theirs: impl FnOnce(&[u8], &mut [T]) -> Written,
-    ) -> (Written, Vec<T>) {
+        ours: impl FnOnce(&[u8], &mut [T]) -> L,
+        theirs: impl FnOnce(&[u8], &mut [T]) -> R,
+    ) -> (Said, Vec<T>)
+    where
+        T: Pattern,
+        L: Into<Said>,
+        R: Into<Said>,
+    {
         let lent = self.before..self.before + length;
         let mut left: Vec<T> = (0..lent.end + AFTER).map(T::pattern).collect();
         let mut right = left.clone();
         let instance = Input::new(self.before, asked.instance);
-        let answer = ours(instance.items(), black_box(&mut left[lent.clone()]));
-        let expected = theirs(asked.instance, &mut right[lent.clone()]);
+        let answer = ours(instance.items(), black_box(&mut left[lent.clone()])).into();
+        let expected = theirs(asked.instance, &mut right[lent.clone()]).into();
         if answer != expected {
             self.fail(
                 asked,
@@ -160,7 +200,7 @@ impl Run {
             );
         }
         let number = answer.number as usize;
-        if number > 24 || !asks(asked.call, number) {
+        if number > 24 || !gives(asked.call, number) {
             self.fail(asked, &format!("{answer:?}: not a number of this call"));
         }
         self.hits[asked.call][number] += 1;
@@ -168,7 +208,7 @@ impl Run {
         (answer, left.split_off(lent.start))
     }
 
-    fn write(&mut self, instance: &[u8], horizon: u64, length: usize) -> (Written, Vec<i32>) {
+    fn write(&mut self, instance: &[u8], horizon: u64, length: usize) -> (Said, Vec<i32>) {
         let asked = Asked {
             call: WRITER,
             instance,
@@ -180,7 +220,7 @@ impl Run {
         let (answer, words) = self.both(
             &asked,
             length,
-            |instance, words| interface::write_formula(instance, horizon, words),
+            |instance, words| runglaet::write_formula(instance, horizon, words),
             |instance, words| independent::write_formula(instance, horizon, words),
         );
         if answer.number != 0 && answer.clauses != 0 {
@@ -195,7 +235,7 @@ impl Run {
         horizon: u64,
         clause: u64,
         length: usize,
-    ) -> (Written, Vec<i32>) {
+    ) -> (Said, Vec<i32>) {
         let asked = Asked {
             call: CLAUSE,
             instance,
@@ -207,8 +247,8 @@ impl Run {
         let result = self.both(
             &asked,
             length,
-            |instance, words| written(interface::clause(instance, horizon, clause, words)),
-            |instance, words| written(independent::clause(instance, horizon, clause, words)),
+            |instance, words| runglaet::clause(instance, horizon, clause, words),
+            |instance, words| independent::clause(instance, horizon, clause, words),
         );
         if result.0.number == 0 {
             self.given[Parts::of(instance).family(horizon as usize, clause)] += 1;
@@ -216,7 +256,7 @@ impl Run {
         result
     }
 
-    fn check(&mut self, instance: &[u8], horizon: u64, plan: &[u8]) -> Written {
+    fn check(&mut self, instance: &[u8], horizon: u64, plan: &[u8]) -> Said {
         let asked = Asked {
             call: CHECK,
             instance,
@@ -226,11 +266,11 @@ impl Run {
             entries: None,
         };
         let input = Input::new(self.before, plan);
-        let (answer, _) = self.both::<u8>(
+        let (answer, _) = self.both::<u8, _, _>(
             &asked,
             0,
-            |instance, _| written(interface::check_plan(instance, horizon, input.items())),
-            |instance, _| written(independent::check_plan(instance, horizon, plan)),
+            |instance, _| runglaet::check_plan(instance, horizon, input.items()),
+            |instance, _| independent::check_plan(instance, horizon, plan),
         );
         if input.items() != plan {
             self.fail(&asked, "the plan was changed");
@@ -244,7 +284,7 @@ impl Run {
         horizon: u64,
         entries: &[i32],
         length: usize,
-    ) -> (Written, Vec<u8>) {
+    ) -> (Said, Vec<u8>) {
         let asked = Asked {
             call: DECODER,
             instance,
@@ -257,8 +297,8 @@ impl Run {
         let result = self.both(
             &asked,
             length,
-            |instance, plan| written(interface::decode(instance, horizon, input.items(), plan)),
-            |instance, plan| written(independent::decode(instance, horizon, entries, plan)),
+            |instance, plan| runglaet::decode(instance, horizon, input.items(), plan),
+            |instance, plan| independent::decode(instance, horizon, entries, plan),
         );
         if input.items() != entries {
             self.fail(&asked, "the entries were changed");
@@ -276,7 +316,7 @@ impl Run {
         horizon: u64,
         plan: &[u8],
         length: usize,
-    ) -> (Written, Vec<i32>) {
+    ) -> (Said, Vec<i32>) {
         let asked = Asked {
             call: ENCODER,
             instance,
@@ -289,10 +329,8 @@ impl Run {
         let result = self.both(
             &asked,
             length,
-            |instance, entries| {
-                written(interface::encode(instance, horizon, input.items(), entries))
-            },
-            |instance, entries| written(independent::encode(instance, horizon, plan, entries)),
+            |instance, entries| runglaet::encode(instance, horizon, input.items(), entries),
+            |instance, entries| independent::encode(instance, horizon, plan, entries),
         );
         if input.items() != plan {
             self.fail(&asked, "the plan was changed");
@@ -593,7 +631,7 @@ impl Run {
         for number in 0..25 {
             let row: Vec<String> = (0..5)
                 .map(|call| match self.hits[call][number] {
-                    _ if !asks(call, number) => "-".to_string(),
+                    _ if !gives(call, number) => "-".to_string(),
                     0 => {
                         complete = false;
                         "NEVER".to_string()
@@ -682,14 +720,6 @@ fn mix(seed: u64, case: u64) -> u64 {
     z = (z ^ z >> 30).wrapping_mul(0xBF58_476D_1CE4_E5B9);
     z = (z ^ z >> 27).wrapping_mul(0x94D0_49BB_1331_11EB);
     z ^ z >> 31
-}
-
-fn written(answer: Answer) -> Written {
-    Written {
-        number: answer.number,
-        second: answer.second,
-        clauses: 0,
-    }
 }
 
 fn main() {

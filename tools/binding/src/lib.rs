@@ -1,5 +1,6 @@
-//! The calls of include/runglaet.h that the tool uses.
+//! The five calls of include/runglaet.h, safe to call from Rust.
 
+/// The answer of every call but the writer.
 #[repr(C)]
 #[derive(Debug, Clone, Copy, PartialEq, Eq)]
 pub struct Answer {
@@ -9,7 +10,25 @@ pub struct Answer {
     pub second: u64,
 }
 
+/// The writer's answer.
+#[repr(C)]
+#[derive(Debug, Clone, Copy, PartialEq, Eq)]
+pub struct Written {
+    pub number: u32,
+    pub second: u64,
+    /// The clause count, 0 at a refusal.
+    pub clauses: u64,
+}
+
 extern "C" {
+    fn runglaet_write_formula(
+        instance: *const u8,
+        instance_len: usize,
+        horizon: u64,
+        words: *mut i32,
+        words_len: usize,
+    ) -> Written;
+
     fn runglaet_clause(
         instance: *const u8,
         instance_len: usize,
@@ -18,6 +37,7 @@ extern "C" {
         words: *mut i32,
         words_len: usize,
     ) -> Answer;
+
     fn runglaet_check_plan(
         instance: *const u8,
         instance_len: usize,
@@ -25,6 +45,7 @@ extern "C" {
         plan: *const u8,
         plan_len: usize,
     ) -> Answer;
+
     fn runglaet_decode(
         instance: *const u8,
         instance_len: usize,
@@ -34,6 +55,7 @@ extern "C" {
         plan: *mut u8,
         plan_len: usize,
     ) -> Answer;
+
     fn runglaet_encode(
         instance: *const u8,
         instance_len: usize,
@@ -45,8 +67,23 @@ extern "C" {
     ) -> Answer;
 }
 
-// Each call gets the pointer and length of a slice, which stays borrowed while the call runs.
+// Each pointer and length below come from one slice, which stays borrowed while the call runs, and the library keeps
+// no pointer.
 
+/// Writes the formula; the count is its words.
+pub fn write_formula(instance: &[u8], horizon: u64, words: &mut [i32]) -> Written {
+    unsafe {
+        runglaet_write_formula(
+            instance.as_ptr(),
+            instance.len(),
+            horizon,
+            words.as_mut_ptr(),
+            words.len(),
+        )
+    }
+}
+
+/// Writes one clause and its 0; the count is its words.
 pub fn clause(instance: &[u8], horizon: u64, clause_number: u64, words: &mut [i32]) -> Answer {
     unsafe {
         runglaet_clause(
@@ -60,6 +97,7 @@ pub fn clause(instance: &[u8], horizon: u64, clause_number: u64, words: &mut [i3
     }
 }
 
+/// Checks a plan; the count is its cost.
 pub fn check_plan(instance: &[u8], horizon: u64, plan: &[u8]) -> Answer {
     unsafe {
         runglaet_check_plan(
@@ -72,6 +110,7 @@ pub fn check_plan(instance: &[u8], horizon: u64, plan: &[u8]) -> Answer {
     }
 }
 
+/// Writes the plan that a valuation names; the count is its bytes.
 pub fn decode(instance: &[u8], horizon: u64, entries: &[i32], plan: &mut [u8]) -> Answer {
     unsafe {
         runglaet_decode(
@@ -86,6 +125,7 @@ pub fn decode(instance: &[u8], horizon: u64, entries: &[i32], plan: &mut [u8]) -
     }
 }
 
+/// Writes the valuation of a plan; the count is its entries.
 pub fn encode(instance: &[u8], horizon: u64, plan: &[u8], entries: &mut [i32]) -> Answer {
     unsafe {
         runglaet_encode(

@@ -1,0 +1,154 @@
+//! An instance in its parts, right and damaged.
+
+use crate::sample::{instance_bytes, Generator};
+
+/// The parts of an instance; nothing is checked.
+#[derive(Clone, Debug)]
+pub struct Parts {
+    pub n: usize,
+    pub edges: Vec<(u8, u8)>,
+    pub starts: Vec<u8>,
+    pub goals: Vec<u8>,
+}
+
+impl Parts {
+    /// The parts of an accepted instance.
+    pub fn of(bytes: &[u8]) -> Parts {
+        let (n, k) = (usize::from(bytes[0]), usize::from(bytes[1]));
+        let e = usize::from(u16::from_le_bytes([bytes[2], bytes[3]]));
+        let (low, rest) = bytes[4..].split_at(e);
+        let (high, rest) = rest.split_at(e);
+        let (starts, goals) = rest.split_at(k);
+        Parts {
+            n,
+            edges: low.iter().copied().zip(high.iter().copied()).collect(),
+            starts: starts.to_vec(),
+            goals: goals.to_vec(),
+        }
+    }
+
+    pub fn bytes(&self) -> Vec<u8> {
+        instance_bytes(self.n, &self.edges, &self.starts, &self.goals)
+    }
+
+    pub fn k(&self) -> usize {
+        self.starts.len()
+    }
+
+    pub fn has_edge(&self, v: u8, w: u8) -> bool {
+        self.edges.contains(&(v.min(w), v.max(w)))
+    }
+
+    /// Clause counts of the families A to G.
+    pub fn clause_counts(&self, m: usize) -> [u64; 7] {
+        let (n, k, m) = (self.n as u64, self.k() as u64, m as u64);
+        [
+            k,
+            k,
+            (m + 1) * k,
+            (m + 1) * k * n * (n - 1) / 2,
+            (m + 1) * n * k * (k - 1) / 2,
+            m * k * n,
+            m * k * (k - 1) * n,
+        ]
+    }
+
+    /// The family, from 0, that holds this clause number.
+    pub fn family(&self, m: usize, mut number: u64) -> usize {
+        let counts = self.clause_counts(m);
+        let mut family = 0;
+        while family < 6 && number >= counts[family] {
+            number -= counts[family];
+            family += 1;
+        }
+        family
+    }
+}
+
+/// Damages an accepted instance so that question `kind`, 1 to 9, is a likely first no; kind 0 and those above 9
+/// damage bytes anywhere.
+pub fn malform(g: &mut Generator, kind: usize, bytes: &[u8]) -> Vec<u8> {
+    let mut parts = Parts::of(bytes);
+    let mut bytes = bytes.to_vec();
+    let (n, k) = (parts.n, parts.k());
+    match kind {
+        1 => bytes.truncate(g.below(4)),
+        2 => bytes[0] = [0, 65, 255, 128][g.below(4)],
+        3 => bytes[1] = [0, 17, (n + 1) as u8, 255][g.below(4)],
+        4 => {
+            let most = n * (n - 1) / 2;
+            let e = [most + 1, 65535, most + 256, most + 1 + g.below(3000)][g.below(4)];
+            bytes[2..4].copy_from_slice(&(e as u16).to_le_bytes());
+        }
+        5 => match g.below(4) {
+            0 => bytes.truncate(bytes.len() - 1),
+            1 => bytes.push(0),
+            2 => bytes.truncate(4 + g.below(bytes.len() - 3)),
+            _ => {
+                let more = 1 + g.below(300);
+                bytes.extend(g.bytes(more));
+            }
+        },
+        6 => {
+            if parts.edges.is_empty() {
+                parts.edges.push((0, 1));
+            }
+            let j = g.below(parts.edges.len());
+            let (low, high) = parts.edges[j];
+            parts.edges[j] = match g.below(5) {
+                0 => (high, low),
+                1 => (low, low),
+                2 => (low, n as u8),
+                3 => (low, 255),
+                _ => (255, high),
+            };
+            bytes = parts.bytes();
+        }
+        7 => {
+            let e = parts.edges.len();
+            if e < 2 {
+                parts.edges = vec![(0, 1), (0, 1)];
+            } else {
+                let j = 1 + g.below(e - 1);
+                match g.below(4) {
+                    0 => parts.edges[j] = parts.edges[j - 1],
+                    1 => parts.edges.swap(j - 1, j),
+                    2 => parts.edges.swap(0, j),
+                    _ => g.shuffle(&mut parts.edges),
+                }
+            }
+            bytes = parts.bytes();
+        }
+        8 | 9 => {
+            let ends = if kind == 8 {
+                &mut parts.starts
+            } else {
+                &mut parts.goals
+            };
+            let a = g.below(k);
+            ends[a] = match g.below(4) {
+                0 => n as u8,
+                1 => 255,
+                2 => ends[g.below(k)],
+                _ => ends[if a == 0 { k - 1 } else { a - 1 }],
+            };
+            bytes = parts.bytes();
+        }
+        10 => {
+            let length = g.below(100);
+            bytes = g.bytes(length);
+        }
+        11 => {
+            // Sizes that may stand, then anything.
+            let length = bytes.len() - 4;
+            bytes.truncate(4);
+            bytes.extend(g.bytes(length));
+        }
+        _ => {
+            for _ in 0..1 + g.below(3) {
+                g.damage(&mut bytes);
+            }
+        }
+    }
+    bytes
+}
