@@ -57,13 +57,14 @@ fn draw(g: &mut Generator) -> Case {
 }
 
 /// Runs both with the same slice; gives the answer.
+#[track_caller]
 pub fn same<T: Clone + PartialEq, A: Debug + PartialEq>(
     lent: &[T],
     form: impl FnOnce(&mut [T]) -> A,
-    independent: impl FnOnce(&mut [T]) -> A,
+    model: impl FnOnce(&mut [T]) -> A,
 ) -> A {
     let (mut left, mut right) = (lent.to_vec(), lent.to_vec());
-    let (answer, expected) = (form(&mut left), independent(&mut right));
+    let (answer, expected) = (form(&mut left), model(&mut right));
     assert_eq!(answer, expected, "the answers differ");
     assert!(left == right, "{answer:?}: the slices differ");
     answer
@@ -89,12 +90,13 @@ pub fn compare_calls(cases: usize) -> usize {
         .number;
         hits[0][number as usize] += 1;
 
+        // A clause of one family, or a number most likely beyond all of them.
         let counts = case.parts.clause_counts(case.m);
         let family = g.below(8);
         let first: u64 = counts[..family.min(6)].iter().sum();
         let count = counts
             .get(family)
-            .map_or(1 << 40, |&count| count as usize + 1);
+            .map_or(1 << 32, |&count| count as usize + 1);
         let number = first + g.below(count) as u64;
         let lent = [7; 66];
         for length in [66, some_length(&mut g, 3).min(66)] {
