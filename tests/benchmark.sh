@@ -14,10 +14,14 @@ cd "$(dirname "$0")/.."
 program=$(made RUNGLAET_PROGRAM target/bin/formula_program "rt check formula_program")
 build interface
 build independent
+now=$(LC_ALL=C date -u '+%-d %B %Y, %H:%M UTC')
+model=$(awk -F': ' '/model name/ {print $2; exit}' /proc/cpuinfo)
+memory=$(awk '/MemTotal/ {printf "%.0f", $2 / 1048576}' /proc/meminfo)
+load=$(cut -d' ' -f1 /proc/loadavg)
 printed=$(mktemp)
 trap 'rm -f "$printed" "$printed.md"' EXIT
 {
-    echo "$(LC_ALL=C date -u '+%-d %B %Y, %H:%M UTC'). $(nproc) processors ($(awk -F': ' '/model name/ {print $2; exit}' /proc/cpuinfo)), $(awk '/MemTotal/ {printf "%.0f", $2 / 1048576}' /proc/meminfo) GiB, load $(cut -d' ' -f1 /proc/loadavg) before. $(rustc --version)."
+    echo "$now. $(nproc) processors ($model), $memory GiB, load $load before. $(rustc --version)."
     tests/interface/target/release/benchmark "$program" tests/interface/target/release/best_text \
         tests/independent/target/release/formula_text
 } | tee "$printed"
@@ -26,10 +30,11 @@ if [ "$write" = 1 ]; then
         /^<!-- table ends/ { inside = 0 }
         !inside
         /^<!-- table begins/ {
-            inside = 1
+            inside = found = 1
             print "```"
             while ((getline line <printed) > 0) print line
             print "```"
-        }' docs/BENCHMARK.md >"$printed.md"
+        }
+        END { exit inside || !found }' docs/BENCHMARK.md >"$printed.md"
     cat "$printed.md" >docs/BENCHMARK.md
 fi
