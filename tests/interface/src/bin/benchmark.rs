@@ -1,23 +1,55 @@
-//! Times the library and the independent program on the same inputs.
+//! Times the library, the best plain Rust forms and the independent program on the same inputs.
 //!
-//! benchmark PROGRAM FORMULA_TEXT: the proved formula program and the independent one.
+//! benchmark PROGRAM BEST_TEXT FORMULA_TEXT: the formula program, proved, in its best Rust form, and independent.
 
 #![forbid(unsafe_code)]
 
+#[path = "../best/mod.rs"]
+mod best;
+
+use best::agreement::{compare_calls, compare_program, independent_text, printed, same};
 use independent::sample::Generator;
+use interface as library;
 use interface::input::{grid_walk, valuation, Parts};
-use std::ffi::OsString;
 use std::fs::File;
 use std::hint::black_box;
-use std::path::Path;
+use std::path::{Path, PathBuf};
 use std::process::{Command, Stdio};
 use std::time::{Duration, Instant};
 
 /// At least so many samples of each call, and as many as the time for one comparison allows.
-const SAMPLES: usize = 25;
-const COMPARISON_TIME: Duration = Duration::from_millis(800);
+const SAMPLES: usize = 40;
+const COMPARISON_TIME: Duration = Duration::from_millis(600);
 /// A sample repeats its call for about this long: short, so that other work on the machine misses some samples.
 const SAMPLE_TIME: Duration = Duration::from_micros(200);
+/// Random cases in which the Rust forms are compared with the independent program before they are timed.
+const CASES: usize = 6000;
+const PROGRAM_CASES: usize = 300;
+
+/// An answer's number and second number.
+type Said = (u32, u64);
+type Writer = fn(&[u8], u64, &mut [i32]) -> Said;
+type PlanCheck = fn(&[u8], u64, &[u8]) -> Said;
+type Decoder = fn(&[u8], u64, &[i32], &mut [u8]) -> Said;
+type Encoder = fn(&[u8], u64, &[u8], &mut [i32]) -> Said;
+type OneClause = fn(&[u8], u64, u64, &mut [i32]) -> Said;
+
+/// A call of the library, of the best Rust forms and of the independent program.
+macro_rules! forms {
+    ($call:ident($($x:ident),+)) => {
+        [
+            |$($x),+| { let answer = library::$call($($x),+); (answer.number, answer.second) },
+            |$($x),+| { let answer = best::$call($($x),+); (answer.number, answer.second) },
+            |$($x),+| { let answer = independent::$call($($x),+); (answer.number, answer.second) },
+        ]
+    };
+}
+
+const WRITERS: [Writer; 3] = forms!(write_formula(instance, m, words));
+const PLAN_CHECKS: [PlanCheck; 3] = forms!(check_plan(instance, m, plan));
+const DECODERS: [Decoder; 3] = forms!(decode(instance, m, entries, plan));
+const ENCODERS: [Encoder; 3] = forms!(encode(instance, m, plan, entries));
+const ONE_CLAUSES: [OneClause; 3] = forms!(clause(instance, m, number, words));
 
 struct Input {
     name: &'static str,
@@ -27,7 +59,7 @@ struct Input {
 }
 
 /// Nanoseconds of one call, over `repeat` calls.
-fn sample(repeat: u32, call: &mut dyn FnMut()) -> f64 {
+fn sample(repeat: u32, mut call: impl FnMut()) -> f64 {
     let clock = Instant::now();
     for _ in 0..repeat {
         call();
@@ -35,64 +67,71 @@ fn sample(repeat: u32, call: &mut dyn FnMut()) -> f64 {
     clock.elapsed().as_nanos() as f64 / f64::from(repeat)
 }
 
-/// The best sample of each, taken in turn after a warm-up.
-fn times(calls: &mut [&mut dyn FnMut()]) -> Vec<f64> {
-    let mut best = vec![f64::INFINITY; calls.len()];
-    let repeats: Vec<u32> = calls
-        .iter_mut()
-        .map(|call| {
-            sample(1, *call);
-            let once = sample(3, *call).max(1.0);
-            (SAMPLE_TIME.as_nanos() as f64 / once).clamp(1.0, 1e6) as u32
-        })
-        .collect();
+/// The best sample of each of COUNT forms, taken in turn after a warm-up.
+fn times<const COUNT: usize>(mut call: impl FnMut(usize)) -> [f64; COUNT] {
+    let repeats: [u32; COUNT] = std::array::from_fn(|form| {
+        sample(1, || call(form));
+        let once = sample(3, || call(form)).max(1.0);
+        (SAMPLE_TIME.as_nanos() as f64 / once).clamp(1.0, 1e6) as u32
+    });
+    let mut best = [f64::INFINITY; COUNT];
     let clock = Instant::now();
     let mut samples = 0;
     while samples < SAMPLES || clock.elapsed() < COMPARISON_TIME {
         samples += 1;
-        for ((call, &repeat), best) in calls.iter_mut().zip(&repeats).zip(&mut best) {
-            *best = best.min(sample(repeat, *call));
+        for form in 0..COUNT {
+            best[form] = best[form].min(sample(repeats[form], || call(form)));
         }
     }
     best
 }
 
+#[derive(Default)]
 struct Table {
-    missed: bool,
+    missed: usize,
 }
 
 impl Table {
-    fn head() -> Table {
+    fn head(&self) {
         println!(
-            "{:<10} {:<26} {:<10} {:>12} {:>12} {:>7} {:>7}",
-            "call", "against", "instance", "ours", "Rust", "ratio", "target"
+            "{:<14} {:<8} {:>9} {:>9} {:>6} {:>6} {:<4} {:>11}",
+            "call", "instance", "ours", "best Rust", "ratio", "target", "", "independent"
         );
-        Table { missed: false }
     }
 
+    /// One line: the times of ours, of the best Rust form and of the independent program.
     fn row(
         &mut self,
         call: &str,
-        against: &str,
-        name: &str,
-        ours: f64,
-        other: f64,
+        input: &Input,
+        [ours, best, independent]: [f64; 3],
         target: Option<f64>,
+        note: &str,
     ) {
-        let ratio = ours / other;
-        let (target, verdict) = match target {
-            None => ("-".to_string(), ""),
-            Some(target) if ratio <= target => (format!("{target:.1}"), "ok"),
-            Some(target) => {
-                self.missed = true;
-                (format!("{target:.1}"), "MISS")
-            }
+        let (target, verdict) = self.judge(ours / best, target);
+        let small = if ours.max(best) < 100.0 {
+            "  both under 100 ns"
+        } else {
+            ""
         };
         println!(
-            "{call:<10} {against:<26} {name:<10} {:>12} {:>12} {ratio:>7.2} {target:>7} {verdict}",
+            "{call:<14} {:<8} {:>9} {:>9} {:>6.2} {target:>6} {verdict:<4} {:>11}{note}{small}",
+            input.name,
             time(ours),
-            time(other)
+            time(best),
+            ours / best,
+            time(independent)
         );
+    }
+
+    /// The target as text, and whether the ratio as printed meets it.
+    fn judge(&mut self, ratio: f64, target: Option<f64>) -> (String, &'static str) {
+        let Some(target) = target else {
+            return ("-".to_string(), "");
+        };
+        let met = (100.0 * ratio).round() <= 100.0 * target;
+        self.missed += usize::from(!met);
+        (format!("{target:.1}"), if met { "ok" } else { "MISS" })
     }
 }
 
@@ -130,291 +169,207 @@ fn inputs() -> [Input; 3] {
     ]
 }
 
+/// Compares the library and the best Rust form with the independent program on an input to be timed.
+fn agree<T: Clone + PartialEq>(lent: &[T], call: impl Fn(usize, &mut [T]) -> Said) {
+    for form in [0, 1] {
+        same(lent, |slice| call(form, slice), |slice| call(2, slice));
+    }
+}
+
 fn writer(table: &mut Table, input: &Input) {
     let (instance, m) = (&input.instance[..], input.m);
-    let needed = independent::write_formula(instance, m, &mut []).second as usize;
-    // Each gets the same slice, so that memory is the same for all.
-    let words = std::cell::RefCell::new(vec![1; needed]);
-    let best = times(&mut [
-        &mut || {
-            let words = &mut words.borrow_mut()[..];
-            black_box(interface::write_formula(
-                black_box(instance),
-                black_box(m),
-                words,
-            ));
-        },
-        &mut || {
-            let words = &mut words.borrow_mut()[..];
-            black_box(independent::write_formula_searching(
-                black_box(instance),
-                black_box(m),
-                words,
-            ));
-        },
-        &mut || {
-            let words = &mut words.borrow_mut()[..];
-            black_box(independent::write_formula(
-                black_box(instance),
-                black_box(m),
-                words,
-            ));
-        },
-    ]);
-    table.row(
-        "writer",
-        "base form",
-        input.name,
-        best[0],
-        best[1],
-        Some(1.2),
-    );
-    table.row(
-        "writer",
-        "neighbours looked up once",
-        input.name,
-        best[0],
-        best[2],
-        None,
-    );
+    let [library, best, loops] = WRITERS;
+    let searching: Writer = |instance, m, words| {
+        let answer = independent::write_formula_searching(instance, m, words);
+        (answer.number, answer.second)
+    };
+    let forms = [library, best, searching, loops];
+    let (_, needed) = loops(instance, m, &mut []);
+    let mut words = vec![1; needed as usize];
+    agree(&words, |form, words| forms[form](instance, m, words));
+    let [ours, best, searching, loops] = times(|form| {
+        black_box(forms[form](black_box(instance), m, &mut words));
+    });
+    let target = if input.name == "pair" { 2.0 } else { 1.2 };
+    table.row("writer", input, [ours, best, searching], Some(target), "");
+    let note = "  against independent straight loops";
+    table.row("writer", input, [ours, loops, searching], None, note);
 }
 
-fn clause(table: &mut Table, input: &Input) {
-    let (instance, m) = (&input.instance[..], input.m);
-    let counts = Parts::of(instance).clause_counts(m as usize);
-    let total: u64 = counts.iter().sum();
-    let mut worst = (0.0, 0.0, 'A', 0.0);
-    let mut sums = (0.0, 0.0);
-    let mut from = 0;
-    for (family, count) in counts.into_iter().enumerate().filter(|pair| pair.1 > 0) {
-        // The middle and the last clause of the family.
-        for number in [from + count / 2, from + count - 1] {
-            let mut words = [1; 66];
-            let mut other = [1; 66];
-            let mut none = [1; 66];
-            let best = times(&mut [
-                &mut || {
-                    let number = black_box(number);
-                    black_box(interface::clause(
-                        black_box(instance),
-                        m,
-                        number,
-                        &mut words,
-                    ));
-                },
-                &mut || {
-                    let number = black_box(number);
-                    black_box(independent::clause(
-                        black_box(instance),
-                        m,
-                        number,
-                        &mut other,
-                    ));
-                },
-                // Refused by 11: the instance check and no clause.
-                &mut || {
-                    let number = black_box(total);
-                    black_box(interface::clause(black_box(instance), m, number, &mut none));
-                },
-            ]);
-            sums = (sums.0 + best[0], sums.1 + best[1]);
-            let ratio = best[0] / best[2];
-            if ratio > worst.0 {
-                worst = (ratio, best[0], char::from(b'A' + family as u8), best[2]);
-            }
-        }
-        from += count;
-    }
-    table.row(
-        "one clause",
-        "sum over the families",
-        input.name,
-        sums.0,
-        sums.1,
-        None,
-    );
-    let against = format!("own instance check, {}", worst.2);
-    table.row(
-        "one clause",
-        &against,
-        input.name,
-        worst.1,
-        worst.3,
-        Some(2.0),
-    );
+/// The plan check, with an empty plan that stops it right after the instance check, by question 13.
+fn instance_check(table: &mut Table, input: &Input) {
+    let times = times(|form| {
+        let said = PLAN_CHECKS[form](black_box(&input.instance), input.m, black_box(&[]));
+        assert_eq!(said, (13, 0));
+    });
+    let note = "  by a plan check, refused by 13";
+    table.row("instance check", input, times, Some(1.5), note);
 }
 
-fn plan(table: &mut Table, input: &Input) {
+fn plan_check(table: &mut Table, input: &Input) {
     let (instance, m, plan) = (&input.instance[..], input.m, &input.plan[..]);
-    assert_eq!(interface::check_plan(instance, m, plan).number, 0);
-    let best = times(&mut [
-        &mut || {
-            black_box(interface::check_plan(
-                black_box(instance),
-                m,
-                black_box(plan),
-            ));
-        },
-        &mut || {
-            black_box(independent::check_plan(
-                black_box(instance),
-                m,
-                black_box(plan),
-            ));
-        },
-    ]);
-    table.row(
-        "plan check",
-        "plan check",
-        input.name,
-        best[0],
-        best[1],
-        Some(1.2),
-    );
+    agree::<u8>(&[], |form, _| PLAN_CHECKS[form](instance, m, plan));
+    let times = times(|form| {
+        let said = PLAN_CHECKS[form](black_box(instance), m, black_box(plan));
+        assert_eq!(said.0, 0);
+    });
+    table.row("plan check", input, times, Some(1.2), "");
 }
 
 fn decoder(table: &mut Table, input: &Input) {
     let (instance, m) = (&input.instance[..], input.m);
-    let entries = &valuation(usize::from(instance[0]), &input.plan)[..];
-    let mut ours = vec![1; input.plan.len()];
-    let mut theirs = ours.clone();
-    assert_eq!(interface::decode(instance, m, entries, &mut ours).number, 0);
-    let best = times(&mut [
-        &mut || {
-            black_box(interface::decode(
-                black_box(instance),
-                m,
-                black_box(entries),
-                &mut ours,
-            ));
-        },
-        &mut || {
-            black_box(independent::decode(
-                black_box(instance),
-                m,
-                black_box(entries),
-                &mut theirs,
-            ));
-        },
-    ]);
-    table.row(
-        "decoder",
-        "decoder",
-        input.name,
-        best[0],
-        best[1],
-        Some(1.5),
-    );
+    let entries = valuation(usize::from(instance[0]), &input.plan);
+    let mut plan = vec![200; input.plan.len()];
+    agree(&plan, |form, plan| {
+        DECODERS[form](instance, m, &entries, plan)
+    });
+    let times = times(|form| {
+        let said = DECODERS[form](black_box(instance), m, black_box(&entries), &mut plan);
+        assert_eq!(said.0, 0);
+    });
+    table.row("decoder", input, times, Some(1.5), "");
 }
 
 fn encoder(table: &mut Table, input: &Input) {
     let (instance, m, plan) = (&input.instance[..], input.m, &input.plan[..]);
-    let count = usize::from(instance[0]) * plan.len();
-    let entries = std::cell::RefCell::new(vec![1; count]);
-    assert_eq!(
-        interface::encode(instance, m, plan, &mut entries.borrow_mut()).number,
-        0
-    );
-    let best = times(&mut [
-        &mut || {
-            let entries = &mut entries.borrow_mut()[..];
-            black_box(interface::encode(
-                black_box(instance),
-                m,
-                black_box(plan),
-                entries,
-            ));
-        },
-        &mut || {
-            let entries = &mut entries.borrow_mut()[..];
-            black_box(independent::encode(
-                black_box(instance),
-                m,
-                black_box(plan),
-                entries,
-            ));
-        },
-    ]);
-    table.row(
-        "encoder",
-        "encoder",
-        input.name,
-        best[0],
-        best[1],
-        Some(1.2),
-    );
+    let mut entries = vec![0; usize::from(instance[0]) * plan.len()];
+    agree(&entries, |form, entries| {
+        ENCODERS[form](instance, m, plan, entries)
+    });
+    let times = times(|form| {
+        let said = ENCODERS[form](black_box(instance), m, black_box(plan), &mut entries);
+        assert_eq!(said.0, 0);
+    });
+    table.row("encoder", input, times, Some(1.2), "");
 }
 
-fn program(table: &mut Table, input: &Input, ours: &Path, theirs: &Path, file: &Path) {
-    let text = [&[input.m as u8][..], &input.instance].concat();
-    std::fs::write(file, text).expect("the input file is written");
-    let command = |path: &Path| {
-        let mut command = Command::new(path);
-        command.stdin(File::open(file).expect("the input file opens"));
-        command
+/// The slowest clause of ours against our instance check.
+struct Slowest {
+    name: &'static str,
+    family: char,
+    clause: f64,
+    check: f64,
+}
+
+/// The middle and the last clause of each family, summed; the row has no target.
+fn clause(table: &mut Table, input: &Input) -> Slowest {
+    let (instance, m) = (&input.instance[..], input.m);
+    let counts = Parts::of(instance).clause_counts(m as usize);
+    let total: u64 = counts.iter().sum();
+    let mut slowest = Slowest {
+        name: input.name,
+        family: 'A',
+        clause: 0.0,
+        check: 1.0,
     };
-    let printed = |path: &Path| {
-        let output = command(path).stderr(Stdio::inherit()).output();
-        output
-            .unwrap_or_else(|error| panic!("{}: {error}", path.display()))
-            .stdout
-    };
-    assert!(
-        printed(ours) == printed(theirs),
-        "the two programs print different texts"
-    );
-    let run = |path: &Path| {
-        let status = command(path)
+    let mut sums = [0.0; 3];
+    let mut from = 0;
+    for (family, count) in ('A'..).zip(counts).filter(|pair| pair.1 > 0) {
+        for number in [from + count / 2, from + count - 1] {
+            let mut words = [1; 66];
+            agree(&words, |form, words| {
+                ONE_CLAUSES[form](instance, m, number, words)
+            });
+            // The fourth is ours, refused by 11: the instance check and no clause.
+            let [ours, best, independent, check] = times(|form| {
+                let number = black_box(if form == 3 { total } else { number });
+                let form = ONE_CLAUSES[form % 3];
+                black_box(form(black_box(instance), m, number, &mut words));
+            });
+            for (sum, time) in sums.iter_mut().zip([ours, best, independent]) {
+                *sum += time;
+            }
+            if ours / check > slowest.clause / slowest.check {
+                slowest = Slowest {
+                    family,
+                    clause: ours,
+                    check,
+                    ..slowest
+                };
+            }
+        }
+        from += count;
+    }
+    table.row("one clause", input, sums, None, "  two of each family");
+    slowest
+}
+
+fn program(table: &mut Table, input: &Input, programs: &[PathBuf; 3], file: &Path) {
+    let bytes = [&[input.m as u8][..], &input.instance].concat();
+    let expected = independent_text(&bytes);
+    for program in programs {
+        assert!(
+            printed(program, &bytes) == expected,
+            "{} prints another text",
+            program.display()
+        );
+    }
+    std::fs::write(file, bytes).expect("the input file is written");
+    let times = times(|form| {
+        let status = Command::new(&programs[form])
+            .stdin(File::open(file).expect("the input file opens"))
             .stdout(Stdio::null())
             .status()
             .expect("it runs");
         assert!(status.success());
-    };
-    let best = times(&mut [&mut || run(ours), &mut || run(theirs)]);
-    table.row(
-        "program",
-        "whole process, text",
-        input.name,
-        best[0],
-        best[1],
-        Some(1.5),
-    );
+    });
+    let target = (input.name == "largest").then_some(1.2);
+    table.row("program", input, times, target, "");
 }
 
 fn main() {
-    let paths: Vec<OsString> = std::env::args_os().skip(1).collect();
-    let [ours, theirs] = &paths[..] else {
-        eprintln!("usage: benchmark PROGRAM FORMULA_TEXT");
+    let paths: Vec<PathBuf> = std::env::args_os().skip(1).map(PathBuf::from).collect();
+    let Ok(programs) = <[PathBuf; 3]>::try_from(paths) else {
+        eprintln!("usage: benchmark PROGRAM BEST_TEXT FORMULA_TEXT");
         std::process::exit(2);
     };
+    let compared = compare_calls(CASES);
+    compare_program(&programs[1], PROGRAM_CASES);
     println!(
-        "Best of {SAMPLES} samples or more ({} ms for each comparison), taken in turn, warm; a sample repeats a call for \
-         about {} us.",
-        COMPARISON_TIME.as_millis(),
-        SAMPLE_TIME.as_micros()
+        "The best Rust forms answered as the independent program did in {compared} calls and \
+         {PROGRAM_CASES} texts.\n"
     );
-    println!("Lent slices are filled once and not cleared between calls; writer and encoder lend both sides the same slice.");
-    println!("pair: n 2, k 1, m 1. grid: n 16, k 4, m 8, 24 edges. largest: n 64, k 16, m 32, 2016 edges.");
-    println!("One clause: the middle and last of each family; against the own instance check the worst family is shown.\n");
-    let mut table = Table::head();
+
+    let mut table = Table::default();
+    table.head();
     let inputs = inputs();
-    for call in [writer, clause, plan, decoder, encoder] {
+    for call in [writer, instance_check, plan_check, decoder, encoder] {
         for input in &inputs {
             call(&mut table, input);
         }
     }
-    let mut file = std::env::temp_dir();
-    file.push(format!("runglaet_benchmark_{}", std::process::id()));
+    let file = std::env::temp_dir().join(format!("runglaet_benchmark_{}", std::process::id()));
     for input in &inputs {
-        program(&mut table, input, ours.as_ref(), theirs.as_ref(), &file);
+        program(&mut table, input, &programs, &file);
     }
     let _ = std::fs::remove_file(&file);
+    let slowest: Vec<Slowest> = inputs
+        .iter()
+        .map(|input| clause(&mut table, input))
+        .collect();
+
     println!(
-        "\n{}",
-        if table.missed {
-            "some targets missed"
-        } else {
-            "all targets met"
-        }
+        "\n{:<14} {:<8} {:>9} {:>9} {:>6} {:>6}",
+        "one clause", "instance", "ours", "our check", "ratio", "target"
     );
+    for Slowest {
+        name,
+        family,
+        clause,
+        check,
+    } in slowest
+    {
+        let (target, verdict) = table.judge(clause / check, Some(2.0));
+        println!(
+            "{:<14} {name:<8} {:>9} {:>9} {:>6.2} {target:>6} {verdict}",
+            format!("slowest: {family}"),
+            time(clause),
+            time(check),
+            clause / check
+        );
+    }
+    match table.missed {
+        0 => println!("\nall targets met"),
+        missed => println!("\ntargets missed: {missed}"),
+    }
 }

@@ -1,0 +1,185 @@
+//! Each form against the independent program, on inputs right and damaged. A difference ends the benchmark.
+
+use independent::sample::Generator;
+use independent::text::print_formula;
+use independent::Written;
+use interface::input::{long_horizon, malform, some_entries, some_length, some_plan, Parts};
+use std::fmt::Debug;
+use std::io::Write;
+use std::path::Path;
+use std::process::{Command, Stdio};
+
+/// What each call can answer beside 0 to 10: writer, one clause, plan check, decoder, encoder.
+const NUMBERS: [&[u32]; 5] = [
+    &[12],
+    &[11, 12],
+    &[13, 17, 18, 19, 20, 21, 22],
+    &[14, 15, 23, 24],
+    &[13, 16, 17, 18, 19, 20, 21, 22],
+];
+
+struct Case {
+    /// The instance before it was damaged.
+    parts: Parts,
+    m: usize,
+    /// Passes for those.
+    plan: Vec<u8>,
+    instance: Vec<u8>,
+    horizon: u64,
+}
+
+fn draw(g: &mut Generator) -> Case {
+    let most = [4, 8, 16, 64][g.below(4)];
+    let n = 1 + g.below(most);
+    let most = [2, 4, 16][g.below(3)];
+    let k = 1 + g.below(n.min(most));
+    let most = [2, 6, 33][g.below(3)];
+    let m = g.below(most);
+    let percent = [0, 30, 60, 100][g.below(4)];
+    let (mut instance, plan) = g.walk(n, k, percent, m);
+    let parts = Parts::of(&instance);
+    let mut horizon = m as u64;
+    match g.below(20) {
+        0 => horizon = long_horizon(g),
+        1..=8 => {
+            let kind = g.below(15);
+            instance = malform(g, kind, &instance);
+        }
+        _ => {}
+    }
+    Case {
+        parts,
+        m,
+        plan,
+        instance,
+        horizon,
+    }
+}
+
+/// Runs both with the same slice; gives the answer.
+#[track_caller]
+pub fn same<T: Clone + PartialEq, A: Debug + PartialEq>(
+    lent: &[T],
+    form: impl FnOnce(&mut [T]) -> A,
+    model: impl FnOnce(&mut [T]) -> A,
+) -> A {
+    let (mut left, mut right) = (lent.to_vec(), lent.to_vec());
+    let (answer, expected) = (form(&mut left), model(&mut right));
+    assert_eq!(answer, expected, "the answers differ");
+    assert!(left == right, "{answer:?}: the slices differ");
+    answer
+}
+
+/// Compares the five calls in so many random cases; gives the number of comparisons.
+pub fn compare_calls(cases: usize) -> usize {
+    let mut g = Generator::new(2026);
+    let mut hits = [[0; 25]; 5];
+    let mut falsified = [0; 7];
+    for _ in 0..cases {
+        let case = draw(&mut g);
+        let (instance, m) = (&case.instance[..], case.horizon);
+        let rows = case.plan.len();
+
+        let Written { second: words, .. } = independent::write_formula(instance, m, &mut []);
+        let lent = vec![7; some_length(&mut g, words.min(1 << 18) as usize)];
+        let number = same(
+            &lent,
+            |words| super::write_formula(instance, m, words),
+            |words| independent::write_formula(instance, m, words),
+        )
+        .number;
+        hits[0][number as usize] += 1;
+
+        // A clause of one family, or a number most likely beyond all of them.
+        let counts = case.parts.clause_counts(case.m);
+        let family = g.below(8);
+        let first: u64 = counts[..family.min(6)].iter().sum();
+        let count = counts
+            .get(family)
+            .map_or(1 << 32, |&count| count as usize + 1);
+        let number = first + g.below(count) as u64;
+        let lent = [7; 66];
+        for length in [66, some_length(&mut g, 3).min(66)] {
+            let number = same(
+                &lent[..length],
+                |words| super::clause(instance, m, number, words),
+                |words| independent::clause(instance, m, number, words),
+            )
+            .number;
+            hits[1][number as usize] += 1;
+        }
+
+        let plan = some_plan(&mut g, &case.parts, case.m, &case.plan);
+        let number = same::<u8, _>(
+            &[],
+            |_| super::check_plan(instance, m, &plan),
+            |_| independent::check_plan(instance, m, &plan),
+        )
+        .number;
+        hits[2][number as usize] += 1;
+
+        let entries = some_entries(&mut g, &case.parts, case.m, &case.plan);
+        let answer = same(
+            &vec![200; some_length(&mut g, rows)],
+            |plan| super::decode(instance, m, &entries, plan),
+            |plan| independent::decode(instance, m, &entries, plan),
+        );
+        hits[3][answer.number as usize] += 1;
+        if answer.number == 24 {
+            falsified[case.parts.family(case.m, answer.second)] += 1;
+        }
+
+        let number = same(
+            &vec![0; some_length(&mut g, rows * case.parts.n)],
+            |entries| super::encode(instance, m, &plan, entries),
+            |entries| independent::encode(instance, m, &plan, entries),
+        )
+        .number;
+        hits[4][number as usize] += 1;
+    }
+    for (hits, numbers) in hits.iter().zip(NUMBERS) {
+        for number in (0..=10).chain(numbers.iter().copied()) {
+            assert!(hits[number as usize] > 0, "{number} was never answered");
+        }
+    }
+    assert!(falsified.iter().all(|&hits| hits > 0), "{falsified:?}");
+    hits.iter().flatten().sum()
+}
+
+/// Compares what the program prints in so many random cases.
+pub fn compare_program(program: &Path, cases: usize) {
+    let mut g = Generator::new(1115);
+    let mut inputs = vec![Vec::new(), vec![0]];
+    while inputs.len() < cases {
+        let case = draw(&mut g);
+        let m = case.horizon.min(255) as u8;
+        inputs.push([&[m], &case.instance[..]].concat());
+    }
+    for input in inputs {
+        assert!(
+            printed(program, &input) == independent_text(&input),
+            "{} prints another text for {input:?}",
+            program.display()
+        );
+    }
+}
+
+/// What a program prints for this input.
+pub fn printed(program: &Path, input: &[u8]) -> Vec<u8> {
+    let mut child = Command::new(program)
+        .stdin(Stdio::piped())
+        .stdout(Stdio::piped())
+        .spawn()
+        .unwrap_or_else(|error| panic!("{}: {error}", program.display()));
+    // The whole input fits the pipe.
+    let mut pipe = child.stdin.take().expect("its input is a pipe");
+    pipe.write_all(input).expect("it takes its input");
+    drop(pipe);
+    child.wait_with_output().expect("it ends").stdout
+}
+
+pub fn independent_text(input: &[u8]) -> Vec<u8> {
+    let mut text = Vec::new();
+    print_formula(&input[..input.len().min(4070)], &mut text).expect("memory takes all");
+    text
+}

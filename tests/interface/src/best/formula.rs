@@ -1,0 +1,134 @@
+//! The formula writer.
+
+use super::instance::{refuse, Instance};
+use independent::{Answer, Written};
+
+pub fn write_formula(instance: &[u8], horizon: u64, words: &mut [i32]) -> Written {
+    let written = Instance::read(instance, horizon).and_then(|instance| write(&instance, words));
+    let (number, second, clauses) = match written {
+        Ok((count, clauses)) => (0, count as u64, clauses as u64),
+        Err(refusal) => (refusal.number, refusal.second, 0),
+    };
+    Written {
+        number,
+        second,
+        clauses,
+    }
+}
+
+/// Gives the word count and the clause count.
+fn write(instance: &Instance, words: &mut [i32]) -> Result<(usize, usize), Answer> {
+    let (n, k, m) = (instance.n, instance.k, instance.m);
+    let counts @ [.., d, e, f, g] = instance.clause_counts();
+    let lengths = [
+        2 * k,
+        2 * k,
+        instance.rows() * (n + 1),
+        3 * d,
+        3 * e,
+        3 * f + 2 * m * k * instance.low.len(),
+        3 * g,
+    ];
+    let needed = lengths.iter().sum();
+    if words.len() < needed {
+        return refuse(12, needed);
+    }
+    let mut rest = words;
+    let parts = lengths.map(|length| {
+        let (part, after) = std::mem::take(&mut rest).split_at_mut(length);
+        rest = after;
+        part
+    });
+    // C, D and F have a block for each row, E and G for each time.
+    let [a, b, c, d, e, f, g] = parts;
+    write_ends(n, 0, instance.starts, a);
+    write_ends(n, m * k, instance.goals, b);
+    write_blocks(c, instance.rows(), n, |block| write_c(n, block));
+    write_blocks(d, instance.rows(), n, |block| write_d(n, block));
+    write_blocks(e, m + 1, k * n, |block| write_e(n, k, block));
+    write_blocks(f, m * k, n, |block| write_f(instance, block));
+    write_blocks(g, m, k * n, |block| write_g(n, k, block));
+    Ok((needed, counts.iter().sum()))
+}
+
+/// Families A and B: one vertex in each row from `row` on. Row t·k + a is agent a at time t.
+fn write_ends(n: usize, row: usize, vertices: &[u8], part: &mut [i32]) {
+    for (row, (clause, &v)) in (row..).zip(part.chunks_exact_mut(2).zip(vertices)) {
+        clause.copy_from_slice(&[(1 + row * n) as i32 + i32::from(v), 0]);
+    }
+}
+
+/// Writes the first of `count` blocks, and each later one as the block before with its variables `up` higher, which the
+/// compiler does for several words at once.
+fn write_blocks(part: &mut [i32], count: usize, up: usize, write: impl FnOnce(&mut [i32])) {
+    if part.is_empty() {
+        return;
+    }
+    let up = up as i32;
+    let length = part.len() / count;
+    let (mut before, mut rest) = part.split_at_mut(length);
+    write(before);
+    while !rest.is_empty() {
+        let (block, after) = rest.split_at_mut(length);
+        for (word, &earlier) in block.iter_mut().zip(&*before) {
+            *word = earlier + up * i32::from(earlier > 0) - up * i32::from(earlier < 0);
+        }
+        (before, rest) = (block, after);
+    }
+}
+
+// The first block of each family.
+
+fn write_c(n: usize, block: &mut [i32]) {
+    for (word, v) in block.iter_mut().zip(1..) {
+        *word = v;
+    }
+    block[n] = 0;
+}
+
+fn write_d(n: usize, mut block: &mut [i32]) {
+    for v in 1..n {
+        let (group, after) = block.split_at_mut(3 * (n - v));
+        for (clause, w) in group.chunks_exact_mut(3).zip(v + 1..) {
+            clause.copy_from_slice(&[-(v as i32), -(w as i32), 0]);
+        }
+        block = after;
+    }
+}
+
+fn write_e(n: usize, k: usize, block: &mut [i32]) {
+    let mut clauses = block.chunks_exact_mut(3);
+    for v in 1..=n {
+        for a in 0..k {
+            for (b, clause) in (a + 1..k).zip(&mut clauses) {
+                clause.copy_from_slice(&[-((a * n + v) as i32), -((b * n + v) as i32), 0]);
+            }
+        }
+    }
+}
+
+fn write_f(instance: &Instance, block: &mut [i32]) {
+    let mut words = block.iter_mut();
+    let up = (instance.k * instance.n) as i32;
+    for (v, mut near) in (1..).zip(instance.neighbours()).take(instance.n) {
+        let mut put = |word| words.next().map(|place| *place = word);
+        put(-v);
+        put(up + v);
+        while near != 0 {
+            put(up + 1 + near.trailing_zeros() as i32);
+            near &= near - 1;
+        }
+        put(0);
+    }
+}
+
+fn write_g(n: usize, k: usize, block: &mut [i32]) {
+    let mut clauses = block.chunks_exact_mut(3);
+    for a in 0..k {
+        for b in (0..k).filter(|&b| b != a) {
+            for (v, clause) in (1..=n).zip(&mut clauses) {
+                clause.copy_from_slice(&[-((b * n + v) as i32), -(((k + a) * n + v) as i32), 0]);
+            }
+        }
+    }
+}

@@ -1,0 +1,27 @@
+//! The jobs of the library in plain safe Rust, written for speed from the scope document: what the benchmark's targets
+//! are held against.
+
+pub mod agreement;
+mod clause;
+mod formula;
+mod instance;
+mod plan;
+mod valuation;
+
+pub use clause::clause;
+pub use formula::write_formula;
+pub use plan::check_plan;
+pub use valuation::{decode, encode};
+
+use independent::Answer;
+
+/// Turns a count or a refusal into the answer.
+fn answer(result: Result<usize, Answer>) -> Answer {
+    result.map_or_else(
+        |refusal| refusal,
+        |count| Answer {
+            number: 0,
+            second: count as u64,
+        },
+    )
+}

@@ -1,0 +1,98 @@
+//! The plan check.
+
+use super::answer;
+use super::instance::{refuse, Instance};
+use independent::Answer;
+
+pub fn check_plan(instance: &[u8], horizon: u64, plan: &[u8]) -> Answer {
+    answer(Instance::read(instance, horizon).and_then(|instance| {
+        check_length(&instance, plan)?;
+        check_rows(&instance, plan)
+    }))
+}
+
+/// Question 13.
+pub fn check_length(instance: &Instance, plan: &[u8]) -> Result<(), Answer> {
+    if plan.len() != instance.rows() {
+        return refuse(13, plan.len());
+    }
+    Ok(())
+}
+
+/// Questions 17 to 22, of a plan of the right length; gives the cost.
+pub fn check_rows(instance: &Instance, plan: &[u8]) -> Result<usize, Answer> {
+    let k = instance.k;
+    let n = instance.n as u8;
+    let outside = |&v: &u8| v >= n;
+    if plan.iter().fold(false, |any, v| any | outside(v)) {
+        return refuse(17, plan.iter().position(outside).unwrap_or(0));
+    }
+    if let Some(a) = first_difference(plan, instance.starts) {
+        return refuse(18, a);
+    }
+    let near = instance.neighbours();
+    let mut stood = mask(&plan[..k]);
+    let rows = plan.chunks_exact(k);
+    for (t, (row, next)) in rows.clone().zip(rows.skip(1)).enumerate() {
+        let Some(stands) = step(&near, stood, row, next) else {
+            return refuse_step(&near, stood, row, next, (t + 1) * k);
+        };
+        stood = stands;
+    }
+    let last = instance.m * k;
+    match first_difference(&plan[last..], instance.goals) {
+        Some(a) => refuse(22, last + a),
+        None => Ok(moves(plan, &plan[k..])),
+    }
+}
+
+/// The vertices of a row.
+pub fn mask(row: &[u8]) -> u64 {
+    row.iter().fold(0, |mask, v| mask | 1 << (v & 63))
+}
+
+/// The vertices of `next`, if the step from `row`, whose vertices are `stood`, obeys the three conditions.
+pub fn step(near: &[u64; 64], stood: u64, row: &[u8], next: &[u8]) -> Option<u64> {
+    let (mut faults, mut stands) = (0, 0u64);
+    for (&v, &w) in row.iter().zip(next) {
+        let (v, w) = (v & 63, w & 63);
+        let joined = near[usize::from(v)] >> w;
+        faults |= stands >> w | u64::from(v != w) & (!joined | stood >> w);
+        stands |= 1 << w;
+    }
+    (faults & 1 == 0).then_some(stands)
+}
+
+/// Does condition 1 fail from v to w?
+pub fn jumps(near: &[u64; 64], v: u8, w: u8) -> bool {
+    v != w && near[usize::from(v)] >> w & 1 == 0
+}
+
+/// The first no of questions 19, 20 and 21; `place` is that of agent 0.
+fn refuse_step<T>(
+    near: &[u64; 64],
+    stood: u64,
+    row: &[u8],
+    next: &[u8],
+    place: usize,
+) -> Result<T, Answer> {
+    let moves = || row.iter().zip(next);
+    if let Some(a) = moves().position(|(&v, &w)| jumps(near, v, w)) {
+        return refuse(19, place + a);
+    }
+    if let Some(a) = moves().position(|(v, w)| v != w && stood >> w & 1 == 1) {
+        return refuse(20, place + a);
+    }
+    let shares = |&a: &usize| next[..a].contains(&next[a]);
+    refuse(21, place + (0..next.len()).find(shares).unwrap_or(0))
+}
+
+/// How many differ, at most 512.
+fn moves(rows: &[u8], nexts: &[u8]) -> usize {
+    let moves: u16 = rows.iter().zip(nexts).map(|(v, w)| u16::from(v != w)).sum();
+    moves.into()
+}
+
+fn first_difference(row: &[u8], vertices: &[u8]) -> Option<usize> {
+    row.iter().zip(vertices).position(|(v, w)| v != w)
+}

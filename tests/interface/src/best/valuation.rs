@@ -1,0 +1,161 @@
+//! The decoder and the encoder.
+
+use super::answer;
+use super::instance::{refuse, Instance};
+use super::plan::{check_length, check_rows, jumps, mask, step};
+use independent::Answer;
+
+pub fn decode(instance: &[u8], horizon: u64, entries: &[i32], plan: &mut [u8]) -> Answer {
+    answer(Instance::read(instance, horizon).and_then(|instance| decoded(&instance, entries, plan)))
+}
+
+pub fn encode(instance: &[u8], horizon: u64, plan: &[u8], entries: &mut [i32]) -> Answer {
+    answer(Instance::read(instance, horizon).and_then(|instance| encoded(&instance, plan, entries)))
+}
+
+fn decoded(instance: &Instance, entries: &[i32], plan: &mut [u8]) -> Result<usize, Answer> {
+    let rows = instance.rows();
+    if entries.len() != rows * instance.n {
+        return refuse(14, entries.len());
+    }
+    if plan.len() < rows {
+        return refuse(15, rows);
+    }
+    let mut places = [0; 33 * 16];
+    let places = &mut places[..rows];
+    let single = read_places(instance.n, entries, places);
+    let wrong = |(&entry, variable): (&i32, i32)| entry != variable && entry != -variable;
+    if !single {
+        if let Some(i) = entries.iter().zip(1..).position(wrong) {
+            return refuse(23, i);
+        }
+    }
+    if let Some(number) = first_false(instance, entries, single, places) {
+        return refuse(24, number);
+    }
+    plan[..rows].copy_from_slice(places);
+    Ok(rows)
+}
+
+/// The vertex of each time and agent, in one pass; false unless each has one variable and else negatives.
+fn read_places(n: usize, entries: &[i32], places: &mut [u8]) -> bool {
+    let mut single = true;
+    let mut first = 1;
+    for (row, place) in entries.chunks_exact(n).zip(places) {
+        // How many are not their variables' negatives, times 65536, and the sum of their vertices.
+        let mut others = 0;
+        for (&entry, v) in row.iter().zip(0..) {
+            others += if entry == -(first + v) { 0 } else { 65536 + v };
+        }
+        let v = others & 63;
+        single &= others == 65536 + v && row[v as usize] == first + v;
+        *place = v as u8;
+        first += n as i32;
+    }
+    single
+}
+
+/// The lowest clause without a true literal, under a valuation. Where each time and agent has a single vertex, these
+/// are the places, and C and D hold.
+fn first_false(instance: &Instance, entries: &[i32], single: bool, places: &[u8]) -> Option<usize> {
+    let (n, k) = (instance.n, instance.k);
+    let absent = |(row, &v): (&[i32], &u8)| row[usize::from(v)] < 0;
+    let (first, last) = (entries, &entries[instance.m * k * n..]);
+    let mut starts = first.chunks_exact(n).zip(instance.starts);
+    let mut goals = last.chunks_exact(n).zip(instance.goals);
+    if let Some(a) = starts.position(absent) {
+        return Some(a);
+    }
+    if let Some(a) = goals.position(absent) {
+        return Some(k + a);
+    }
+    if single {
+        first_false_step(instance, places)
+    } else {
+        first_false_row(instance, entries)
+    }
+}
+
+/// The lowest such clause of C and D.
+fn first_false_row(instance: &Instance, entries: &[i32]) -> Option<usize> {
+    let rows = || entries.chunks_exact(instance.n);
+    let from = 2 * instance.k;
+    if let Some(row) = rows().position(|row| row.iter().all(|&entry| entry < 0)) {
+        return Some(from + row);
+    }
+    let several = |row: &[i32]| first_pair(instance.n, |v| row[v] > 0);
+    let (row, pair) = first_in(rows(), several)?;
+    Some(from + instance.rows() + row * pairs(instance.n) + pair)
+}
+
+/// The lowest such clause of E, F and G. They hold where every step obeys the three conditions.
+fn first_false_step(instance: &Instance, places: &[u8]) -> Option<usize> {
+    let (n, k) = (instance.n, instance.k);
+    let near = instance.neighbours();
+    let steps = || places.chunks_exact(k).zip(places[k..].chunks_exact(k));
+    let start = mask(&places[..k]);
+    if steps()
+        .try_fold(start, |stood, (row, next)| step(&near, stood, row, next))
+        .is_some()
+    {
+        return None;
+    }
+    let counts = instance.clause_counts();
+    let mut from: usize = counts[..4].iter().sum();
+    let shared = |row: &[u8]| first_in(0..n, |v| first_pair(k, |a| usize::from(row[a]) == v));
+    if let Some((t, (v, pair))) = first_in(places.chunks_exact(k), shared) {
+        return Some(from + (t * n + v) * pairs(k) + pair);
+    }
+    from += counts[4];
+    let mut moves = places.iter().zip(&places[k..]);
+    if let Some(row) = moves.position(|(&v, &w)| jumps(&near, v, w)) {
+        return Some(from + row * n + usize::from(places[row]));
+    }
+    from += counts[5];
+    let entered = |(row, next): (&[u8], &[u8])| {
+        first_in(0..k, |a| (0..k).position(|b| b != a && row[b] == next[a]))
+    };
+    let (t, (a, b)) = first_in(steps(), entered)?;
+    let other = if b < a { b } else { b - 1 };
+    let v = usize::from(places[(t + 1) * k + a]);
+    Some(from + ((t * k + a) * (k - 1) + other) * n + v)
+}
+
+/// The first item for which the function gives something, and what it gives.
+fn first_in<T, U>(
+    items: impl IntoIterator<Item = T>,
+    mut give: impl FnMut(T) -> Option<U>,
+) -> Option<(usize, U)> {
+    let mut items = items.into_iter().enumerate();
+    items.find_map(|(i, item)| Some((i, give(item)?)))
+}
+
+/// Pairs v < w below `count`.
+fn pairs(count: usize) -> usize {
+    count * (count - 1) / 2
+}
+
+/// The number of the pair of the first two that hold.
+fn first_pair(count: usize, holds: impl Fn(usize) -> bool) -> Option<usize> {
+    let mut held = (0..count).filter(|&v| holds(v));
+    let (v, w) = (held.next()?, held.next()?);
+    Some(v * (2 * count - v - 1) / 2 + w - v - 1)
+}
+
+fn encoded(instance: &Instance, plan: &[u8], entries: &mut [i32]) -> Result<usize, Answer> {
+    let count = instance.rows() * instance.n;
+    check_length(instance, plan)?;
+    if entries.len() < count {
+        return refuse(16, count);
+    }
+    check_rows(instance, plan)?;
+    let mut first = 1;
+    for (row, &v) in entries.chunks_exact_mut(instance.n).zip(plan) {
+        for (entry, v) in row.iter_mut().zip(0..) {
+            *entry = -(first + v);
+        }
+        row[usize::from(v)] = first + i32::from(v);
+        first += instance.n as i32;
+    }
+    Ok(count)
+}
