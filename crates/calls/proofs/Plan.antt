@@ -1,9 +1,8 @@
 -- The plan check's questions are answered yes exactly for the plans that pass.
-use mathlib.Core.Path.{_≡_, sym}
-use mathlib.Core.Logic.{_↔_, _≢_, _⊎_, inl, inr, ⊎-elim, by-cases, Iff·trans}
+use mathlib.Core.Path.{_≡_}
+use mathlib.Core.Logic.{_↔_, Iff·trans}
 use mathlib.Core.List.{List, [], _∷_}
-use Prim.Native.Nat.{ℕ, suc, _<_}
-use native.Mathlib.Decide.{ℕ-discrete, decLt}
+use Prim.Native.Nat.{ℕ, suc}
 use native.Mathlib.Omega.{arith}
 use lib.Dec.{T}
 use Rattle.lists.specs.Loop.{for, all}
@@ -12,10 +11,10 @@ use Rattle.lists.proofs.Loops.{all-append, for-all}
 use Rattle.answers.specs.Answers.{Question, clear}
 use Rattle.answers.proofs.Laws.{numbered, clear-iff, each-all, each-nil, decide-iff, decide-after, ask-nil, ask-all}
 use Rattle.instance.specs.declared.Sizes.{Sizes}
-use Rattle.instance.specs.Instance.{Instance, instance, adjacent, Edge}
-use Rattle.instance.proofs.Graph.{adjacent-iff}
+use Rattle.instance.specs.Instance.{Instance, instance}
 use Rattle.plan.specs.Plan.{condition1, condition2, condition3, place}
 use Rattle.plan.specs.Passing.{Passes}
+use Rattle.plan.proofs.Steps.{apart-any, crosses-iff}
 use Rattle.calls.specs.Questions.{question13}
 use Rattle.instance.specs.Questions.{instanceQuestions}
 use Rattle.calls.specs.Calls.{stepQuestions, planQuestions, checkAnswer}
@@ -38,18 +37,6 @@ module _ (I : Instance) (p : List ℕ) where
         ),
       )
 
-  -- "no two share" from "none shares with a lower one", and back
-  apart-any : (P : ℕ → ℕ) → ((a : ℕ) → a < k → (b : ℕ) → b < a → P b ≢ P a) → (a b : ℕ) → a < k → b < k → a ≢ b → P a ≢ P b
-  apart-any P h a b l r d e =
-      by-cases (decLt a b) (λ o. h b r a o e) (λ o. h a l b (omega arith) (sym e))
-
-  -- "keeps or crosses" from "where it changes, it crosses", and back
-  crosses-iff : (x y : ℕ) → (x ≢ y → T (adjacent I x y)) ↔ ((x ≡ y) ⊎ Edge I x y)
-  crosses-iff x y = (
-    (λ f. by-cases (ℕ-discrete x y) inl (λ d. inr (adjacent-iff I x y .0 (f d)))),
-    (λ o d. ⊎-elim (λ e. absurd (d e)) (λ g. adjacent-iff I x y .1 g) o),
-  )
-
   pub clear-plan : T (all clear (question13 I p ∷ planQuestions I p)) ↔ Passes I p
   unfolding planQuestions condition1 condition2 condition3
   clear-plan =
@@ -63,9 +50,9 @@ module _ (I : Instance) (p : List ℕ) where
             steps = λ t l.
                 let step = h .1 .1 .1 .0 t l in
                 record {
-                  crosses = λ a r. crosses-iff (P t a) (P (suc t) a) .0 (step .0 a r);
+                  crosses = λ a r. crosses-iff I (P t a) (P (suc t) a) .0 (step .0 a r);
                   vacant = step .1 .0;
-                  apart = apart-any (P (suc t)) (step .1 .1 .0);
+                  apart = apart-any k (P (suc t)) (λ a b o r. step .1 .1 .0 b r a o);
                 };
             goals = h .1 .1 .1 .1 .0;
           };
@@ -80,7 +67,7 @@ module _ (I : Instance) (p : List ℕ) where
                   (
                     (λ t l.
                         let step = o .steps t l in (
-                          (λ a r. crosses-iff (P t a) (P (suc t) a) .1 (step .crosses a r)),
+                          (λ a r. crosses-iff I (P t a) (P (suc t) a) .1 (step .crosses a r)),
                           (step .vacant, ((λ a r b q. step .apart b a (omega arith) r (omega arith)), tt)),
                         )),
                     (o .goals, tt),

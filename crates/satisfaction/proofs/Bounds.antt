@@ -8,7 +8,7 @@ use Rattle.instance.specs.declared.Sizes.{Sizes}
 use Rattle.instance.specs.Limits.{Limits}
 use Rattle.formula.specs.Variables.{variableCount}
 use Rattle.plan.specs.Plan.{planBytes}
-use Rattle.satisfaction.proofs.Entries.{cells-count}
+use Rattle.valuation.proofs.Entries.{count-eq}
 
 -- cells: times and agents; pairs, twos: twice the pairs of vertices and of agents; the rest: the sizes of the rows of D to G
 pub record Products (s : Sizes) : Type 0 where
@@ -34,7 +34,7 @@ products s w =
       cells = c;
       after = rw add-one;
       entries = mul-le-mul {n₂ = 528} {m₂ = 64} c (w .n-most);
-      count = cells-count s;
+      count = count-eq s;
       pairs = p;
       twos = t;
       rest = g;
@@ -48,7 +48,7 @@ products s w =
 pub entries-fit : (s : Sizes) (i : ℕ) → Limits s → i < suc (s .m) * s .k → (i * s .n + s .n ≤ variableCount s) × (variableCount s ≤ 33792)
 entries-fit s i w l =
     let o = products s w in
-    (omega (arith, suc-mul i (s .n), mul-le-mul-right (s .n) l, cells-count s), omega (arith, o .entries, o .count))
+    (omega (arith, suc-mul i (s .n), mul-le-mul-right (s .n) l, count-eq s), omega (arith, o .entries, o .count))
 
 pub row-fits : (s : Sizes) (t : ℕ) → t ≤ s .m → t * s .k + s .k ≤ planBytes s
 row-fits s t l = let o : suc t ≤ suc (s .m) = omega arith in omega (arith, suc-mul t (s .k), mul-le-mul-right (s .k) o)

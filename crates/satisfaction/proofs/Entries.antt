@@ -4,7 +4,7 @@ use mathlib.Core.Logic.{_↔_, _≢_, _⊎_, inl, inr, ⊎-elim, by-cases, Iff·
 use mathlib.Core.List.{List}
 use mathlib.Core.Bool.{Bool, true, false}
 use Prim.Native.Nat.{ℕ, suc, _+_, _*_, _-_, _≤_, _<_}
-use native.Mathlib.Nat.{le-refl, zero-mul, suc-mul, mul-comm, mul-left-comm}
+use native.Mathlib.Nat.{le-refl, zero-mul, suc-mul}
 use native.Mathlib.Numerals.{add-one}
 use native.Mathlib.Decide.{decLt, ℕ-discrete}
 use native.Mathlib.Omega.{arith}
@@ -21,7 +21,7 @@ use Rattle.formula.specs.Variables.{X, index, variableCount}
 use Rattle.plan.specs.Plan.{planBytes}
 use Rattle.valuation.specs.Valuation.{entry, rightEntry, true?}
 use Rattle.valuation.specs.Satisfying.{Valuation}
-use Rattle.valuation.proofs.Entries.{sameNumber-iff, true-yes, index-lt}
+use Rattle.valuation.proofs.Entries.{sameNumber-iff, count-eq, true-yes, index-lt}
 use Rattle.satisfaction.specs.Rows.{Stop, Tallied, says, denies, Seen, Read}
 
 module _ (es : List ℤ) where
@@ -177,9 +177,6 @@ module _ (n : ℕ) (es : List ℤ) (places : List ℕ) where
           here = λ b. c .0 .here l;
         }
 
-pub cells-count : (s : Sizes) → suc (s .m) * s .k * s .n ≡ variableCount s
-cells-count s = simp (mul-comm, mul-left-comm)
-
 -- ---- truth under a valuation goes by one entry
 bool-same : (a b : Bool) → T a ↔ T b → a ≡ b
 bool-same true true h = refl
@@ -221,7 +218,7 @@ module _ (s : Sizes) (es : List ℤ) (e : length es ≡ variableCount s) (places
   open Sizes s using (n, k, m)
 
   pub done-right : FirstFault (variableCount s) (rightEntry es) (suc m * k * n)
-  done-right = rw (cells-count s) (fault-none refl (λ j l. o .right j (omega (arith, cells-count s))))
+  done-right = rw (count-eq s) (fault-none refl (λ j l. o .right j (omega (arith, count-eq s))))
 
   valid : Valuation (variableCount s) es
   valid =
@@ -231,7 +228,7 @@ module _ (s : Sizes) (es : List ℤ) (e : length es ≡ variableCount s) (places
             ⊎-elim
             (λ u. inl (sameNumber-iff (entry es i) (pos (suc i)) .0 u))
             (λ u. inr (sameNumber-iff (entry es i) (negsuc i) .0 u))
-            (or-iff (says es i) (denies es i) .0 (o .right i (omega (arith, cells-count s))));
+            (or-iff (says es i) (denies es i) .0 (o .right i (omega (arith, count-eq s))));
       }
 
   pub done-read : suc m * k ≤ 528 → Read s es (take (planBytes s) places)

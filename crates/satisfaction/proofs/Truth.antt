@@ -25,9 +25,9 @@ use Rattle.plan.specs.Plan.{place}
 use Rattle.valuation.specs.Valuation.{true?, satisfied?}
 use Rattle.valuation.specs.Satisfying.{Valuation}
 use Rattle.valuation.specs.Places.{Places}
-use Rattle.valuation.proofs.Entries.{true-no}
+use Rattle.valuation.proofs.Entries.{count-eq, true-no}
 use Rattle.satisfaction.specs.Rows.{Fault, Stop, says, denies, Seen, Read, Lowest}
-use Rattle.satisfaction.proofs.Entries.{right-says, skip-le, read-true, right-at, denied-or-true, cells-count}
+use Rattle.satisfaction.proofs.Entries.{right-says, skip-le, read-true, right-at, denied-or-true}
 use Rattle.satisfaction.proofs.Steps.{keeps-or, Enters}
 use Rattle.satisfaction.proofs.Laws.{blocks-stop, blocks-pass, fault-all, for-stop, singles, pairs-pass, pairs-two}
 
@@ -114,7 +114,7 @@ module _ (s : Sizes) (es : List ℤ) (w : Valuation (variableCount s) es) where
     passed-D a l h = for-all sat a (blockD s t) .1 (λ b o. pass-D b (omega arith) (h b o))
 
     end-D : {a : ℕ} → a < k → (t * k + a) * n + n ≤ variableCount s
-    end-D {a} l = omega (arith, place-lt (suc m) k t a x l, cells-count s, suc-mul (t * k + a) n, mul-le-mul-right n (place-lt (suc m) k t a x l))
+    end-D {a} l = omega (arith, place-lt (suc m) k t a x l, count-eq s, suc-mul (t * k + a) n, mul-le-mul-right n (place-lt (suc m) k t a x l))
 
     module _ (z a : ℕ) (e : z ≡ suc n) (f : FirstFault k (λ b. not (eqb (getD p (t * k + b) 0) z)) a) where
       below-D : (b : ℕ) → b < a → place s p t b ≢ suc n

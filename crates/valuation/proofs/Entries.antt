@@ -41,7 +41,7 @@ module _ (s : Sizes) where
   ¬X = variables.¬X s
 
   -- ---- the numbering: X(t,a,v) in range has an index below N, and each index below N is one
-  count-eq : suc m * k * n ≡ variableCount s
+  pub count-eq : suc m * k * n ≡ variableCount s
   count-eq = simp (mul-comm, mul-left-comm)
 
   pub index-lt : (t a v : ℕ) → t < suc m → a < k → v < n → index s t a v < variableCount s

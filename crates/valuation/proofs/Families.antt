@@ -13,12 +13,12 @@ use Rattle.lists.specs.Loop.{any, all}
 use Rattle.lists.proofs.Tests.{ltb-iff, not-iff, or-imp, eqb-iff}
 use Rattle.lists.proofs.Loops.{for-all, when-all, one-all, for-any, when-any, all-append, any-one, any-two}
 use Rattle.instance.specs.declared.Sizes.{Sizes}
-use Rattle.instance.specs.Instance.{Instance, adjacent, Edge, Endpoints}
-use Rattle.instance.proofs.Graph.{adjacent-iff}
+use Rattle.instance.specs.Instance.{Instance, adjacent, Endpoints}
 use Rattle.formula.specs.Variables.{Literal}
 use Rattle.formula.specs.Formula.{Clause, A, B, C, D, E, F, G, clauses}
 use Rattle.valuation.specs.Places.{Places}
 use Rattle.plan.specs.Passing.{Leads}
+use Rattle.plan.proofs.Steps.{apart-any, crosses-iff}
 use Rattle.formula.specs.Variables as variables
 
 -- a truth of literals h satisfies the clauses
@@ -128,10 +128,6 @@ module _ (I : Instance) where
     abbrev Apart : Type 0
     Apart = (t : ℕ) → t < suc m → (a b : ℕ) → a < b → b < k → P t a ≢ P t b
 
-    apart-any : Apart → (t : ℕ) → t < suc m → (a b : ℕ) → a < k → b < k → a ≢ b → P t a ≢ P t b
-    apart-any o t l a b p q d e =
-        by-cases (decLt a b) (λ r. o t l a b r q e) (λ r. o t l b a (omega arith) p (sym e))
-
     -- in row 0 by the distinct starts, in a later row by condition 3
     rows-apart : Leads I P → Apart
     rows-apart o zero l a b q r e = s .startsApart b r a q (sym (o .starts a (omega arith)) ∙ e ∙ o .starts b r)
@@ -146,16 +142,9 @@ module _ (I : Instance) where
           (λ q t l a r d b u e. by-cases (ℕ-discrete a b) (λ e′. d (ap (λ x. P t x) e′ ∙ e)) (λ d′. q t l a b r u d′ e)),
           (λ q t l a b r u d e.
               by-cases (ℕ-discrete (P t a) (P (suc t) a))
-              (λ stays. apart-any o t (omega arith) a b r u d (stays ∙ sym e))
+              (λ stays. apart-any k (P t) (o t (omega arith)) a b r u d (stays ∙ sym e))
               (λ moves. q t l a r moves b u e)),
         )
-
-    -- "keeps or crosses" from "where it changes, it crosses", and back
-    crosses : (x y : ℕ) → (x ≢ y → T (adjacent I x y)) → (x ≡ y) ⊎ Edge I x y
-    crosses x y f = by-cases (ℕ-discrete x y) inl (λ d. inr (adjacent-iff I x y .0 (f d)))
-
-    changes : (x y : ℕ) → (x ≡ y) ⊎ Edge I x y → x ≢ y → T (adjacent I x y)
-    changes x y o d = ⊎-elim (λ e. absurd (d e)) (λ g. adjacent-iff I x y .1 g) o
 
     pub satisfies-iff : (h : Literal → Bool) → Places sizes h P → Sat h (clauses I) ↔ Leads I P
     unfolding clauses
@@ -164,16 +153,16 @@ module _ (I : Instance) where
           (λ q. record {
             starts = λ a l. sym (q .0 .0 .0 .0 .0 .0 a l);
             steps = λ t l. record {
-              crosses = λ a r. crosses (P t a) (P (suc t) a) (q .0 .1 t l a r);
+              crosses = λ a r. crosses-iff I (P t a) (P (suc t) a) .0 (q .0 .1 t l a r);
               vacant = second h c (q .0 .0 .1) .0 (q .1) t l;
-              apart = λ a b r u d. apart-any (q .0 .0 .1) (suc t) (omega arith) a b r u d;
+              apart = λ a b r u d. apart-any k (P (suc t)) (q .0 .0 .1 (suc t) (omega arith)) a b r u d;
             };
             goals = λ a l. sym (q .0 .0 .0 .0 .0 .1 a l);
           }),
           (λ o. (
             (
               (((((λ a l. sym (o .starts a l)), (λ a l. sym (o .goals a l))), read-C h P c), read-D h P c), rows-apart o),
-              (λ t l a r. changes (P t a) (P (suc t) a) (o .steps t l .crosses a r)),
+              (λ t l a r. crosses-iff I (P t a) (P (suc t) a) .1 (o .steps t l .crosses a r)),
             ),
             second h c (rows-apart o) .1 (λ t l. o .steps t l .vacant),
           )),
