@@ -1,9 +1,9 @@
--- `formula_program::print_formula` is safe and ends: an accepted instance has the limits, and its starts and goals are vertices. Assumes nothing.
+-- `formula_printer::print_formula` is safe and ends: an accepted instance has the limits, and its starts and goals are vertices. Assumes nothing.
 use native.Mathlib.Omega.{arith}
 use borrow.Author.Needs.{needs}
 use Rattle.calls.proofs.Accepted.{limits-known, starts-inside, goals-inside}
-use Rattle.formula_program.proofs.print_formula.Statement.{statement}
-use Rattle.formula_program.proofs.print_formula.Tie as tie
+use Rattle.formula_printer.proofs.print_formula.Statement.{statement}
+use Rattle.formula_printer.proofs.print_formula.Tie as tie
 
 table-of-requires : tie.Need-table-of-requires
 table-of-requires c κs = search needs

@@ -1,12 +1,12 @@
--- `formula_program::print_step` is safe and ends: a block has at most 12,288 words; both buffers keep their lengths. Assumes nothing.
+-- `formula_printer::print_step` is safe and ends: a block has at most 12,288 words; both buffers keep their lengths. Assumes nothing.
 use mathlib.Core.Path.{_≡_}
 use Prim.Native.Nat.{_-_, _≤_}
 use borrow.Author.Needs.{needs}
 use lib.ListN.{length, length-take, length-drop}
 use Rattle.families.specs.Held.{held}
-use Rattle.formula_program.proofs.Laws.{block-most}
-use Rattle.formula_program.proofs.print_step.Statement.{statement}
-use Rattle.formula_program.proofs.print_step.Tie as tie
+use Rattle.formula_printer.proofs.Laws.{block-most}
+use Rattle.formula_printer.proofs.print_step.Statement.{statement}
+use Rattle.formula_printer.proofs.print_step.Tie as tie
 
 abbrev Inv-loop : tie.InvT-loop
 Inv-loop words₀ text₀ c table g t end x₀ words text x = (x ≤ end) × ((length words ≡ length words₀) × (length text ≡ length text₀))

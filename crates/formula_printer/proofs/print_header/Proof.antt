@@ -1,10 +1,10 @@
--- `formula_program::print_header` is safe and ends: the variables are at most 33,792. Assumes nothing.
+-- `formula_printer::print_header` is safe and ends: the variables are at most 33,792. Assumes nothing.
 use Prim.Native.Nat.{_+_, _*_, _≤_}
 use native.Mathlib.Omega.{arith}
 use native.Mathlib.Nat.{mul-le-mul}
 use borrow.Author.Needs.{needs}
-use Rattle.formula_program.proofs.print_header.Statement.{statement}
-use Rattle.formula_program.proofs.print_header.Tie as tie
+use Rattle.formula_printer.proofs.print_header.Statement.{statement}
+use Rattle.formula_printer.proofs.print_header.Tie as tie
 
 mul-variables : tie.Need-mul-variables
 mul-variables c = omega (arith, mul-le-mul {n₂ = 64} {m₂ = 16} (c .before .before .pre .1 .n-most) (c .before .before .pre .1 .k-most))

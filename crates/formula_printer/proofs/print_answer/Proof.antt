@@ -1,11 +1,11 @@
--- `formula_program::print_answer` is safe and ends: where the number is 0, the instance is accepted. Assumes nothing.
+-- `formula_printer::print_answer` is safe and ends: where the number is 0, the instance is accepted. Assumes nothing.
 use mathlib.Core.Path.{_≡_, sym, _∙_, ap}
 use Rattle.answers.specs.declared.Answer.{Answer}
 use Rattle.calls.specs.Calls.{instanceAnswer}
 use Rattle.calls.proofs.Accepted.{accepted}
 use borrow.Author.Needs.{needs}
-use Rattle.formula_program.proofs.print_answer.Statement.{statement}
-use Rattle.formula_program.proofs.print_answer.Tie as tie
+use Rattle.formula_printer.proofs.print_answer.Statement.{statement}
+use Rattle.formula_printer.proofs.print_answer.Tie as tie
 
 check-instance-requires : tie.Need-check-instance-requires
 check-instance-requires c κs = search needs

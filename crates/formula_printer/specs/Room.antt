@@ -1,4 +1,4 @@
--- What the program's functions require of the two buffers that they are lent.
+-- What the functions require of the two buffers that they are lent.
 use mathlib.Core.List.{List}
 use Prim.Native.Nat.{ℕ, _≤_}
 use lib.IntN.{ℤ}

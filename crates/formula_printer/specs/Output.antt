@@ -1,5 +1,5 @@
--- What the program is to print, as a function of its input. No contract can speak of output: the stored run and the comparisons test
--- the program against it.
+-- What is to be printed, as a function of the input. No contract can speak of output: the stored runs and the comparisons test the
+-- programs against it.
 use mathlib.Core.List.{List}
 use Prim.Native.Nat.{ℕ}
 use lib.ListN.{getD, take, drop}
@@ -14,6 +14,10 @@ answerText b m =
     byNumber (instanceAnswer b m .number) (formulaText (instance b m))
     (refusalText (instanceAnswer b m .number) (instanceAnswer b m .second))
 
--- At most 4,070 bytes are read: one byte m, then the instance. Empty input counts as m 0 and an empty instance.
+-- of an input: one byte m, then the instance; an empty one counts as m 0 and an empty instance
+unfoldable pub inputText : List ℕ → List ℕ
+inputText input = answerText (drop 1 input) (getD input 0 0)
+
+-- of what stands in the program's standard input: at most 4,070 bytes are read
 unfoldable pub programText : List ℕ → List ℕ
-programText input = answerText (drop 1 (take 4070 input)) (getD input 0 0)
+programText input = inputText (take 4070 input)
