@@ -1,10 +1,10 @@
--- `comparison::fill_bytes` stays inside the slice and keeps its length. Assumes nothing.
+-- `comparison::lent::fill_bytes` stays inside the slice and keeps its length. Assumes nothing.
 use Prim.Native.Nat.{_-_, _≤_}
 use mathlib.Core.Path.{_≡_}
 use lib.ListN.{length}
 use borrow.Author.Needs.{needs}
-use Rattle.comparison.proofs.fill_bytes.Statement.{statement}
-use Rattle.comparison.proofs.fill_bytes.Tie as tie
+use Rattle.comparison.proofs.lent.fill_bytes.Statement.{statement}
+use Rattle.comparison.proofs.lent.fill_bytes.Tie as tie
 
 abbrev Inv-loop : tie.InvT-loop
 Inv-loop z₀ i₀ i-end z i = (i ≤ i-end) × ((i-end ≡ length z₀) × (length z ≡ length z₀))

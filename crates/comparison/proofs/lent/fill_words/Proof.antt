@@ -1,31 +1,28 @@
--- `comparison::read_entries` stays inside both slices: four bytes an entry. Assumes nothing.
+-- `comparison::lent::fill_words` stays inside the slice and keeps its length. Assumes nothing.
 use Prim.Native.Nat.{_-_, _≤_}
 use mathlib.Core.Path.{_≡_}
 use lib.ListN.{length}
 use borrow.Author.Needs.{needs}
-use Rattle.comparison.proofs.read_entries.Statement.{statement}
-use Rattle.comparison.proofs.read_entries.Tie as tie
+use Rattle.comparison.proofs.lent.fill_words.Statement.{statement}
+use Rattle.comparison.proofs.lent.fill_words.Tie as tie
 
 abbrev Inv-loop : tie.InvT-loop
-Inv-loop s z₀ i₀ i-end z i = (i ≤ i-end) × ((i-end ≡ length z₀) × (length z ≡ length z₀))
+Inv-loop z₀ i₀ i-end z i = (i ≤ i-end) × ((i-end ≡ length z₀) × (length z ≡ length z₀))
 
 abbrev μ-loop : tie.MeasureT-loop
-μ-loop s z₀ i₀ i-end z i = i-end - i
+μ-loop z₀ i₀ i-end z i = i-end - i
 
 loop-holds : tie.Need-loop-holds Inv-loop μ-loop
 loop-holds c = search needs
 
-mul-four-bytes : tie.Need-mul-four-bytes Inv-loop μ-loop
-mul-four-bytes c = search needs
+before-requires : tie.Need-before-requires Inv-loop μ-loop
+before-requires c κs = search needs
 
-four-bytes-requires : tie.Need-four-bytes-requires Inv-loop μ-loop
-four-bytes-requires c κs = search needs
+cast-z : tie.Need-cast-z Inv-loop μ-loop
+cast-z c = search needs
 
-signed-requires : tie.Need-signed-requires Inv-loop μ-loop
-signed-requires c κs = search needs
-
-mul-t9 : tie.Need-mul-t9 Inv-loop μ-loop
-mul-t9 c = search needs
+mul-t7 : tie.Need-mul-t7 Inv-loop μ-loop
+mul-t7 c = search needs
 
 slice-set-from-z : tie.Need-slice-set-from-z Inv-loop μ-loop
 slice-set-from-z c = search needs
@@ -45,17 +42,16 @@ same-length c = search needs
 returns : tie.Need-returns Inv-loop μ-loop
 returns c = search needs
 
-pub read-entries-spec : {M : Type 1} → statement M
-read-entries-spec =
+pub fill-words-spec : {M : Type 1} → statement M
+fill-words-spec =
     tie.close
     (tie.spec
     Inv-loop
     μ-loop
     loop-holds
-    mul-four-bytes
-    four-bytes-requires
-    signed-requires
-    mul-t9
+    before-requires
+    cast-z
+    mul-t7
     slice-set-from-z
     add-i
     loop-less

@@ -1,10 +1,10 @@
--- `comparison::signed` makes no number that does not fit 32 bits with a sign. Assumes nothing.
+-- `comparison::case::signed` makes no number that does not fit 32 bits with a sign. Assumes nothing.
 use native.Mathlib.Omega.{arith}
 use Prim.Native.Nat.{_-_}
 use Rattle.comparison.proofs.Laws.{below-fits}
 use borrow.Author.Needs.{needs}
-use Rattle.comparison.proofs.signed.Statement.{statement}
-use Rattle.comparison.proofs.signed.Tie as tie
+use Rattle.comparison.proofs.case.signed.Statement.{statement}
+use Rattle.comparison.proofs.case.signed.Tie as tie
 
 cast-result : tie.Need-cast-result
 cast-result c = search needs
