@@ -1,31 +1,5 @@
 // Runs the instance check on stored cases. A case is the horizon in 8 bytes and the instance's length in 2, low bytes first, and
 // then the instance. Each prints a line: the number, and the place of a refusal.
-ghost use Prim.Native.Nat.{_+_, _*_, _≤_, _<_};
-ghost use lib.ListN.{length};
-
-// A byte as a number.
-fn wide(x: u8) -> usize
-    ensures { λ r. ⌜ r < 256 ⌝ }
-{
-    x as usize
-}
-
-// Two bytes, low byte first.
-fn two_bytes(s: &[u8], at: usize) -> usize
-    requires { ⌜ at + 2 ≤ length (now s) ⌝ }
-    ensures { λ r. ⌜ r < 65536 ⌝ }
-{
-    wide(s[at]) + 256 * wide(s[at + 1])
-}
-
-// Eight bytes, low byte first.
-fn eight_bytes(s: &[u8], at: usize) -> usize
-    requires { ⌜ at + 8 ≤ length (now s) ⌝ }
-{
-    let low = two_bytes(s, at) + 65536 * two_bytes(s, at + 2);
-    let high = two_bytes(s, at + 4) + 65536 * two_bytes(s, at + 6);
-    low + 4294967296 * high
-}
 
 fn report(b: &[u8], horizon: usize) {
     let r = instance_check::check_instance(b, horizon);
@@ -40,8 +14,8 @@ fn report(b: &[u8], horizon: usize) {
 fn run(cases: &[u8]) {
     let mut at: usize = 0;
     while at + 10 <= cases.len() {
-        let horizon = eight_bytes(cases, at);
-        let len = two_bytes(cases, at + 8);
+        let horizon = numbers::eight_bytes(cases, at);
+        let len = numbers::two_bytes(cases, at + 8);
         let from = at + 10;
         if cases.len() - from < len {
             return;

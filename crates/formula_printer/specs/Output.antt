@@ -1,0 +1,23 @@
+-- What is to be printed, as a function of the input. No contract can speak of output: the stored runs and the comparisons test the
+-- programs against it.
+use mathlib.Core.List.{List}
+use Prim.Native.Nat.{ℕ}
+use lib.ListN.{getD, take, drop}
+use Rattle.answers.specs.Answers.{byNumber}
+use Rattle.instance.specs.Instance.{instance}
+use Rattle.dimacs.specs.Text.{formulaText, refusalText}
+use Rattle.instance.specs.Questions.{instanceAnswer}
+
+-- of an instance and a horizon: the formula's text, or the one line of a refusal
+unfoldable pub answerText : List ℕ → ℕ → List ℕ
+answerText b m =
+    byNumber (instanceAnswer b m .number) (formulaText (instance b m))
+    (refusalText (instanceAnswer b m .number) (instanceAnswer b m .second))
+
+-- of an input: one byte m, then the instance; an empty one counts as m 0 and an empty instance
+unfoldable pub inputText : List ℕ → List ℕ
+inputText input = answerText (drop 1 input) (getD input 0 0)
+
+-- of what stands in the program's standard input: at most 4,070 bytes are read
+unfoldable pub programText : List ℕ → List ℕ
+programText input = inputText (take 4070 input)
