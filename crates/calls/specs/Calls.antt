@@ -55,18 +55,19 @@ module _ (b : List ℕ) (m : ℕ) where
   abbrev I : Instance
   I = instance b m
 
-  abbrev F : Formula
-  F = formula I
+  -- the base formula
+  abbrev base : Formula
+  base = formula I
 
   -- ---- the formula writer: 1 to 10, 12
   abbrev pub writeQuestions : ℕ → List Question
   writeQuestions size = instanceQuestions b m ++ writeRest I size
 
   unfoldable pub writeAnswer : ℕ → Written
-  writeAnswer size = withClauses (decide (writeQuestions size) (length (words F))) (length (F .clauses))
+  writeAnswer size = withClauses (decide (writeQuestions size) (length (words base))) (length (base .clauses))
 
   unfoldable pub writeSlice : List ℤ → List ℤ
-  writeSlice s = lent (decide (writeQuestions (length s)) (length (words F))) (words F) s
+  writeSlice s = lent (decide (writeQuestions (length s)) (length (words base))) (words base) s
 
   -- ---- one clause: 1 to 12
   abbrev pub clauseQuestions : ℕ → ℕ → List Question
@@ -100,7 +101,7 @@ module _ (b : List ℕ) (m : ℕ) where
   encodeQuestions p size = instanceQuestions b m ++ encodeRest I p size
 
   unfoldable pub encodeAnswer : List ℕ → ℕ → Answer
-  encodeAnswer p size = decide (encodeQuestions p size) (F .variables)
+  encodeAnswer p size = decide (encodeQuestions p size) (base .variables)
 
   unfoldable pub encodeSlice : List ℕ → List ℤ → List ℤ
   encodeSlice p s = lent (encodeAnswer p (length s)) (planValuation (I .sizes) p) s

@@ -69,7 +69,7 @@ module _ (b : List ℕ) (m : ℕ) (ok : T (all clear (instanceQuestions b m))) w
 pub formula-claim : Claim
 formula-claim =
     record {
-      sizes = λ b m e.
+      table = λ b m e.
           let I : Instance = instance b m in
           let ok : T (all clear (instanceQuestions b m)) = instance-iff b m .0 e in
           let g = edges-known b m ok in
@@ -86,7 +86,7 @@ formula-claim =
           let ok : T (all clear (instanceQuestions b m)) = instance-iff b m .0 e in
           record {
             passes = check-iff b m ok;
-            steps = λ p z. plan-steps b m ok p (check-iff b m ok p .0 z);
+            makespan = λ p z. plan-steps b m ok p (check-iff b m ok p .0 z);
           };
       counts = λ b m e. counts b m (instance-iff b m .0 e);
       largest = largest;

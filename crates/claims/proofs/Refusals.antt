@@ -23,7 +23,7 @@ use Rattle.calls.specs.Questions.{question11, question12, question13, question1
 use Rattle.calls.specs.Calls.{stepQuestions, planQuestions, writeQuestions, writeAnswer, writeSlice, clauseQuestions, clauseAnswer, clauseSlice, checkQuestions, checkAnswer, decodeQuestions, decodeAnswer, decodeSlice, encodeQuestions, encodeAnswer, encodeSlice}
 use Rattle.calls.proofs.Plan.{numbered-plan}
 use Rattle.calls.proofs.Valuation.{numbered-valuation}
-use Rattle.claims.specs.Refusals.{FirstNo, Honest, Refusals, Claim}
+use Rattle.claims.specs.Refusals.{FirstItem, FirstNo, Honest, Refusals, Claim}
 
 -- ---- the shape of a question
 record Asked (q : Question) : Type 0 where
@@ -53,13 +53,6 @@ asked-for zero f h = tt
 asked-for (suc n) f h = asked-append (for n f) (f n) (asked-for n f h) (h n)
 
 -- ---- the first failing item
-record FirstItem (n : ℕ) (test : ℕ → Bool) (refusal : ℕ → Answer) (answer : Answer) : Type 0 where
-  item : ℕ
-  inside : item < n
-  passed : (i : ℕ) → i < item → T (test i)
-  fails : T (test item) → ⊥
-  given : answer ≡ refusal item
-
 first-item : (n : ℕ) (test : ℕ → Bool) (refusal : ℕ → Answer) (answer : Answer) (later : List Answer)
     → askEach n test refusal ≡ answer ∷ later → FirstItem n test refusal answer
 unfolding askEach
@@ -87,43 +80,32 @@ first-item (suc n) test refusal answer later e = go (first-item n test refusal a
 
 -- ---- the first no
 -- a question before the others, answered yes
-behind : (qs : List Question) (number second : ℕ) → FirstNo qs number second → FirstNo ([] ∷ qs) number second
-behind qs number second f =
+behind : (qs : List Question) (answer : Answer) → FirstNo qs answer → FirstNo ([] ∷ qs) answer
+behind qs answer f =
     record {
       before = [] ∷ f .before;
-      items = f .items;
-      test = f .test;
-      refusal = f .refusal;
+      question = f .question;
       after = f .after;
       asked = ap (λ l. [] ∷ l) (f .asked);
       yes = f .yes;
-      item = f .item;
-      inside = f .inside;
-      passed = f .passed;
-      fails = f .fails;
-      given = f .given;
+      shape = f .shape;
+      first = f .first;
     }
 
-first-no : (qs : List Question) (c : ℕ) → EachAsked qs → decide qs c .number ≢ 0 → FirstNo qs (decide qs c .number) (decide qs c .second)
+first-no : (qs : List Question) (c : ℕ) → EachAsked qs → decide qs c .number ≢ 0 → FirstNo qs (decide qs c)
 unfolding decide
 first-no [] c h d = absurd (d refl)
-first-no ([] ∷ qs) c h d = behind qs _ _ (first-no qs c (h .1) d)
+first-no ([] ∷ qs) c h d = behind qs _ (first-no qs c (h .1) d)
 first-no ((r ∷ rs) ∷ qs) c h d =
     let a : Asked (r ∷ rs) = h .0 in
-    let f : FirstItem (a .items) (a .test) (a .refusal) r = first-item (a .items) (a .test) (a .refusal) r rs (sym (a .same)) in
     record {
       before = [];
-      items = a .items;
-      test = a .test;
-      refusal = a .refusal;
+      question = r ∷ rs;
       after = qs;
-      asked = ap (λ q. q ∷ qs) (a .same);
+      asked = refl;
       yes = tt;
-      item = f .item;
-      inside = f .inside;
-      passed = f .passed;
-      fails = f .fails;
-      given = f .given;
+      shape = (a .items, a .test, a .refusal, a .same);
+      first = λ n test refusal e. first-item n test refusal r rs (sym e);
     }
 
 -- an answer that is decided by its questions

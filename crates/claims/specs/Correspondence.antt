@@ -23,15 +23,16 @@ module _ (b : List ℕ) (m : ℕ) where
   abbrev I : Instance
   I = instance b m
 
-  abbrev F : Formula
-  F = formula I
+  -- the base formula
+  abbrev base : Formula
+  base = formula I
 
   -- how many bytes a plan has, and how many variables the formula
   abbrev pub bytes : ℕ
   bytes = planBytes (I .sizes)
 
   abbrev pub N : ℕ
-  N = F .variables
+  N = base .variables
 
   -- the plan handed back: the first (m+1)·k bytes of the plan slice s
   abbrev pub handedBack : List ℤ → List ℕ → List ℕ
@@ -44,7 +45,7 @@ module _ (b : List ℕ) (m : ℕ) where
   pub record Correspondence : Type 0 where
     -- the decoder accepts a list of entries exactly when it is a valuation of the formula's variables that satisfies every clause
     pub decoder : (entries : List ℤ) (s : List ℕ) → bytes ≤ length s
-        → Accepts (decodeAnswer b m entries (length s)) ↔ (Valuation N entries × Satisfies F entries)
+        → Accepts (decodeAnswer b m entries (length s)) ↔ (Valuation N entries × Satisfies base entries)
     -- the plan handed back is the one that the valuation names, and it passes the check
     pub decoded : (entries : List ℤ) (s : List ℕ) → bytes ≤ length s → Accepts (decodeAnswer b m entries (length s))
         → Names (I .sizes) entries (handedBack entries s) × Accepts (checkAnswer b m (handedBack entries s))
@@ -57,11 +58,11 @@ module _ (b : List ℕ) (m : ℕ) where
         → Accepts (encodeAnswer b m p (length z)) ↔ Accepts (checkAnswer b m p)
     -- what it writes is a satisfying valuation that names that plan, and the decoder turns it back into the same bytes
     pub encoded : (p : List ℕ) (z : List ℤ) → N ≤ length z → Accepts (encodeAnswer b m p (length z))
-        → Valuation N (written p z) × Satisfies F (written p z) × Names (I .sizes) (written p z) p
+        → Valuation N (written p z) × Satisfies base (written p z) × Names (I .sizes) (written p z) p
         × ((s : List ℕ) → bytes ≤ length s
         → Accepts (decodeAnswer b m (written p z) (length s)) × (handedBack (written p z) s ≡ p))
-    -- some valuation satisfies the formula exactly when some plan of that makespan passes the check
-    pub satisfiable : ((entries : List ℤ) × Valuation N entries × Satisfies F entries)
+    -- some valuation satisfies the formula exactly when some plan of makespan m passes the check
+    pub satisfiable : ((entries : List ℤ) × Valuation N entries × Satisfies base entries)
         ↔ ((p : List ℕ) × (makespan (I .sizes .k) p ≡ m) × Accepts (checkAnswer b m p))
 
 -- for every accepted instance and horizon

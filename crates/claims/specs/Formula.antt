@@ -1,4 +1,4 @@
--- What is claimed of the formula, its counts, and the plan check.
+-- What is claimed of the formula's size, of the plan check, and of the counts that the calls answer.
 use mathlib.Core.Path.{_≡_}
 use mathlib.Core.Logic.{_↔_}
 use mathlib.Core.List.{List, [], List·Memᴰ}
@@ -9,12 +9,13 @@ use Rattle.lists.specs.Loop.{each}
 use Rattle.instance.specs.Instance.{Instance, instance, adjacent}
 use Rattle.formula.specs.Formula.{Clause, A, B, C, D, E, F, G, clauses, formula, line, words}
 use Rattle.formula.specs.Counts.{Families, clausesBy, wordsBy, clauseCount, wordCount}
-use Rattle.plan.specs.Plan.{makespan, cost}
+use Rattle.plan.specs.Plan.{cost}
+use Rattle.plan.specs.Plan as plan
 use Rattle.plan.specs.Passing.{Passes}
 use Rattle.instance.specs.Questions.{instanceAnswer}
 use Rattle.calls.specs.Calls.{writeAnswer, clauseAnswer, checkAnswer, decodeAnswer, encodeAnswer}
 
--- the closed numbers are the lengths of the families
+-- the numbers of the table are the lengths of the families
 pub record Lengths (numbers : Families) (length′ : List Clause → ℕ) (I : Instance) : Type 0 where
   pub inA : length′ (A (I .sizes) (I .start)) ≡ numbers .A
   pub inB : length′ (B (I .sizes) (I .goal)) ≡ numbers .B
@@ -29,7 +30,7 @@ module _ (b : List ℕ) (m : ℕ) where
   abbrev I : Instance
   I = instance b m
 
-  pub record Sizes : Type 0 where
+  pub record TableCounts : Type 0 where
     -- the clause counts and the word counts of the table, by family and in all
     pub clausesByFamily : Lengths (clausesBy (I .sizes)) length I
     pub wordsByFamily : Lengths (wordsBy (I .sizes)) (λ cs. length (each line cs)) I
@@ -44,7 +45,7 @@ module _ (b : List ℕ) (m : ℕ) where
     -- the plan check passes a plan exactly when it leads from the starts to the goals and every step obeys the three conditions
     pub passes : (p : List ℕ) → (checkAnswer b m p .number ≡ 0) ↔ Passes I p
     -- a plan that passes has the makespan m
-    pub steps : (p : List ℕ) → checkAnswer b m p .number ≡ 0 → makespan (I .sizes .k) p ≡ m
+    pub makespan : (p : List ℕ) → checkAnswer b m p .number ≡ 0 → plan.makespan (I .sizes .k) p ≡ m
 
   -- the count of each acceptance
   pub record Counts : Type 0 where
@@ -64,7 +65,7 @@ module _ (b : List ℕ) (m : ℕ) where
 
 -- for every accepted instance and horizon
 pub record Claim : Type 0 where
-  pub sizes : (b : List ℕ) (m : ℕ) → instanceAnswer b m .number ≡ 0 → Sizes b m
+  pub table : (b : List ℕ) (m : ℕ) → instanceAnswer b m .number ≡ 0 → TableCounts b m
   pub check : (b : List ℕ) (m : ℕ) → instanceAnswer b m .number ≡ 0 → Check b m
   pub counts : (b : List ℕ) (m : ℕ) → instanceAnswer b m .number ≡ 0 → Counts b m
   -- the largest formula by the table: 64 vertices, 16 agents, 2,016 edges, horizon 32

@@ -13,28 +13,31 @@ use Rattle.answers.specs.Answers.{Question, refuse, askEach, clear}
 use Rattle.instance.specs.Questions.{instanceQuestions, instanceAnswer}
 use Rattle.calls.specs.Calls.{writeQuestions, writeAnswer, writeSlice, clauseQuestions, clauseAnswer, clauseSlice, checkQuestions, checkAnswer, decodeQuestions, decodeAnswer, decodeSlice, encodeQuestions, encodeAnswer, encodeSlice}
 
--- The first no decides: every question before it is answered yes. It is about items, of which the first that fails gives its
--- refusal: every item before that one passes.
-pub record FirstNo (questions : List Question) (number second : ℕ) : Type 0 where
-  pub before : List Question
-  pub items : ℕ
-  pub test : ℕ → Bool
-  pub refusal : ℕ → Answer
-  pub after : List Question
-  pub asked : questions ≡ before ++ (askEach items test refusal ∷ after)
-  pub yes : T (all clear before)
+-- of items 0 to n - 1, each with a test and a refusal: the first that fails gives this answer, and every item before it passes
+pub record FirstItem (n : ℕ) (test : ℕ → Bool) (refusal : ℕ → Answer) (answer : Answer) : Type 0 where
   pub item : ℕ
-  pub inside : item < items
+  pub inside : item < n
   pub passed : (i : ℕ) → i < item → T (test i)
   pub fails : T (test item) → ⊥
-  pub given : refuse number second ≡ refusal item
+  pub given : answer ≡ refusal item
+
+-- The first no decides: every question before it is answered yes. It is about items (`shape`), and however it is said as a question
+-- about items, the first of them that fails gives the answer.
+pub record FirstNo (questions : List Question) (answer : Answer) : Type 0 where
+  pub before : List Question
+  pub question : Question
+  pub after : List Question
+  pub asked : questions ≡ before ++ (question ∷ after)
+  pub yes : T (all clear before)
+  pub shape : (n : ℕ) × (test : ℕ → Bool) × (refusal : ℕ → Answer) × (question ≡ askEach n test refusal)
+  pub first : (n : ℕ) (test : ℕ → Bool) (refusal : ℕ → Answer) → question ≡ askEach n test refusal → FirstItem n test refusal answer
 
 -- a call that asks these questions and answers these two numbers
 pub record Honest (questions : List Question) (number second : ℕ) : Type 0 where
   -- it accepts exactly where every question is answered yes
   pub accepts : (number ≡ 0) ↔ T (all clear questions)
   -- where it refuses, the first no decides
-  pub refuses : number ≢ 0 → FirstNo questions number second
+  pub refuses : number ≢ 0 → FirstNo questions (refuse number second)
 
 -- a call that answers this number, and finds and leaves this slice: a refusal changes nothing
 abbrev pub Unchanged : {A : Type 0} → ℕ → List A → List A → Type 0

@@ -30,8 +30,8 @@ fn condition_1(b: &[u8], c: Checked, here: &[u8], next: &[u8], a: usize) -> bool
     requires { ⌜ (a < length (now here)) × (a < length (now next)) ⌝ }
     ensures { λ r. ⌜ r ≡ condition1 (adjacent (instanceOf (now (b .entry)) c)) (row (now (here .entry))) (row (now (next .entry))) a ⌝ }
 {
-    let v = instance::wide(here[a]);
-    let w = instance::wide(next[a]);
+    let v = numbers::wide(here[a]);
+    let w = numbers::wide(next[a]);
     if v == w {
         return true;
     }

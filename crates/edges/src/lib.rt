@@ -7,20 +7,13 @@ ghost use Rattle.answers.specs.Fault.{FirstFault};
 ghost use Rattle.instance.specs.Instance.{instance, edges, adjacent};
 ghost use Rattle.edges.specs.Search.{Searchable, earlier, between};
 
-// A byte as a number.
-fn wide(x: u8) -> usize
-    ensures { λ r. ⌜ (r ≡ x) × (r < 256) ⌝ }
-{
-    x as usize
-}
-
 // Edge j comes before the edge from low to high?
 fn comes_before(b: &[u8], e: usize, j: usize, low: usize, high: usize) -> bool
     requires { ⌜ (4 + e + j < length (now b)) × (e ≡ edges (now b)) ⌝ }
     ensures { λ r. ⌜ r ≡ earlier (now (b .entry)) low high j ⌝ }
 {
-    let first = wide(b[4 + j]);
-    let second = wide(b[4 + e + j]);
+    let first = numbers::wide(b[4 + j]);
+    let second = numbers::wide(b[4 + e + j]);
     if first == low {
         return second < high;
     }
@@ -54,8 +47,8 @@ fn has_edge(b: &[u8], e: usize, low: usize, high: usize) -> bool
     if j == e {
         return false;
     }
-    if wide(b[4 + j]) == low {
-        return wide(b[4 + e + j]) == high;
+    if numbers::wide(b[4 + j]) == low {
+        return numbers::wide(b[4 + e + j]) == high;
     }
     false
 }

@@ -60,7 +60,7 @@ fn write_row(z: &mut [i32], s: Sizes, p: &[u8], t: Step)
     let row = t.0 * k;
     for a in 0..k {
         let at = a * n;
-        let place = Vertex(instance::wide(p[row + a]));
+        let place = Vertex(numbers::wide(p[row + a]));
         write_agent(&mut z[at..], s, t, Agent(a), place);
     }
 }

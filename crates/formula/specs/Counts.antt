@@ -1,4 +1,4 @@
--- The closed counts of clauses and words, by family and in all.
+-- The counts of clauses and words, worked out from the sizes, by family and in all.
 use Prim.Native.Nat.{ℕ, suc, _+_, _*_, _-_}
 use Rattle.lists.specs.Loop.{pairs}
 use Rattle.instance.specs.declared.Sizes.{Sizes}

@@ -1,5 +1,5 @@
 -- The seven families of clauses, in their order. Inside one, the first index runs slowest, and each from its lowest number on.
--- A family is over what it uses. It stands in two parts: the clauses of one block, that is of one t and a, or of one t and v; and
+-- A family takes only what it uses. It stands in two parts: the clauses of one block, that is of one t and a, or of one t and v; and
 -- its blocks, one after another.
 use mathlib.Core.List.{List, [], _∷_, _++_}
 use mathlib.Core.Bool.{Bool, not}
@@ -15,7 +15,7 @@ use Rattle.formula.specs.Variables.{Literal, variableCount}
 abbrev pub Clause : Type 0
 Clause = List Literal
 
--- of things numbered below n no two hold, v and w with v < w: ¬x v says that v does not
+-- no two hold of things numbered below n: for each v, w with v < w the clause ¬x v, ¬x w, where ¬x v says that v does not
 abbrev pub noTwo : ℕ → (ℕ → Literal) → List Clause
 noTwo n ¬x = for n λ v. for n λ w. when (ltb v w) ((¬x v ∷ ¬x w ∷ []) ∷ [])
 
@@ -66,10 +66,11 @@ module _ (s : Sizes) where
   unfoldable pub E : List Clause
   E = for (suc m) λ t. for n λ v. blockE t v
 
-  -- agent a at v at time t keeps v or goes to a neighbour w of v, in rising order
+  -- X(t,a,w) for each w near, rising
   abbrev pub nearby : (ℕ → Bool) → ℕ → ℕ → List Literal
   nearby near t a = for n λ w. when (near w) (X t a w ∷ [])
 
+  -- agent a at v at time t keeps v or goes to a neighbour of v
   abbrev pub onward : (ℕ → Bool) → ℕ → ℕ → ℕ → Clause
   onward near t a v = ¬X t a v ∷ X (suc t) a v ∷ nearby near (suc t) a
 

@@ -18,7 +18,7 @@ module _ (s : Sizes) where
   abbrev pub variableCount : ℕ
   variableCount = n * k * suc m
 
-  -- The number of X(t,a,v) is 1 + (t·k + a)·n + v. What is added to 1 is the place of the variable's entry in a valuation.
+  -- The number of X(t,a,v) is 1 + (t·k + a)·n + v. What is added to 1 is the index of the variable's entry in a valuation.
   unfoldable pub index : ℕ → ℕ → ℕ → ℕ
   index t a v = (t * k + a) * n + v
 

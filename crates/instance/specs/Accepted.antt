@@ -1,4 +1,4 @@
--- What the inner functions of a call require: that the instance was checked. It stands in their contracts, and in no public one.
+-- What the inner functions of a call require: that the instance was checked. It stands in their contracts, and in that of no call.
 use mathlib.Core.Path.{_≡_}
 use mathlib.Core.List.{List}
 use Prim.Native.Nat.{ℕ}

@@ -100,7 +100,7 @@ module _ (I : Instance) where
     pub ends : (j : ℕ) → j < e → (low j < high j) × (high j < n)
     pub order : (i : ℕ) → suc i < e → (low i < low (suc i)) ⊎ ((low i ≡ low (suc i)) × (high i < high (suc i)))
 
-  -- what questions 8 and 9 say of the starts and the goals, as far as anything rests on it
+  -- what questions 8 and 9 say of the starts and the goals; that the goals differ is not needed
   pub record Endpoints : Type 0 where
     pub startsInside : (a : ℕ) → a < k → start a < n
     pub startsApart : (a : ℕ) → a < k → (b : ℕ) → b < a → start b ≢ start a

@@ -1,4 +1,4 @@
--- The sizes of an accepted instance and horizon. They stand in the contracts of the functions that go by the sizes alone.
+-- What is used of the sizes of an accepted instance and horizon. It stands in the contracts of the functions that go by the sizes alone.
 use Prim.Native.Nat.{_≤_}
 use Rattle.instance.specs.declared.Sizes.{Sizes}
 

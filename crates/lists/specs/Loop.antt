@@ -1,4 +1,4 @@
--- The words in which the tables are written.
+-- The words in which the tables are written. A test comes out true or false; a proposition is a statement to be proved.
 --     for n f                 f 0, then f 1, .., then f (n - 1)
 --     when b l                l where the test b holds, nothing where it fails
 --     unless b x              x alone where the test b fails, nothing where it holds
@@ -7,7 +7,7 @@
 --     any p l, all p l        the test p holds of some element, of every element of l
 --     first n p               the lowest number below n at which the test p holds
 --     sum n f                 f 0 + f 1 + .. + f (n - 1)
---     pairs n                 how many pairs of two different numbers below n there are
+--     pairs n                 how many pairs v < w of numbers below n there are
 --     unlikeEarlier f a       f a is unlike f 0, .., f (a - 1)
 use mathlib.Core.List.{List, [], _∷_, _++_}
 use mathlib.Core.Bool.{Bool, true, false, not, _&&_, _||_, cond}

@@ -8,13 +8,6 @@ ghost use lib.Dec.{eqb};
 ghost use Rattle.instance.specs.Instance.{adjacent};
 ghost use Rattle.instance.specs.Accepted.{Accepted, instanceOf};
 
-// A byte as a number.
-fn wide(x: u8) -> usize
-    ensures { λ r. ⌜ r ≡ x ⌝ }
-{
-    x as usize
-}
-
 // Marks w where a test holds.
 fn mark(row: &mut [u8], test: bool, w: usize)
     requires { ⌜ w < length (now row) ⌝ }
@@ -34,8 +27,8 @@ fn mark_row(row: &mut [u8], b: &[u8], c: Checked, v: usize)
 {
     let e = c.sizes.e;
     for j in 0..e {
-        let low = wide(b[4 + j]);
-        let high = wide(b[4 + e + j]);
+        let low = numbers::wide(b[4 + j]);
+        let high = numbers::wide(b[4 + e + j]);
         mark(row, low == v, high);
         mark(row, high == v, low);
     }
@@ -61,8 +54,8 @@ pub fn table_of(b: &[u8], c: Checked) -> [u8; 4096]
     let e = c.sizes.e;
     let mut table = [0u8; 4096];
     for j in 0..e {
-        let low = wide(b[4 + j]);
-        let high = wide(b[4 + e + j]);
+        let low = numbers::wide(b[4 + j]);
+        let high = numbers::wide(b[4 + e + j]);
         let there = 64 * low + high;
         let back = 64 * high + low;
         table[there] = 1;

@@ -12,15 +12,15 @@ use Rattle.instance.specs.Instance.{Instance, adjacent}
 abbrev pub Row : Type 0
 Row = ℕ → ℕ
 
--- the bytes of a row
+-- the row that these bytes hold
 abbrev pub row : List ℕ → Row
 row bytes a = getD bytes a 0
 
--- the bytes of a plan
+-- how many bytes a plan has
 abbrev pub planBytes : Sizes → ℕ
 planBytes s = suc (s .m) * s .k
 
--- where byte t·k + a stands
+-- the index of agent a's byte at time t
 abbrev pub cell : Sizes → ℕ → ℕ → ℕ
 cell s t a = t * s .k + a
 
@@ -45,7 +45,7 @@ condition2 s here next a = keeps here next a || (every (s .k) λ b. not (eqb (he
 unfoldable pub condition3 : Row → ℕ → Bool
 condition3 next a = unlikeEarlier next a
 
--- the three by number, from 0
+-- the three by number: 0, 1 and 2 for conditions 1, 2 and 3; a higher number counts as 2
 abbrev pub condition : Instance → ℕ → Row → Row → ℕ → Bool
 condition I zero here next a = condition1 (adjacent I) here next a
 condition I (suc zero) here next a = condition2 (I .sizes) here next a

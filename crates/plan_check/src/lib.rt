@@ -75,7 +75,7 @@ fn byte_fault(p: &[u8], n: usize) -> usize
     ensures { λ r. ⌜ FirstFault (length (now (p .entry))) (λ i. ltb (getD (now (p .entry)) i 0) n) r ⌝ }
 {
     for i in 0..p.len() {
-        if n <= instance::wide(p[i]) {
+        if n <= numbers::wide(p[i]) {
             return i;
         }
     }

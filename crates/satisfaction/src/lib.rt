@@ -165,7 +165,7 @@ fn unit_fault(entries: &[i32], s: Sizes, t: usize, ends: [u8; 16]) -> usize
     let n = s.n;
     let k = s.k;
     for a in 0..k {
-        let i = (t * k + a) * n + instance::wide(ends[a]);
+        let i = (t * k + a) * n + numbers::wide(ends[a]);
         if passes(entries, i, false) {
             return a;
         }
@@ -219,7 +219,7 @@ fn lower(p: &[u8], row: usize, a: usize, low: usize) -> usize
     ensures { λ r. ⌜ ((n : ℕ) → Lowest a (λ i. getD (now (p .entry)) (row + i) 0) n low → Lowest (a + 1) (λ i. getD (now (p .entry)) (row + i) 0) n r) ⌝ }
 {
     let x = p[row + a];
-    let v = instance::wide(x);
+    let v = numbers::wide(x);
     if low <= v {
         return low;
     }
@@ -273,7 +273,7 @@ fn fault_f(b: &[u8], c: Checked, p: &[u8], t: usize) -> usize
     if a == k {
         return k * n;
     }
-    a * n + instance::wide(p[t * k + a])
+    a * n + numbers::wide(p[t * k + a])
 }
 
 // The place of agent b among the agents other than a.
@@ -305,7 +305,7 @@ fn fault_g(b: &[u8], c: Checked, p: &[u8], t: usize) -> usize
     }
     let w = p[row + k + a];
     let stander = conditions::first_on(p, row, k, w);
-    a * size + (other_at(a, stander) * n + instance::wide(w))
+    a * size + (other_at(a, stander) * n + numbers::wide(w))
 }
 
 // Row t of a family, where the families before it have a true literal in every clause.

@@ -1,4 +1,4 @@
--- Truth as places. It stands in the contract of the decoder's writer, behind questions 23 and 24, and in the proofs.
+-- Truth as places. It stands in the contracts of `satisfaction`, for families E, F and G, and in the proofs.
 use mathlib.Core.Path.{_≡_}
 use mathlib.Core.Logic.{_↔_, _≢_}
 use mathlib.Core.Bool.{Bool}
