@@ -1,30 +1,31 @@
 -- What the answers of this crate share.
-use mathlib.Core.Path.{_≡_, refl, sym, _∙_, ap, ap₂, subst}
-use mathlib.Core.Logic.{_≢_}
+use mathlib.Core.Path.{_≡_, refl, sym, _∙_, ap}
+use mathlib.Core.Logic.{_≢_, by-cases}
 use mathlib.Core.List.{List, [], _∷_, _++_}
-use mathlib.Core.Bool.{Bool, true, false, _||_}
-use Prim.Native.Nat.{ℕ, suc, _+_, _-_, _*_, _≤_, _<_}
+use mathlib.Core.Bool.{Bool, true, false, not, _&&_, and-true, and-false}
+use Prim.Native.Nat.{ℕ, zero, suc, _+_, _-_, _*_, _≤_, _<_}
+use native.Mathlib.Decide.{ℕ-discrete, decLt}
 use native.Mathlib.Numerals.{add-one}
 use native.Mathlib.Omega.{arith}
-use borrow.Author.Tests.{le-leb}
-use lib.ListN.{length, getD, take, drop, set, length-drop}
-use lib.Seq.{take-suc, getD-drop, length-take-le}
-use lib.Dec.{T, leb}
-use Rattle.lists.specs.Loop.{all}
+use borrow.Author.Tests.{le-leb, lt-leb, eq-eqb, ne-eqb}
+use lib.ListN.{length, getD, take, drop, set, replicate, length-drop}
+use lib.Seq.{take-suc, getD-drop, length-take-le, getD-set-same, getD-set-other}
+use lib.Dec.{T, ltb, eqb}
+use Rattle.lists.specs.Loop.{all, every}
 use Rattle.lists.specs.Slice.{filled}
-use Rattle.lists.proofs.Tests.{and-iff, eqb-iff, leb-iff}
+use Rattle.lists.proofs.Tests.{and-iff, eqb-iff, leb-iff, every-iff}
 use Rattle.lists.proofs.Slices.{filled-set}
 use Rattle.answers.specs.declared.Answer.{Answer}
-use Rattle.answers.specs.Answers.{Question, refuse, accept, decide, clear}
+use Rattle.answers.specs.Answers.{Question, refuse, accept, decide, clear, ask, askEach}
 use Rattle.answers.specs.Fault.{FirstFault}
-use Rattle.answers.proofs.Laws.{clear-iff, decide-iff, decide-front, decide-after, ask-yes, ask-no, fault-pass, fault-stop, byNumber-accepted, byNumber-refused, ask-nil, ask-all}
-use Rattle.instance.specs.Instance.{agents, edges, startOf, goalOf, instance, checked, unchecked}
-use Rattle.instance.specs.Questions.{question1, question2, question3, question4, question5, question6, question7, question8, question9, question10, properEdge, laterEdge, newVertex, instanceQuestions, instanceAnswer, instanceChecked}
-use Rattle.instance.proofs.Instance.{instance-iff, length-known, limits}
-
-pub or-false : (a : Bool) → a || false ≡ a
-or-false true = refl
-or-false false = refl
+use Rattle.answers.proofs.Faults.{holds, fails}
+use Rattle.answers.proofs.Laws.{clear-iff, decide-iff, decide-front, decide-after, decide-pass, fault-pass, fault-stop, byNumber-accepted, byNumber-refused, ask-nil, ask-all}
+use Rattle.instance.specs.declared.Sizes.{Sizes}
+use Rattle.instance.specs.declared.Checked.{Checked}
+use Rattle.instance.specs.Instance.{vertices, agents, edges, instance, forAgents, checked, unchecked}
+use Rattle.instance.specs.Questions.{question2, question3, question4, question5, question6, question7, question8, question9, question10, properEdge, laterEdge, newVertex, instanceQuestions, instanceAnswer, instanceChecked}
+use Rattle.instance_check.specs.declared.Inspection.{Inspection}
+use Rattle.instance_check.specs.Read.{Read}
 
 -- one more byte in an array that is filled from a slice
 pub filled-more : (b l row : List ℕ) (from i : ℕ) → row ≡ filled (take i (drop from b)) l → from + i < length b → i < length l
@@ -35,100 +36,126 @@ filled-more b l row from i er hs hl =
     rw (add-one, take-suc (drop from b) i 0 h, getD-drop) in
     rw (er, t) (filled-set (take i (drop from b)) l i (getD b (from + i) 0) 0 (length-take-le i _ (omega arith)) hl)
 
--- ---- questions 1 to 5 first, then the rest
-module _ (b : List ℕ) (m : ℕ) where
-  abbrev pub sizeQuestions : List Question
-  sizeQuestions = question1 b ∷ question2 b ∷ question3 b ∷ question4 b ∷ question5 b ∷ []
+-- ---- the vertices seen so far: f 0, .., f (a - 1)
+abbrev pub Seen : (ℕ → ℕ) → ℕ → List Bool → Type 0
+Seen f a seen = (v : ℕ) → not (getD seen v false) ≡ every a (λ c. not (eqb (f c) v))
 
-  abbrev pub itemQuestions : List Question
+unmarked : (n v : ℕ) → getD (replicate n false) v false ≡ false
+unmarked zero v = refl
+unmarked (suc n) zero = refl
+unmarked (suc n) (suc v) = unmarked n v
+
+pub seen-none : (f : ℕ → ℕ) → Seen f 0 (replicate 64 false)
+seen-none f v = rw (unmarked 64 v)
+
+module _ (f : ℕ → ℕ) (a x : ℕ) (seen : List Bool) (e : x ≡ f a) (h : Seen f a seen) where
+  pub seen-more : x < length seen → Seen f (a + 1) (set seen x true)
+  seen-more l v =
+      rw add-one
+      (by-cases (ℕ-discrete v x)
+      (λ p. rw (p, getD-set-same seen x true false l, eq-eqb (f a) x (sym e), and-false))
+      (λ d. rw (getD-set-other seen x v true false d, h v, ne-eqb (f a) v (λ q. d (omega arith)), and-true)))
+
+  pub seen-test : (b : List ℕ) → ltb x (vertices b) && not (getD seen x false) ≡ newVertex b f a
+  seen-test b = rw (e, h (f a))
+
+-- ---- questions 6 to 10
+-- an edge that fails fails the order, where all are proper
+pub order-fails : {n l : ℕ} {p q : ℕ → Bool} {j i : ℕ} → every n p && every l q ≡ false → FirstFault n p j → n ≤ j → FirstFault l q i → i < l
+order-fails {n} {l} {p} {q} {j} {i} e f past g =
+    by-cases (decLt i l) (λ h. h)
+    (λ h. absurd (fails refl e (and-iff (every n p) (every l q) .1 (every-iff n p .1 (λ x k. f .before x (omega arith)), every-iff l q .1 (λ x k. g .before x (omega arith))))))
+
+pub edges-pass : (b : List ℕ) (qs : List Question) → every (edges b) (properEdge b) && every (edges b - 1) (λ i. laterEdge b (suc i) i) ≡ true
+    → decide qs 0 ≡ decide (question6 b ∷ question7 b ∷ qs) 0
+edges-pass b qs e =
+    let (x, y) = and-iff (every (edges b) (properEdge b)) (every (edges b - 1) (λ i. laterEdge b (suc i) i)) .0 (holds refl e) in
+    sym
+    (decide-pass (edges b) (properEdge b) _ _ 0 (every-iff (edges b) (properEdge b) .0 x)
+    ∙ decide-pass (edges b - 1) (λ i. laterEdge b (suc i) i) _ _ 0 (every-iff (edges b - 1) (λ i. laterEdge b (suc i) i) .0 y))
+
+-- the k bytes from an offset on, by the code's offset and by the definition's
+module _ (b : List ℕ) (number : ℕ) (qs : List Question) {offset from r : ℕ} (e : offset ≡ from) (f : FirstFault (agents b) (newVertex b (λ c. getD b (offset + c) 0)) r) where
+  abbrev vertexQuestion : ℕ → Question
+  vertexQuestion x = askEach (agents b) (newVertex b (λ c. getD b (x + c) 0)) λ a. refuse number (x + a)
+
+  pub vertices-stop : r < agents b → refuse number (offset + r) ≡ decide (vertexQuestion from ∷ qs) 0
+  vertices-stop l = sym (fault-stop f _ _ _ l) ∙ ap (λ x. decide (vertexQuestion x ∷ qs) 0) e
+
+  pub vertices-pass : agents b ≤ r → decide qs 0 ≡ decide (vertexQuestion from ∷ qs) 0
+  vertices-pass l = sym (fault-pass f _ _ _ l) ∙ ap (λ x. decide (vertexQuestion x ∷ qs) 0) e
+
+pub horizon-no : (m : ℕ) → 32 < m → refuse 10 0 ≡ decide (question10 m ∷ []) 0
+unfolding decide ask
+horizon-no m l = rw (lt-leb m 32 l)
+
+pub horizon-yes : (m : ℕ) → m ≤ 32 → accept 0 ≡ decide (question10 m ∷ []) 0
+unfolding decide ask
+horizon-yes m l = rw (le-leb m 32 l)
+
+-- ---- question 1, then 2 to 5, then the rest
+module _ (b : List ℕ) (m : ℕ) where
+  abbrev sizeQuestions : List Question
+  sizeQuestions = question2 b ∷ question3 b ∷ question4 b ∷ question5 b ∷ []
+
+  abbrev itemQuestions : List Question
   itemQuestions = question6 b ∷ question7 b ∷ question8 b ∷ question9 b ∷ question10 m ∷ []
 
-  module _ (r : Answer) (er : r ≡ decide sizeQuestions 0) where
-    pub sizes-refused : r .number ≢ 0 → r ≡ instanceAnswer b m
-    unfolding instanceAnswer instanceQuestions
-    sizes-refused d = er ∙ sym (decide-front sizeQuestions itemQuestions 0 (λ e. d (ap (λ (a : Answer). a .number) er ∙ e)))
+  pub short : length b < 4 → refuse 1 (length b) ≡ instanceAnswer b m
+  unfolding instanceAnswer instanceQuestions decide ask
+  short l = rw (lt-leb 4 (length b) l)
 
-    module _ (e : r .number ≡ 0) where
-      sizes-clear : T (all clear sizeQuestions)
-      sizes-clear =
-          decide-iff sizeQuestions 0 (simp (and-iff, ask-all) ((λ f. tt), ((λ f. tt), ((λ f. tt), ((λ f. tt), ((λ f. tt), tt)))))) .0
-          (sym (ap (λ (a : Answer). a .number) er) ∙ e)
+  module _ (long : 4 ≤ length b) where
+    from-sizes : decide (sizeQuestions ++ itemQuestions) 0 ≡ instanceAnswer b m
+    unfolding instanceAnswer instanceQuestions decide ask
+    from-sizes = rw (le-leb 4 (length b) long)
 
-      pub sizes-passed : decide itemQuestions 0 ≡ instanceAnswer b m
-      unfolding instanceAnswer instanceQuestions
-      sizes-passed = sym (decide-after sizeQuestions itemQuestions 0 sizes-clear)
+    module _ (r : Answer) (er : r ≡ decide sizeQuestions 0) where
+      pub sizes-refused : r .number ≢ 0 → r ≡ instanceAnswer b m
+      sizes-refused d = er ∙ sym (decide-front sizeQuestions itemQuestions 0 (λ e. d (ap (λ (a : Answer). a .number) er ∙ e))) ∙ from-sizes
 
-      pub sizes-long : 4 + 2 * edges b + 2 * agents b ≡ length b
-      sizes-long = sym ((simp (and-iff, clear-iff, ask-nil, eqb-iff) at sizes-clear) .1 .1 .1 .1 .0)
+      module _ (e : r .number ≡ 0) where
+        sizes-clear : T (all clear sizeQuestions)
+        sizes-clear =
+            decide-iff sizeQuestions 0 (simp (and-iff, ask-all) ((λ f. tt), ((λ f. tt), ((λ f. tt), ((λ f. tt), tt))))) .0
+            (sym (ap (λ (a : Answer). a .number) er) ∙ e)
 
-  -- ---- questions 6 to 10, where the code's e and k are those of the bytes, and j, i, s and g are the first items that fail
-  module _ (e k j i s g : ℕ) (ee : e ≡ edges b) (ek : k ≡ agents b) where
-    module _ (f : FirstFault e (properEdge b) j) where
-      edges-fault : FirstFault (edges b) (properEdge b) j
-      edges-fault = subst (λ (x : ℕ). FirstFault x (properEdge b) j) ee f
+        pub sizes-passed : decide itemQuestions 0 ≡ instanceAnswer b m
+        sizes-passed = sym (decide-after sizeQuestions itemQuestions 0 sizes-clear) ∙ from-sizes
 
-      pub stop-6 : j < e → refuse 6 (4 + j) ≡ decide itemQuestions 0
-      stop-6 l = sym (fault-stop edges-fault _ _ _ (omega arith))
-
-      pub pass-6 : e ≤ j → decide (question7 b ∷ question8 b ∷ question9 b ∷ question10 m ∷ []) 0 ≡ decide itemQuestions 0
-      pass-6 l = sym (fault-pass edges-fault _ _ _ (omega arith))
-
-    module _ (f : FirstFault (e - 1) (λ x. laterEdge b (suc x) x) i) where
-      order-fault : FirstFault (edges b - 1) (λ x. laterEdge b (suc x) x) i
-      order-fault = subst (λ (x : ℕ). FirstFault (x - 1) (λ x. laterEdge b (suc x) x) i) ee f
-
-      pub stop-7 : i + 1 < e → refuse 7 (4 + i + 1) ≡ decide (question7 b ∷ question8 b ∷ question9 b ∷ question10 m ∷ []) 0
-      stop-7 l =
-          let at : 4 + i + 1 ≡ 4 + suc i = omega arith in
-          ap (refuse 7) at ∙ sym (fault-stop order-fault _ _ _ (omega arith))
-
-      pub pass-7 : e ≤ i + 1 → decide (question8 b ∷ question9 b ∷ question10 m ∷ []) 0 ≡ decide (question7 b ∷ question8 b ∷ question9 b ∷ question10 m ∷ []) 0
-      pass-7 l = sym (fault-pass order-fault _ _ _ (omega arith))
-
-    module _ (f : FirstFault k (newVertex b (λ a. getD b (4 + 2 * e + a) 0)) s) where
-      start-fault : FirstFault (agents b) (newVertex b (startOf b)) s
-      start-fault = rw (ee, ek) at f
-
-      pub stop-8 : s < k → refuse 8 (4 + 2 * e + s) ≡ decide (question8 b ∷ question9 b ∷ question10 m ∷ []) 0
-      stop-8 l = ap (λ (x : ℕ). refuse 8 (4 + 2 * x + s)) ee ∙ sym (fault-stop start-fault _ _ _ (omega arith))
-
-      pub pass-8 : k ≤ s → decide (question9 b ∷ question10 m ∷ []) 0 ≡ decide (question8 b ∷ question9 b ∷ question10 m ∷ []) 0
-      pass-8 l = sym (fault-pass start-fault _ _ _ (omega arith))
-
-    module _ (f : FirstFault k (newVertex b (λ a. getD b (4 + 2 * e + k + a) 0)) g) where
-      goal-fault : FirstFault (agents b) (newVertex b (goalOf b)) g
-      goal-fault = rw (ee, ek) at f
-
-      pub stop-9 : g < k → refuse 9 (4 + 2 * e + k + g) ≡ decide (question9 b ∷ question10 m ∷ []) 0
-      stop-9 l = ap₂ (λ (x y : ℕ). refuse 9 (4 + 2 * x + y + g)) ee ek ∙ sym (fault-stop goal-fault _ _ _ (omega arith))
-
-      pub pass-9 : k ≤ g → decide (question10 m ∷ []) 0 ≡ decide (question9 b ∷ question10 m ∷ []) 0
-      pass-9 l = sym (fault-pass goal-fault _ _ _ (omega arith))
-
-  pub stop-10 : 32 < m → refuse 10 0 ≡ decide (question10 m ∷ []) 0
-  stop-10 l = sym (ask-no (leb m 32) _ _ _ (λ t. let h = leb-iff m 32 .0 t in omega arith))
-
-  pub pass-10 : m ≤ 32 → accept 0 ≡ decide (question10 m ∷ []) 0
-  unfolding decide
-  pass-10 l = sym (ask-yes (leb m 32) (refuse 10 0) [] 0 (leb-iff m 32 .1 l))
+        pub sizes-known : (vertices b ≤ 64) × ((agents b ≤ 16) × (length b ≡ 4 + 2 * edges b + 2 * agents b))
+        sizes-known =
+            let h = simp (and-iff, clear-iff, ask-nil, leb-iff, eqb-iff) at sizes-clear in
+            (h .0 .1, (h .1 .0 .0 .1, h .1 .1 .1 .0))
 
   -- ---- the checked instance beside the answer
+  fields : (s : Sizes) → Read b s → s .m ≡ m → s ≡ instance b m .sizes
+  unfolding instance
+  fields s w em =
+      let z : _≡_ {A = Sizes} (record { n = s .n; k = s .k; e = s .e; m = s .m }) (record { n = vertices b; k = agents b; e = edges b; m = m }) =
+      rw (w .n-same, w .k-same, w .e-same, em) in
+      z
+
   module _ (r : Answer) (er : r ≡ instanceAnswer b m) where
-    pub left-unchecked : r .number ≢ 0 → unchecked ≡ instanceChecked b m
+    pub is-refused : r .number ≢ 0 → (i : Inspection) → (i .answer ≡ r) × (i .checked ≡ unchecked)
+        → (i .answer ≡ instanceAnswer b m) × (i .checked ≡ instanceChecked b m)
     unfolding instanceChecked
-    left-unchecked d = sym (byNumber-refused (instanceAnswer b m .number) (checked b m) unchecked (λ e. d (ap (λ (a : Answer). a .number) er ∙ e)))
+    is-refused d i h = (
+      h .0 ∙ er,
+      h .1 ∙ sym (byNumber-refused (instanceAnswer b m .number) (checked b m) unchecked (λ e. d (ap (λ (a : Answer). a .number) er ∙ e))),
+    )
 
-    module _ (e : r .number ≡ 0) where
-      zero-number : instanceAnswer b m .number ≡ 0
-      zero-number = sym (ap (λ (a : Answer). a .number) er) ∙ e
+    pub is-checked : r .number ≡ 0 → checked b m ≡ instanceChecked b m
+    unfolding instanceChecked
+    is-checked e =
+        sym (byNumber-accepted (instanceAnswer b m .number) (checked b m) unchecked (sym (ap (λ (a : Answer). a .number) er) ∙ e))
 
-      pub is-checked : checked b m ≡ instanceChecked b m
-      unfolding instanceChecked
-      is-checked = sym (byNumber-accepted (instanceAnswer b m .number) (checked b m) unchecked zero-number)
-
-      pub accepted-long : 4 + 2 * edges b + 2 * agents b ≡ length b
-      accepted-long = sym (length-known b m (instance-iff b m .0 zero-number))
-
-      pub accepted-agents : agents b ≤ 16
-      unfolding instance
-      accepted-agents = limits b m (instance-iff b m .0 zero-number) .k-most
+    -- the record that the code makes of sizes read from the bytes
+    pub made : (s : Sizes) → Read b s → s .m ≡ m → (first second : List ℕ)
+        → first ≡ filled (take (s .k) (drop (4 + 2 * s .e) b)) (replicate 16 0)
+        → second ≡ filled (take (s .k) (drop (4 + 2 * s .e + s .k) b)) (replicate 16 0)
+        → r .number ≡ 0 → _≡_ {A = Checked} (record { sizes = s; starts = first; goals = second }) (instanceChecked b m)
+    unfolding instance checked forAgents
+    made s w em first second e₁ e₂ e =
+        let same : s ≡ instance b m .sizes = fields s w em in
+        rw (e₁, e₂, w .k-same, w .e-same, same) (is-checked e)

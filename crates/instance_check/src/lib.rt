@@ -3,16 +3,17 @@ use answers::Answer;
 use instance::Checked;
 use instance::Sizes;
 ghost use mathlib.Core.Path.{_≡_};
-ghost use mathlib.Core.Bool.{not};
-ghost use mathlib.Core.List.{[], _∷_};
-ghost use Prim.Native.Nat.{ℕ, suc, _+_, _-_, _*_, _<_, _≤_};
+ghost use mathlib.Core.Bool.{false, _&&_};
+ghost use mathlib.Core.List.{List, [], _∷_};
+ghost use Prim.Native.Nat.{suc, _+_, _-_, _*_, _<_, _≤_};
 ghost use lib.ListN.{length, getD, take, drop, replicate};
-ghost use lib.Dec.{eqb};
+ghost use Rattle.lists.specs.Loop.{every};
 ghost use Rattle.lists.specs.Slice.{filled};
-ghost use Rattle.answers.specs.Answers.{decide};
+ghost use Rattle.answers.specs.Answers.{Question, refuse, decide};
 ghost use Rattle.answers.specs.Fault.{FirstFault};
-ghost use Rattle.instance.specs.Instance.{vertices, edges};
-ghost use Rattle.instance.specs.Questions.{question1, question2, question3, question4, question5, properEdge, laterEdge, newVertex, instanceAnswer, instanceChecked};
+ghost use Rattle.instance.specs.Instance.{vertices, agents, edges, unchecked};
+ghost use Rattle.instance.specs.Questions.{question2, question3, question4, question5, question6, question7, question8, question9, question10, properEdge, laterEdge, newVertex, instanceAnswer, instanceChecked};
+ghost use Rattle.instance_check.specs.Read.{Read};
 
 // The answer to the questions, and beside it the checked instance, of zeros at a refusal.
 pub struct Inspection {
@@ -20,76 +21,47 @@ pub struct Inspection {
     pub checked: Checked,
 }
 
-// A byte as a number.
-fn wide(x: u8) -> usize
-    ensures { λ r. ⌜ (r ≡ x) × (r < 256) ⌝ }
+// The refusal with this number and this place.
+fn refuse(number: u32, place: usize) -> Answer
+    ensures { λ r. ⌜ r ≡ refuse number place ⌝ }
 {
-    x as usize
+    Answer {
+        number,
+        second: place,
+    }
 }
 
-// e, in two bytes, low byte first.
-fn edge_count(b: &[u8]) -> usize
+// The sizes, where there are bytes for them: n, k, and e in two bytes, low byte first.
+fn sizes_of(b: &[u8], m: usize) -> Sizes
     requires { ⌜ 4 ≤ length (now b) ⌝ }
-    ensures { λ r. ⌜ (r ≡ edges (now (b .entry))) × (r < 65536) ⌝ }
+    ensures { λ r. ⌜ Read (now (b .entry)) r × (r .m ≡ m) ⌝ }
 {
-    wide(b[2]) + 256 * wide(b[3])
+    let n = numbers::wide(b[0]);
+    let k = numbers::wide(b[1]);
+    let e = numbers::wide(b[2]) + 256 * numbers::wide(b[3]);
+    Sizes { n, k, e, m }
 }
 
-// Questions 1 to 5: the sizes and the length.
-fn ask_sizes(b: &[u8]) -> Answer
-    ensures { λ r. ⌜ r ≡ decide (question1 (now (b .entry)) ∷ question2 (now (b .entry)) ∷ question3 (now (b .entry)) ∷ question4 (now (b .entry)) ∷ question5 (now (b .entry)) ∷ []) 0 ⌝ }
+// Questions 2 to 5: the sizes and the length.
+fn ask_sizes(b: &[u8], s: Sizes) -> Answer
+    requires { ⌜ Read (now b) s ⌝ }
+    ensures { λ r. ⌜ r ≡ decide (question2 (now (b .entry)) ∷ question3 (now (b .entry)) ∷ question4 (now (b .entry)) ∷ question5 (now (b .entry)) ∷ []) 0 ⌝ }
 {
     let len = b.len();
-    if len < 4 {
-        return Answer {
-            number: 1,
-            second: len,
-        };
+    let n = s.n;
+    let k = s.k;
+    let e = s.e;
+    if !((1 <= n) & (n <= 64)) {
+        return refuse(2, 0);
     }
-    let n = wide(b[0]);
-    let k = wide(b[1]);
-    let e = edge_count(b);
-    if n < 1 {
-        return Answer {
-            number: 2,
-            second: 0,
-        };
-    }
-    if 64 < n {
-        return Answer {
-            number: 2,
-            second: 0,
-        };
-    }
-    if k < 1 {
-        return Answer {
-            number: 3,
-            second: 1,
-        };
-    }
-    if 16 < k {
-        return Answer {
-            number: 3,
-            second: 1,
-        };
-    }
-    if n < k {
-        return Answer {
-            number: 3,
-            second: 1,
-        };
+    if !((1 <= k) & (k <= 16) & (k <= n)) {
+        return refuse(3, 1);
     }
     if n * (n - 1) / 2 < e {
-        return Answer {
-            number: 4,
-            second: 2,
-        };
+        return refuse(4, 2);
     }
     if len != 4 + 2 * e + 2 * k {
-        return Answer {
-            number: 5,
-            second: len,
-        };
+        return refuse(5, len);
     }
     Answer {
         number: 0,
@@ -98,52 +70,71 @@ fn ask_sizes(b: &[u8]) -> Answer
 }
 
 // Edge j: low end < high end < n?
-fn proper_edge(b: &[u8], n: usize, e: usize, j: usize) -> bool
-    requires { ⌜ (4 + e + j < length (now b)) × (n ≡ vertices (now b)) × (e ≡ edges (now b)) ⌝ }
+fn proper_edge(b: &[u8], e: usize, j: usize) -> bool
+    requires { ⌜ (4 + e + j < length (now b)) × (e ≡ edges (now b)) ⌝ }
     ensures { λ r. ⌜ r ≡ properEdge (now (b .entry)) j ⌝ }
 {
-    let low = wide(b[4 + j]);
-    let high = wide(b[4 + e + j]);
-    if low < high {
-        return high < n;
+    let high = b[4 + e + j];
+    (b[4 + j] < high) & (high < b[0])
+}
+
+// Edge i + 1 comes after edge i, by low end, then high end?
+fn later_edge(b: &[u8], e: usize, i: usize) -> bool
+    requires { ⌜ (5 + e + i < length (now b)) × (e ≡ edges (now b)) ⌝ }
+    ensures { λ r. ⌜ r ≡ laterEdge (now (b .entry)) (suc i) i ⌝ }
+{
+    let low = b[4 + i];
+    let next = b[5 + i];
+    (low < next) | (low == next) & (b[4 + e + i] < b[5 + e + i])
+}
+
+// Every edge proper? The loop has one way out and no branch, so that the compiler takes many edges at a time.
+fn all_proper(b: &[u8], e: usize) -> bool
+    requires { ⌜ (4 + e + e ≤ length (now b)) × (e ≡ edges (now b)) ⌝ }
+    ensures { λ r. ⌜ r ≡ every (edges (now (b .entry))) (properEdge (now (b .entry))) ⌝ }
+{
+    let mut all = true;
+    for j in 0..e {
+        all = all & proper_edge(b, e, j);
     }
-    false
+    all
+}
+
+// Every edge after the one before it? Also with one way out.
+fn all_later(b: &[u8], e: usize) -> bool
+    requires { ⌜ (4 + e + e ≤ length (now b)) × (e ≡ edges (now b)) ⌝ }
+    ensures { λ r. ⌜ r ≡ every (edges (now (b .entry)) - 1) (λ i. laterEdge (now (b .entry)) (suc i) i) ⌝ }
+{
+    let mut all = true;
+    let mut i: usize = 0;
+    while i + 1 < e {
+        all = all & later_edge(b, e, i);
+        i += 1;
+    }
+    all
 }
 
 // The first edge that is not proper, or e.
-fn edge_fault(b: &[u8], n: usize, e: usize) -> usize
-    requires { ⌜ (4 + e + e ≤ length (now b)) × (n ≡ vertices (now b)) × (e ≡ edges (now b)) ⌝ }
-    ensures { λ r. ⌜ FirstFault e (properEdge (now (b .entry))) r ⌝ }
+fn edge_fault(b: &[u8], e: usize) -> usize
+    requires { ⌜ (4 + e + e ≤ length (now b)) × (e ≡ edges (now b)) ⌝ }
+    ensures { λ r. ⌜ FirstFault (edges (now (b .entry))) (properEdge (now (b .entry))) r ⌝ }
 {
     for j in 0..e {
-        if !proper_edge(b, n, e, j) {
+        if !proper_edge(b, e, j) {
             return j;
         }
     }
     e
 }
 
-// Edge j comes after edge i, by low end, then high end?
-fn later_edge(b: &[u8], e: usize, j: usize, i: usize) -> bool
-    requires { ⌜ (4 + e + j < length (now b)) × (4 + e + i < length (now b)) × (e ≡ edges (now b)) ⌝ }
-    ensures { λ r. ⌜ r ≡ laterEdge (now (b .entry)) j i ⌝ }
-{
-    let low = wide(b[4 + i]);
-    let next = wide(b[4 + j]);
-    if low == next {
-        return wide(b[4 + e + i]) < wide(b[4 + e + j]);
-    }
-    low < next
-}
-
 // The first i such that edge i + 1 does not come after edge i, or e - 1.
 fn order_fault(b: &[u8], e: usize) -> usize
     requires { ⌜ (4 + e + e ≤ length (now b)) × (e ≡ edges (now b)) ⌝ }
-    ensures { λ r. ⌜ FirstFault (e - 1) (λ i. laterEdge (now (b .entry)) (suc i) i) r ⌝ }
+    ensures { λ r. ⌜ FirstFault (edges (now (b .entry)) - 1) (λ i. laterEdge (now (b .entry)) (suc i) i) r ⌝ }
 {
     let mut i: usize = 0;
     while i + 1 < e {
-        if !later_edge(b, e, i + 1, i) {
+        if !later_edge(b, e, i) {
             return i;
         }
         i += 1;
@@ -151,90 +142,61 @@ fn order_fault(b: &[u8], e: usize) -> usize
     i
 }
 
-// The first c below a whose byte, from an offset on, is that of a, or a.
-fn like_earlier(b: &[u8], offset: usize, a: usize) -> usize
-    requires { ⌜ offset + a < length (now b) ⌝ }
-    ensures { λ r. ⌜ FirstFault a (λ c. not (eqb (getD (now (b .entry)) (offset + c) 0) (getD (now (b .entry)) (offset + a) 0))) r ⌝ }
+// Questions 6 and 7, where some edge fails one of them: the refusal, whatever is asked later.
+fn refuse_edge(b: &[u8], e: usize) -> Answer
+    requires { ⌜ (4 + e + e ≤ length (now b)) × (e ≡ edges (now b)) × (every (edges (now b)) (properEdge (now b)) && every (edges (now b) - 1) (λ i. laterEdge (now b) (suc i) i) ≡ false) ⌝ }
+    ensures { λ r. ⌜ ((later : List Question) → r ≡ decide (question6 (now (b .entry)) ∷ question7 (now (b .entry)) ∷ later) 0) ⌝ }
 {
-    let x = b[offset + a];
-    for c in 0..a {
-        if b[offset + c] == x {
-            return c;
-        }
+    let j = edge_fault(b, e);
+    if j < e {
+        return refuse(6, 4 + j);
     }
-    a
+    let i = order_fault(b, e);
+    refuse(7, 5 + i)
 }
 
-// Byte a, from an offset on: below n and unlike the earlier ones?
-fn new_vertex(b: &[u8], offset: usize, n: usize, a: usize) -> bool
-    requires { ⌜ (offset + a < length (now b)) × (n ≡ vertices (now b)) ⌝ }
-    ensures { λ r. ⌜ r ≡ newVertex (now (b .entry)) (λ c. getD (now (b .entry)) (offset + c) 0) a ⌝ }
+// The first of k bytes, from an offset on, that is no vertex or like an earlier one, or k.
+fn vertex_fault(b: &[u8], offset: usize, k: usize) -> usize
+    requires { ⌜ (offset + k ≤ length (now b)) × (0 < length (now b)) × (k ≡ agents (now b)) × (vertices (now b) ≤ 64) ⌝ }
+    ensures { λ r. ⌜ FirstFault (agents (now (b .entry))) (newVertex (now (b .entry)) (λ c. getD (now (b .entry)) (offset + c) 0)) r ⌝ }
 {
-    if n <= wide(b[offset + a]) {
-        return false;
-    }
-    like_earlier(b, offset, a) == a
-}
-
-// The first of k bytes, from an offset on, that is no new vertex, or k.
-fn vertex_fault(b: &[u8], offset: usize, n: usize, k: usize) -> usize
-    requires { ⌜ (offset + k ≤ length (now b)) × (n ≡ vertices (now b)) ⌝ }
-    ensures { λ r. ⌜ FirstFault k (newVertex (now (b .entry)) (λ c. getD (now (b .entry)) (offset + c) 0)) r ⌝ }
-{
+    let n = numbers::wide(b[0]);
+    let mut seen = [false; 64];
     for a in 0..k {
-        if !new_vertex(b, offset, n, a) {
+        let v = numbers::wide(b[offset + a]);
+        if n <= v {
             return a;
         }
+        if seen[v] {
+            return a;
+        }
+        seen[v] = true;
     }
     k
 }
 
-// Questions 1 to 10.
-fn ask_instance(b: &[u8], m: usize) -> Answer
-    ensures { λ r. ⌜ r ≡ instanceAnswer (now (b .entry)) m ⌝ }
+// Questions 6 to 10, where the length is right.
+fn ask_items(b: &[u8], s: Sizes) -> Answer
+    requires { ⌜ Read (now b) s × (length (now b) ≡ 4 + 2 * s .e + 2 * s .k) × (s .n ≤ 64) ⌝ }
+    ensures { λ r. ⌜ r ≡ decide (question6 (now (b .entry)) ∷ question7 (now (b .entry)) ∷ question8 (now (b .entry)) ∷ question9 (now (b .entry)) ∷ question10 (s .m) ∷ []) 0 ⌝ }
 {
-    let sizes = ask_sizes(b);
-    if sizes.number != 0 {
-        return sizes;
-    }
-    let n = wide(b[0]);
-    let k = wide(b[1]);
-    let e = edge_count(b);
-    let j = edge_fault(b, n, e);
-    if j < e {
-        return Answer {
-            number: 6,
-            second: 4 + j,
-        };
-    }
-    let i = order_fault(b, e);
-    if i + 1 < e {
-        return Answer {
-            number: 7,
-            second: 4 + i + 1,
-        };
+    let k = s.k;
+    let e = s.e;
+    if !(all_proper(b, e) & all_later(b, e)) {
+        return refuse_edge(b, e);
     }
     let starts = 4 + 2 * e;
-    let s = vertex_fault(b, starts, n, k);
-    if s < k {
-        return Answer {
-            number: 8,
-            second: starts + s,
-        };
+    let a = vertex_fault(b, starts, k);
+    if a < k {
+        return refuse(8, starts + a);
     }
     let goals = starts + k;
-    let g = vertex_fault(b, goals, n, k);
-    if g < k {
-        return Answer {
-            number: 9,
-            second: goals + g,
-        };
+    let c = vertex_fault(b, goals, k);
+    if c < k {
+        return refuse(9, goals + c);
     }
-    if 32 < m {
-        return Answer {
-            number: 10,
-            second: 0,
-        };
+    if 32 < s.m {
+        return refuse(10, 0);
     }
     Answer {
         number: 0,
@@ -254,36 +216,51 @@ fn for_agents(b: &[u8], offset: usize, k: usize) -> [u8; 16]
     row
 }
 
+// A refusal, with zeros beside it.
+fn refused(answer: Answer) -> Inspection
+    ensures { λ r. ⌜ (r .answer ≡ answer) × (r .checked ≡ unchecked) ⌝ }
+{
+    let none = [0u8; 16];
+    Inspection {
+        answer,
+        checked: Checked {
+            sizes: Sizes {
+                n: 0,
+                k: 0,
+                e: 0,
+                m: 0,
+            },
+            starts: none,
+            goals: none,
+        },
+    }
+}
+
 // The check, for every byte string and every number.
 pub fn check_instance(b: &[u8], m: usize) -> Inspection
     ensures { λ r. ⌜ (r .answer ≡ instanceAnswer (now (b .entry)) m) × (r .checked ≡ instanceChecked (now (b .entry)) m) ⌝ }
 {
-    let answer = ask_instance(b, m);
-    if answer.number != 0 {
-        let none = [0u8; 16];
-        return Inspection {
-            answer,
-            checked: Checked {
-                sizes: Sizes {
-                    n: 0,
-                    k: 0,
-                    e: 0,
-                    m: 0,
-                },
-                starts: none,
-                goals: none,
-            },
-        };
+    let len = b.len();
+    if len < 4 {
+        return refused(refuse(1, len));
     }
-    let n = wide(b[0]);
-    let k = wide(b[1]);
-    let e = edge_count(b);
-    let starts = for_agents(b, 4 + 2 * e, k);
-    let goals = for_agents(b, 4 + 2 * e + k, k);
+    let sizes = sizes_of(b, m);
+    let first = ask_sizes(b, sizes);
+    if first.number != 0 {
+        return refused(first);
+    }
+    let answer = ask_items(b, sizes);
+    if answer.number != 0 {
+        return refused(answer);
+    }
+    let k = sizes.k;
+    let at = 4 + 2 * sizes.e;
+    let starts = for_agents(b, at, k);
+    let goals = for_agents(b, at + k, k);
     Inspection {
         answer,
         checked: Checked {
-            sizes: Sizes { n, k, e, m },
+            sizes,
             starts,
             goals,
         },

@@ -1,77 +1,102 @@
--- `instance_check::check_instance` meets its contract. It follows from the contracts of the functions called and the laws cited. Assumes nothing.
+-- `instance_check::check_instance` meets its contract: the first question answered no decides. Assumes nothing.
+use mathlib.Core.Path.{_≡_, _∙_, ap}
+use mathlib.Core.List.{[], _∷_}
+use Prim.Native.Nat.{ℕ, _+_, _*_, _≤_}
 use native.Mathlib.Omega.{arith}
 use borrow.Author.Needs.{needs}
-use Rattle.instance.specs.Instance.{instance, checked, forAgents}
-use Rattle.instance_check.proofs.Laws.{left-unchecked, is-checked, accepted-long, accepted-agents}
+use lib.ListN.{length}
+use Rattle.answers.specs.Answers.{refuse, decide}
+use Rattle.instance.specs.Instance.{vertices, agents, edges}
+use Rattle.instance.specs.Questions.{question6, question7, question8, question9, question10, instanceAnswer}
+use Rattle.instance_check.proofs.Laws.{short, sizes-refused, sizes-passed, sizes-known, is-refused, made}
 use Rattle.instance_check.proofs.check_instance.Statement.{statement}
 use Rattle.instance_check.proofs.check_instance.Tie as tie
 
-ask-instance-requires : tie.Need-ask-instance-requires
-ask-instance-requires c κs = search needs
+known : (c : tie.Else2) → (vertices (c .before .before .before .before .before .before .args .b .now) ≤ 64) × ((agents (c .before .before .before .before .before .before .args .b .now) ≤ 16) × (length (c .before .before .before .before .before .before .args .b .now) ≡ 4 + 2 * edges (c .before .before .before .before .before .before .args .b .now) + 2 * agents (c .before .before .before .before .before .before .args .b .now)))
+known c = sizes-known (c .before .before .before .before .before .before .args .b .now) (c .before .before .before .before .before .before .args .m) (omega arith) (c .before .before .ask-sizes .result) (c .before .before .ask-sizes .ensures) (c .if2 .left)
+
+asked : (c : tie.After-ask-items) → c .ask-items .result ≡ instanceAnswer (c .before .before .before .before .before .before .before .args .b .now) (c .before .before .before .before .before .before .before .args .m)
+asked c =
+    let b = c .before .before .before .before .before .before .before .args .b .now in
+    c .ask-items .ensures
+    ∙ ap (λ (m : ℕ). decide (question6 b ∷ question7 b ∷ question8 b ∷ question9 b ∷ question10 m ∷ []) 0) (c .before .before .before .before .sizes-of .ensures .1)
+    ∙ sizes-passed b (c .before .before .before .before .before .before .before .args .m) (omega arith) (c .before .before .before .ask-sizes .result) (c .before .before .before .ask-sizes .ensures) (c .before .if2 .left)
+
+refuse-requires : tie.Need-refuse-requires
+refuse-requires c κs = search needs
+
+refused-requires : tie.Need-refused-requires
+refused-requires c κs = search needs
 
 returns : tie.Need-returns
-returns c = (c .before .before .ask-instance .ensures, left-unchecked (c .before .before .before .before .args .b .now) (c .before .before .before .before .args .m) (c .before .before .ask-instance .result) (c .before .before .ask-instance .ensures) (c .if1 .taken))
+returns c =
+    let b = c .before .before .before .before .args .b .now in
+    let m = c .before .before .before .before .args .m in
+    is-refused b m (refuse 1 (length b)) (short b m (c .before .before .if1 .taken)) (λ e. omega arith) (c .refused .result)
+    (c .refused .ensures .0 ∙ c .before .refuse .ensures, c .refused .ensures .1)
 
-shared-slice-read-wide : tie.Need-shared-slice-read-wide
-shared-slice-read-wide c = let l = accepted-long (c .before .before .before .before .before .args .b .now) (c .before .before .before .before .before .args .m) (c .before .before .before .ask-instance .result) (c .before .before .before .ask-instance .ensures) (c .before .if1 .left) in let k = accepted-agents (c .before .before .before .before .before .args .b .now) (c .before .before .before .before .before .args .m) (c .before .before .before .ask-instance .result) (c .before .before .before .ask-instance .ensures) (c .before .if1 .left) in omega arith
+sizes-of-requires : tie.Need-sizes-of-requires
+sizes-of-requires c κs = search needs
 
-wide-requires : tie.Need-wide-requires
-wide-requires c κs = search needs
+ask-sizes-requires : tie.Need-ask-sizes-requires
+ask-sizes-requires c κs = search needs
 
-shared-slice-read-wide-2 : tie.Need-shared-slice-read-wide-2
-shared-slice-read-wide-2 c = let l = accepted-long (c .before .before .before .before .before .before .before .args .b .now) (c .before .before .before .before .before .before .before .args .m) (c .before .before .before .before .before .ask-instance .result) (c .before .before .before .before .before .ask-instance .ensures) (c .before .before .before .if1 .left) in let k = accepted-agents (c .before .before .before .before .before .before .before .args .b .now) (c .before .before .before .before .before .before .before .args .m) (c .before .before .before .before .before .ask-instance .result) (c .before .before .before .before .before .ask-instance .ensures) (c .before .before .before .if1 .left) in omega arith
-
-wide-requires-2 : tie.Need-wide-requires-2
-wide-requires-2 c κs = search needs
-
-edge-count-requires : tie.Need-edge-count-requires
-edge-count-requires c κs = let l = accepted-long (c .before .before .before .before .before .before .before .before .args .b .now) (c .before .before .before .before .before .before .before .before .args .m) (c .before .before .before .before .before .before .ask-instance .result) (c .before .before .before .before .before .before .ask-instance .ensures) (c .before .before .before .before .if1 .left) in let k = accepted-agents (c .before .before .before .before .before .before .before .before .args .b .now) (c .before .before .before .before .before .before .before .before .args .m) (c .before .before .before .before .before .before .ask-instance .result) (c .before .before .before .before .before .before .ask-instance .ensures) (c .before .before .before .before .if1 .left) in omega arith
-
-mul-for-agents : tie.Need-mul-for-agents
-mul-for-agents c = let l = accepted-long (c .before .before .before .before .before .before .before .before .before .args .b .now) (c .before .before .before .before .before .before .before .before .before .args .m) (c .before .before .before .before .before .before .before .ask-instance .result) (c .before .before .before .before .before .before .before .ask-instance .ensures) (c .before .before .before .before .before .if1 .left) in let k = accepted-agents (c .before .before .before .before .before .before .before .before .before .args .b .now) (c .before .before .before .before .before .before .before .before .before .args .m) (c .before .before .before .before .before .before .before .ask-instance .result) (c .before .before .before .before .before .before .before .ask-instance .ensures) (c .before .before .before .before .before .if1 .left) in omega arith
-
-add-for-agents : tie.Need-add-for-agents
-add-for-agents c = let l = accepted-long (c .before .before .before .before .before .before .before .before .before .args .b .now) (c .before .before .before .before .before .before .before .before .before .args .m) (c .before .before .before .before .before .before .before .ask-instance .result) (c .before .before .before .before .before .before .before .ask-instance .ensures) (c .before .before .before .before .before .if1 .left) in let k = accepted-agents (c .before .before .before .before .before .before .before .before .before .args .b .now) (c .before .before .before .before .before .before .before .before .before .args .m) (c .before .before .before .before .before .before .before .ask-instance .result) (c .before .before .before .before .before .before .before .ask-instance .ensures) (c .before .before .before .before .before .if1 .left) in omega arith
-
-for-agents-requires : tie.Need-for-agents-requires
-for-agents-requires c κs = let l = accepted-long (c .before .before .before .before .before .before .before .before .before .args .b .now) (c .before .before .before .before .before .before .before .before .before .args .m) (c .before .before .before .before .before .before .before .ask-instance .result) (c .before .before .before .before .before .before .before .ask-instance .ensures) (c .before .before .before .before .before .if1 .left) in let k = accepted-agents (c .before .before .before .before .before .before .before .before .before .args .b .now) (c .before .before .before .before .before .before .before .before .before .args .m) (c .before .before .before .before .before .before .before .ask-instance .result) (c .before .before .before .before .before .before .before .ask-instance .ensures) (c .before .before .before .before .before .if1 .left) in omega arith
-
-mul-for-agents-2 : tie.Need-mul-for-agents-2
-mul-for-agents-2 c = let l = accepted-long (c .before .before .before .before .before .before .before .before .before .before .args .b .now) (c .before .before .before .before .before .before .before .before .before .before .args .m) (c .before .before .before .before .before .before .before .before .ask-instance .result) (c .before .before .before .before .before .before .before .before .ask-instance .ensures) (c .before .before .before .before .before .before .if1 .left) in let k = accepted-agents (c .before .before .before .before .before .before .before .before .before .before .args .b .now) (c .before .before .before .before .before .before .before .before .before .before .args .m) (c .before .before .before .before .before .before .before .before .ask-instance .result) (c .before .before .before .before .before .before .before .before .ask-instance .ensures) (c .before .before .before .before .before .before .if1 .left) in omega arith
-
-add-for-agents-2 : tie.Need-add-for-agents-2
-add-for-agents-2 c = let l = accepted-long (c .before .before .before .before .before .before .before .before .before .before .args .b .now) (c .before .before .before .before .before .before .before .before .before .before .args .m) (c .before .before .before .before .before .before .before .before .ask-instance .result) (c .before .before .before .before .before .before .before .before .ask-instance .ensures) (c .before .before .before .before .before .before .if1 .left) in let k = accepted-agents (c .before .before .before .before .before .before .before .before .before .before .args .b .now) (c .before .before .before .before .before .before .before .before .before .before .args .m) (c .before .before .before .before .before .before .before .before .ask-instance .result) (c .before .before .before .before .before .before .before .before .ask-instance .ensures) (c .before .before .before .before .before .before .if1 .left) in omega arith
-
-add-for-agents-3 : tie.Need-add-for-agents-3
-add-for-agents-3 c = let l = accepted-long (c .before .before .before .before .before .before .before .before .before .before .args .b .now) (c .before .before .before .before .before .before .before .before .before .before .args .m) (c .before .before .before .before .before .before .before .before .ask-instance .result) (c .before .before .before .before .before .before .before .before .ask-instance .ensures) (c .before .before .before .before .before .before .if1 .left) in let k = accepted-agents (c .before .before .before .before .before .before .before .before .before .before .args .b .now) (c .before .before .before .before .before .before .before .before .before .before .args .m) (c .before .before .before .before .before .before .before .before .ask-instance .result) (c .before .before .before .before .before .before .before .before .ask-instance .ensures) (c .before .before .before .before .before .before .if1 .left) in omega arith
-
-for-agents-requires-2 : tie.Need-for-agents-requires-2
-for-agents-requires-2 c κs = let l = accepted-long (c .before .before .before .before .before .before .before .before .before .before .args .b .now) (c .before .before .before .before .before .before .before .before .before .before .args .m) (c .before .before .before .before .before .before .before .before .ask-instance .result) (c .before .before .before .before .before .before .before .before .ask-instance .ensures) (c .before .before .before .before .before .before .if1 .left) in let k = accepted-agents (c .before .before .before .before .before .before .before .before .before .before .args .b .now) (c .before .before .before .before .before .before .before .before .before .before .args .m) (c .before .before .before .before .before .before .before .before .ask-instance .result) (c .before .before .before .before .before .before .before .before .ask-instance .ensures) (c .before .before .before .before .before .before .if1 .left) in omega arith
+refused-requires-2 : tie.Need-refused-requires-2
+refused-requires-2 c κs = search needs
 
 returns-2 : tie.Need-returns-2
-unfolding instance checked forAgents
-returns-2 c = (
-  c .before .before .before .before .before .before .before .before .before .ask-instance .ensures,
-  rw (c .before .for-agents .ensures, c .for-agents2 .ensures, c .before .before .before .before .before .wide .ensures .0, c .before .before .before .wide2 .ensures .0, c .before .before .edge-count .ensures .0)
-      (is-checked (c .before .before .before .before .before .before .before .before .before .before .before .args .b .now) (c .before .before .before .before .before .before .before .before .before .before .before .args .m) (c .before .before .before .before .before .before .before .before .before .ask-instance .result) (c .before .before .before .before .before .before .before .before .before .ask-instance .ensures) (c .before .before .before .before .before .before .before .if1 .left)),
+returns-2 c =
+    is-refused (c .before .before .before .before .before .before .before .args .b .now) (c .before .before .before .before .before .before .before .args .m) (c .before .before .before .ask-sizes .result)
+    (sizes-refused (c .before .before .before .before .before .before .before .args .b .now) (c .before .before .before .before .before .before .before .args .m) (omega arith) (c .before .before .before .ask-sizes .result) (c .before .before .before .ask-sizes .ensures) (c .before .if2 .taken))
+    (c .before .if2 .taken) (c .refused2 .result) (c .refused2 .ensures)
+
+ask-items-requires : tie.Need-ask-items-requires
+ask-items-requires c κs = let h = known c in (c .before .before .before .sizes-of .ensures .0, omega arith, omega arith)
+
+refused-requires-3 : tie.Need-refused-requires-3
+refused-requires-3 c κs = search needs
+
+returns-3 : tie.Need-returns-3
+returns-3 c = is-refused (c .before .before .before .before .before .before .before .before .before .before .args .b .now) (c .before .before .before .before .before .before .before .before .before .before .args .m) (c .before .before .before .ask-items .result) (asked (c .before .before .before)) (c .before .if3 .taken) (c .refused3 .result) (c .refused3 .ensures)
+
+mul-at : tie.Need-mul-at
+mul-at c = search needs
+
+add-at : tie.Need-add-at
+add-at c = search needs
+
+for-agents-requires : tie.Need-for-agents-requires
+for-agents-requires c κs = let h = known (c .before .before .before .before) in (omega arith, omega arith)
+
+add-for-agents : tie.Need-add-for-agents
+add-for-agents c = search needs
+
+for-agents-requires-2 : tie.Need-for-agents-requires-2
+for-agents-requires-2 c κs = let h = known (c .before .before .before .before .before) in (omega arith, omega arith)
+
+returns-4 : tie.Need-returns-4
+returns-4 c = (
+  asked (c .before .before .before .before .before),
+  made (c .before .before .before .before .before .before .before .before .before .before .before .before .args .b .now) (c .before .before .before .before .before .before .before .before .before .before .before .before .args .m) (c .before .before .before .before .before .ask-items .result) (asked (c .before .before .before .before .before)) (c .before .before .before .before .before .before .before .before .before .sizes-of .result) (c .before .before .before .before .before .before .before .before .before .sizes-of .ensures .0) (c .before .before .before .before .before .before .before .before .before .sizes-of .ensures .1) (c .before .for-agents .result) (c .for-agents2 .result) (c .before .for-agents .ensures) (c .for-agents2 .ensures) (c .before .before .before .if3 .left),
 )
 
 pub check-instance-spec : {M : Type 1} → statement M
 check-instance-spec =
     tie.close
     (tie.spec
-    ask-instance-requires
+    refuse-requires
+    refused-requires
     returns
-    shared-slice-read-wide
-    wide-requires
-    shared-slice-read-wide-2
-    wide-requires-2
-    edge-count-requires
-    mul-for-agents
-    add-for-agents
+    sizes-of-requires
+    ask-sizes-requires
+    refused-requires-2
+    returns-2
+    ask-items-requires
+    refused-requires-3
+    returns-3
+    mul-at
+    add-at
     for-agents-requires
-    mul-for-agents-2
-    add-for-agents-2
-    add-for-agents-3
+    add-for-agents
     for-agents-requires-2
-    returns-2)
+    returns-4)

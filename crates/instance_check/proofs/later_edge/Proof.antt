@@ -1,76 +1,61 @@
--- `instance_check::later_edge` meets its contract. The invariant: every item so far passes the test. Assumes nothing.
+-- `instance_check::later_edge` meets its contract: its comparisons are those of the definition. Assumes nothing.
+use mathlib.Core.Path.{_≡_}
+use Prim.Native.Nat.{suc, _+_}
 use native.Mathlib.Omega.{arith}
-use borrow.Author.Tests.{eq-eqb, ne-eqb, le-ltb}
 use borrow.Author.Needs.{needs}
-use Rattle.instance_check.proofs.Laws.{or-false}
+use Rattle.instance.specs.Instance.{edges}
 use Rattle.instance_check.proofs.later_edge.Statement.{statement}
 use Rattle.instance_check.proofs.later_edge.Tie as tie
 
-add-wide : tie.Need-add-wide
-add-wide c = search needs
+add-low : tie.Need-add-low
+add-low c = search needs
 
-shared-slice-read-wide : tie.Need-shared-slice-read-wide
-shared-slice-read-wide c = search needs
+shared-slice-read-low : tie.Need-shared-slice-read-low
+shared-slice-read-low c = search needs
 
-wide-requires : tie.Need-wide-requires
-wide-requires c κs = search needs
+add-next : tie.Need-add-next
+add-next c = search needs
 
-add-wide-2 : tie.Need-add-wide-2
-add-wide-2 c = search needs
+shared-slice-read-next : tie.Need-shared-slice-read-next
+shared-slice-read-next c = search needs
 
-shared-slice-read-wide-2 : tie.Need-shared-slice-read-wide-2
-shared-slice-read-wide-2 c = search needs
+add-result : tie.Need-add-result
+add-result c = search needs
 
-wide-requires-2 : tie.Need-wide-requires-2
-wide-requires-2 c κs = search needs
+add-result-2 : tie.Need-add-result-2
+add-result-2 c = search needs
 
-add-wide-3 : tie.Need-add-wide-3
-add-wide-3 c = search needs
+shared-slice-read-result : tie.Need-shared-slice-read-result
+shared-slice-read-result c = search needs
 
-add-wide-4 : tie.Need-add-wide-4
-add-wide-4 c = search needs
+add-result-3 : tie.Need-add-result-3
+add-result-3 c = search needs
 
-shared-slice-read-wide-3 : tie.Need-shared-slice-read-wide-3
-shared-slice-read-wide-3 c = search needs
+add-result-4 : tie.Need-add-result-4
+add-result-4 c = search needs
 
-wide-requires-3 : tie.Need-wide-requires-3
-wide-requires-3 c κs = search needs
-
-add-wide-5 : tie.Need-add-wide-5
-add-wide-5 c = search needs
-
-add-wide-6 : tie.Need-add-wide-6
-add-wide-6 c = search needs
-
-shared-slice-read-wide-4 : tie.Need-shared-slice-read-wide-4
-shared-slice-read-wide-4 c = search needs
-
-wide-requires-4 : tie.Need-wide-requires-4
-wide-requires-4 c κs = search needs
+shared-slice-read-result-2 : tie.Need-shared-slice-read-result-2
+shared-slice-read-result-2 c = search needs
 
 returns : tie.Need-returns
-returns c = rw (← (c .before .before .before .before .before .before .before .before .before .before .pre .2), ← (c .before .before .before .before .before .before .before .wide .ensures .0), ← (c .before .before .before .before .before .wide2 .ensures .0), ← (c .before .before .wide3 .ensures .0), ← (c .wide4 .ensures .0), eq-eqb _ _ (c .before .before .before .before .if1 .taken), le-ltb (c .before .before .before .before .before .before .before .wide .result) (c .before .before .before .before .before .wide2 .result) (omega arith))
-
-returns-2 : tie.Need-returns-2
-returns-2 c = rw (← (c .before .before .before .wide .ensures .0), ← (c .before .wide2 .ensures .0), ne-eqb _ _ (c .if1 .left), or-false)
+returns c =
+    let i = c .before .before .before .before .args .i in
+    let low : 4 + suc i ≡ 5 + i = omega arith in
+    let high : 4 + edges (c .before .before .before .before .args .b .now) + suc i ≡ 5 + c .before .before .before .before .args .e + i = omega arith in
+    rw (low, high, ← (c .before .before .before .before .pre .1))
 
 pub later-edge-spec : {M : Type 1} → statement M
 later-edge-spec =
     tie.close
     (tie.spec
-    add-wide
-    shared-slice-read-wide
-    wide-requires
-    add-wide-2
-    shared-slice-read-wide-2
-    wide-requires-2
-    add-wide-3
-    add-wide-4
-    shared-slice-read-wide-3
-    wide-requires-3
-    add-wide-5
-    add-wide-6
-    shared-slice-read-wide-4
-    wide-requires-4
-    returns
-    returns-2)
+    add-low
+    shared-slice-read-low
+    add-next
+    shared-slice-read-next
+    add-result
+    add-result-2
+    shared-slice-read-result
+    add-result-3
+    add-result-4
+    shared-slice-read-result-2
+    returns)

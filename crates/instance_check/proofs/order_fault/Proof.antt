@@ -1,7 +1,6 @@
 -- `instance_check::order_fault` meets its contract. The invariant: every item so far passes the test. Assumes nothing.
 use Prim.Native.Nat.{ℕ, suc, _-_, _≤_, _<_}
 use native.Mathlib.Omega.{arith}
-use native.Mathlib.Numerals.{add-one}
 use borrow.Author.Tests.{not-true, not-false}
 use borrow.Author.Count.{below-more, below-none}
 use borrow.Author.Needs.{needs}
@@ -23,14 +22,11 @@ loop-holds c = (omega arith, below-none _)
 add-loop : tie.Need-add-loop Inv-loop μ-loop
 add-loop c = search needs
 
-add-later-edge : tie.Need-add-later-edge Inv-loop μ-loop
-add-later-edge c = search needs
-
 later-edge-requires : tie.Need-later-edge-requires Inv-loop μ-loop
 later-edge-requires c κs = search needs
 
 returns : tie.Need-returns Inv-loop μ-loop
-returns c = fault-at (omega arith) (c .before .before .before .loop .inv .1) (rw add-one at (fails (c .before .later-edge .ensures) (not-true _ (c .if1 .taken))))
+returns c = fault-at (omega arith) (c .before .before .before .loop .inv .1) (fails (c .before .later-edge .ensures) (not-true _ (c .if1 .taken)))
 
 add-i : tie.Need-add-i Inv-loop μ-loop
 add-i c = search needs
@@ -39,7 +35,7 @@ loop-less : tie.Need-loop-less Inv-loop μ-loop
 loop-less c = search needs
 
 loop-again : tie.Need-loop-again Inv-loop μ-loop
-loop-again c = (omega arith, below-more _ _ (c .before .before .before .loop .inv .1) (rw add-one at (holds (c .before .later-edge .ensures) (not-false _ (c .if1 .left)))))
+loop-again c = (omega arith, below-more _ _ (c .before .before .before .loop .inv .1) (holds (c .before .later-edge .ensures) (not-false _ (c .if1 .left))))
 
 returns-2 : tie.Need-returns-2 Inv-loop μ-loop
 returns-2 c = record { within = omega arith; before = c .before .loop .inv .1; here = λ l t. omega arith }
@@ -52,7 +48,6 @@ order-fault-spec =
     μ-loop
     loop-holds
     add-loop
-    add-later-edge
     later-edge-requires
     returns
     add-i
