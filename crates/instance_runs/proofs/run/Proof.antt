@@ -1,4 +1,4 @@
--- `instance_runs::run` meets its contract. The invariant says what the turns so far have done. Assumes nothing.
+-- `instance_runs::run` is safe and ends: `at` stays inside the cases; the measure is how many bytes are left of them. Assumes nothing.
 use Prim.Native.Nat.{_≤_, _-_}
 use borrow.Author.Needs.{needs}
 use lib.ListN.{length}
