@@ -7,8 +7,9 @@ use native.Mathlib.Omega.{arith}
 use lib.IntN.{ℤ}
 use lib.ListN.{length, getD, take, drop, length-append}
 use lib.Dec.{leb, ltb}
-use Rattle.lists.specs.Slice.{filled}
+use Rattle.lists.specs.Slice.{filled, Wrote}
 use Rattle.lists.proofs.Tests.{leb-iff, ltb-iff}
+use Rattle.lists.proofs.Loops.{getD-mem}
 use Rattle.lists.proofs.Slices.{take-filled}
 use Rattle.answers.specs.declared.Answer.{Answer}
 use Rattle.answers.specs.Answers.{refuse, accept, decide}
@@ -18,13 +19,13 @@ use Rattle.instance.specs.Instance.{Instance, instance}
 use Rattle.formula.specs.Formula.{Clause, clauses, line}
 use Rattle.formula.specs.Counts.{clauseCount}
 use Rattle.formula.proofs.Counts.{clause-count}
+use Rattle.formula.proofs.Limits.{clause-most}
 use Rattle.calls.specs.Questions.{question12}
 use Rattle.instance.specs.Questions.{instanceAnswer, instanceChecked}
 use Rattle.calls.specs.Calls.{clauseLine, clauseAnswer, clauseSlice}
 use Rattle.instance.specs.Accepted.{Accepted, instanceOf}
 use Rattle.instance.proofs.Instance.{first-refused, first-passed}
-use Rattle.instance.proofs.Accepted.{accepted, horizon-of, sizes-same}
-use Rattle.one_clause.specs.Spot.{Puts}
+use Rattle.instance.proofs.Accepted.{accepted, horizon-of, sizes-same, graph, limits-known}
 
 module _ (b : List ℕ) (m : ℕ) (a : Answer) (ea : a ≡ instanceAnswer b m) (number : ℕ) (f : List ℤ) where
   by-answer : (r : Answer) → r ≡ clauseAnswer b m number (length f) → r .number ≢ 0
@@ -65,9 +66,9 @@ module _ (b : List ℕ) (m : ℕ) (a : Answer) (ea : a ≡ instanceAnswer b m) (
         (λ z. let q : _≡_ {A = ℕ} 11 0 = z in omega arith)
 
     -- the clause, put into a buffer that held k and now holds g
-    module _ (l : number < clauseCount (c .sizes)) (r : ℕ) (k g : List ℤ) (p : Puts (getD (clauses (instanceOf b c)) number []) r k g) where
+    module _ (l : number < clauseCount (c .sizes)) (r : ℕ) (k g : List ℤ) (p : Wrote (line (getD (clauses (instanceOf b c)) number [])) k g r) where
       count-same : r ≡ length (clauseLine b m number)
-      count-same = p .count ∙ ap (λ (J : Instance). length (line (getD (clauses J) number []))) same-instance
+      count-same = p .0 ∙ ap (λ (J : Instance). length (line (getD (clauses J) number []))) same-instance
 
       asked : (x : Answer) → decide (question12 (length (clauseLine b m number)) (length f) ∷ []) (length (clauseLine b m number)) ≡ x → x ≡ clauseAnswer b m number (length f)
       unfolding clauseAnswer
@@ -96,8 +97,8 @@ module _ (b : List ℕ) (m : ℕ) (a : Answer) (ea : a ≡ instanceAnswer b m) (
           (leb-iff (length (clauseLine b m number)) (length f) .1 (omega arith))
           ∙ ap accept (sym count-same)) in
           let taken : take r g ≡ clauseLine b m number =
-          ap (take r) (p .slice)
-          ∙ ap (λ (x : ℕ). take x (filled (line (getD (clauses (instanceOf b c)) number [])) k)) (p .count)
+          ap (take r) (p .1)
+          ∙ ap (λ (x : ℕ). take x (filled (line (getD (clauses (instanceOf b c)) number [])) k)) (p .0)
           ∙ take-filled (line (getD (clauses (instanceOf b c)) number [])) k
           ∙ ap (λ (J : Instance). line (getD (clauses J) number [])) same-instance in (
             answer,
@@ -105,8 +106,15 @@ module _ (b : List ℕ) (m : ℕ) (a : Answer) (ea : a ≡ instanceAnswer b m) (
                 ∙ sym (lent-accepted (clauseAnswer b m number (length f)) (clauseLine b m number) f (sym (ap (λ (x : Answer). x .number) answer))),
           )
 
--- the clause is part of what the slice then holds
-pub fits : {clause : Clause} {r : ℕ} {f g : List ℤ} → Puts clause r f g → r ≤ length g
+-- what was written is part of what the slice then holds
+pub fits : (out f g : List ℤ) {r : ℕ} → Wrote out f g r → r ≤ length g
 unfolding filled
-fits {clause} {r} {f} {g} p =
-    omega (arith, p .count, ap length (p .slice), length-append (line clause) (drop (length (line clause)) f))
+fits out f g p = omega (arith, p .0, ap length (p .1), length-append out (drop (length out) f))
+
+-- a clause with its 0 has at most 66 words
+pub clause-short : (b : List ℕ) (c : Checked) → Accepted b c → (number : ℕ) → number < clauseCount (c .sizes)
+    → length (line (getD (clauses (instanceOf b c)) number [])) ≤ 66
+clause-short b c w number l =
+    let I : Instance = instanceOf b c in
+    clause-most I (graph b c w) (rw (← (sizes-same b c w)) (limits-known b c w .n-most)) _
+    (getD-mem [] (clauses I) number (rw (clause-count I, ← (sizes-same b c w)) l))

@@ -3,7 +3,7 @@ use native.Mathlib.Omega.{arith}
 use borrow.Author.Needs.{needs}
 use lib.IntN.{pos}
 use lib.ListN.{replicate}
-use Rattle.one_clause.proofs.Out.{fits, instance-refused, checked-accepted, no-such-clause, too-short, done}
+use Rattle.one_clause.proofs.Out.{fits, clause-short, instance-refused, checked-accepted, no-such-clause, too-short, done}
 use Rattle.instance.proofs.Accepted.{limits-known}
 use Rattle.one_clause.proofs.clause.Statement.{statement}
 use Rattle.one_clause.proofs.clause.Tie as tie
@@ -24,7 +24,10 @@ slice-aggregate-put-number : tie.Need-slice-aggregate-put-number
 slice-aggregate-put-number c = search needs
 
 put-number-requires : tie.Need-put-number-requires
-put-number-requires c κs = (checked-accepted (c .before .before .before .before .before .before .before .before .before .before .args .b .now) (c .before .before .before .before .before .before .before .before .before .before .args .m) (c .before .before .before .before .before .before .before .before .check-instance .result .answer) (c .before .before .before .before .before .before .before .before .check-instance .ensures .0) (c .before .before .before .before .before .before .before .before .before .before .args .number) (c .before .before .before .before .before .before .before .before .before .before .args .f .now) (c .before .before .before .before .if1 .left) (c .before .before .before .before .before .before .before .before .check-instance .result .checked) (c .before .before .before .before .before .before .before .before .check-instance .ensures .1), (let q = c .before .before .clause-count .ensures in omega arith, omega arith))
+put-number-requires c κs =
+    let w = checked-accepted (c .before .before .before .before .before .before .before .before .before .before .args .b .now) (c .before .before .before .before .before .before .before .before .before .before .args .m) (c .before .before .before .before .before .before .before .before .check-instance .result .answer) (c .before .before .before .before .before .before .before .before .check-instance .ensures .0) (c .before .before .before .before .before .before .before .before .before .before .args .number) (c .before .before .before .before .before .before .before .before .before .before .args .f .now) (c .before .before .before .before .if1 .left) (c .before .before .before .before .before .before .before .before .check-instance .result .checked) (c .before .before .before .before .before .before .before .before .check-instance .ensures .1) in
+    let q = c .before .before .clause-count .ensures in
+    (w, (omega arith, clause-short (c .before .before .before .before .before .before .before .before .before .before .args .b .now) (c .before .before .before .before .before .before .before .before .check-instance .result .checked) w (c .before .before .before .before .before .before .before .before .before .before .args .number) (omega arith)))
 
 returns-3 : tie.Need-returns-3
 returns-3 c = too-short (c .before .before .before .before .before .before .before .before .before .before .before .before .before .args .b .now) (c .before .before .before .before .before .before .before .before .before .before .before .before .before .args .m) (c .before .before .before .before .before .before .before .before .before .before .before .check-instance .result .answer) (c .before .before .before .before .before .before .before .before .before .before .before .check-instance .ensures .0) (c .before .before .before .before .before .before .before .before .before .before .before .before .before .args .number) (c .before .before .before .before .before .before .before .before .before .before .before .before .before .args .f .now) (c .before .before .before .before .before .before .before .if1 .left) (c .before .before .before .before .before .before .before .before .before .before .before .check-instance .result .checked) (c .before .before .before .before .before .before .before .before .before .before .before .check-instance .ensures .1) (let q = c .before .before .before .before .before .clause-count .ensures in omega arith) (c .before .before .put-number .result) (replicate 66 (pos 0)) (c .before .before .put-number .last .0) (c .before .before .put-number .ensures) (c .if3 .taken)
@@ -33,7 +36,7 @@ slice-aggregate-copy-words : tie.Need-slice-aggregate-copy-words
 slice-aggregate-copy-words c = search needs
 
 copy-words-requires : tie.Need-copy-words-requires
-copy-words-requires c κs = (fits (c .before .before .before .before .put-number .ensures), c .before .before .if3 .left)
+copy-words-requires c κs = (fits _ _ _ (c .before .before .before .before .put-number .ensures), c .before .before .if3 .left)
 
 same-length : tie.Need-same-length
 same-length c = search needs

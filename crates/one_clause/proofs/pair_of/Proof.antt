@@ -4,7 +4,7 @@ use Prim.Native.Nat.{suc, _+_, _-_, _<_}
 use native.Mathlib.Omega.{arith}
 use borrow.Author.Needs.{needs}
 use Rattle.lists.specs.Loop.{sum}
-use Rattle.one_clause.proofs.Laws.{pairs-some, more-rows, next-row, found-pair}
+use Rattle.one_clause.proofs.Pairs.{pairs-some, more-rows, next-row, found-pair}
 use Rattle.one_clause.proofs.pair_of.Statement.{statement}
 use Rattle.one_clause.proofs.pair_of.Tie as tie
 
