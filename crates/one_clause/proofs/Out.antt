@@ -1,5 +1,5 @@
 -- The ways out of the call.
-use mathlib.Core.Path.{_≡_, sym, _∙_, ap}
+use mathlib.Core.Path.{_≡_, sym, _∙_, ap, subst}
 use mathlib.Core.Logic.{_≢_}
 use mathlib.Core.List.{List, [], _∷_}
 use Prim.Native.Nat.{ℕ, _≤_, _<_}
@@ -67,8 +67,8 @@ module _ (b : List ℕ) (m : ℕ) (a : Answer) (ea : a ≡ instanceAnswer b m) (
 
     -- the clause, put into a buffer that held k and now holds g
     module _ (l : number < clauseCount (c .sizes)) (r : ℕ) (k g : List ℤ) (p : Wrote (line (getD (clauses (instanceOf b c)) number [])) k g r) where
-      count-same : r ≡ length (clauseLine b m number)
-      count-same = p .0 ∙ ap (λ (J : Instance). length (line (getD (clauses J) number []))) same-instance
+      here : Wrote (clauseLine b m number) k g r
+      here = subst (λ (J : Instance). Wrote (line (getD (clauses J) number [])) k g r) same-instance p
 
       asked : (x : Answer) → decide (question12 (length (clauseLine b m number)) (length f) ∷ []) (length (clauseLine b m number)) ≡ x → x ≡ clauseAnswer b m number (length f)
       unfolding clauseAnswer
@@ -80,27 +80,24 @@ module _ (b : List ℕ) (m : ℕ) (a : Answer) (ea : a ≡ instanceAnswer b m) (
 
       pub too-short : length f < r → (refuse 12 r ≡ clauseAnswer b m number (length f)) × (f ≡ clauseSlice b m number f)
       too-short h =
-          let q = count-same in
+          let q = here .0 in
           by-answer (refuse 12 r)
           (asked (refuse 12 r) (ask-no (leb (length (clauseLine b m number)) (length f)) _ [] _
           (λ t. let z = leb-iff (length (clauseLine b m number)) (length f) .0 t in omega arith)
-          ∙ ap (refuse 12) (sym count-same)))
+          ∙ ap (refuse 12) (sym (here .0))))
           (λ z. let q : _≡_ {A = ℕ} 12 0 = z in omega arith)
 
       pub done : r ≤ length f → (after : List ℤ) → after ≡ filled (take r g) f
           → (accept r ≡ clauseAnswer b m number (length f)) × (after ≡ clauseSlice b m number f)
       unfolding clauseSlice decide
       done h after ef =
-          let q = count-same in
+          let q = here .0 in
           let answer : accept r ≡ clauseAnswer b m number (length f) =
           asked (accept r) (ask-yes (leb (length (clauseLine b m number)) (length f)) _ [] _
           (leb-iff (length (clauseLine b m number)) (length f) .1 (omega arith))
-          ∙ ap accept (sym count-same)) in
+          ∙ ap accept (sym (here .0))) in
           let taken : take r g ≡ clauseLine b m number =
-          ap (take r) (p .1)
-          ∙ ap (λ (x : ℕ). take x (filled (line (getD (clauses (instanceOf b c)) number [])) k)) (p .0)
-          ∙ take-filled (line (getD (clauses (instanceOf b c)) number [])) k
-          ∙ ap (λ (J : Instance). line (getD (clauses J) number [])) same-instance in (
+          ap (take r) (here .1) ∙ ap (λ (x : ℕ). take x (filled (clauseLine b m number) k)) (here .0) ∙ take-filled (clauseLine b m number) k in (
             answer,
             ef ∙ ap (λ (l : List ℤ). filled l f) taken
                 ∙ sym (lent-accepted (clauseAnswer b m number (length f)) (clauseLine b m number) f (sym (ap (λ (x : Answer). x .number) answer))),

@@ -6,14 +6,8 @@ use borrow.Author.Needs.{needs}
 use Rattle.one_clause.proofs.others.Statement.{statement}
 use Rattle.one_clause.proofs.others.Tie as tie
 
-sub-result : tie.Need-sub-result
-sub-result c = search needs
-
 mul-result : tie.Need-mul-result
 mul-result c = let s = c .before .before in let h : s .args .s .k - 1 ≤ 15 = omega (arith, s .pre .k-most) in let p = mul-le-mul {n₂ = 15} {m₂ = 64} h (s .pre .n-most) in search needs
 
-returns : tie.Need-returns
-returns c = search needs
-
 pub others-spec : {M : Type 1} → statement M
-others-spec = tie.close (tie.spec sub-result mul-result returns)
+others-spec = tie.close (tie.spec (λ c. search needs) mul-result (λ c. search needs))

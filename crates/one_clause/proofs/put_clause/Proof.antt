@@ -47,59 +47,35 @@ put-g-requires c κs =
     let q = rw (last (c .before .before .before .before .args .which) (c .before .before .before .before .pre .1 .0 .0) (c .before .match .rest)) at (c .before .before .before .before .pre .1 .0) in
     (limits-known (c .before .before .before .before .args .b .now) (c .before .before .before .before .args .c) (c .before .before .before .before .pre .0), ((q .1, q .2, q .3), rw (last (c .before .before .before .before .args .which) (c .before .before .before .before .pre .1 .0 .0) (c .before .match .rest)) at (c .before .before .before .before .pre .1 .1)))
 
-same-length : tie.Need-same-length
-same-length c = search needs
-
 returns : tie.Need-returns
 unfolding block
 returns c =
-    let q = rw (c .before .before .before .before .match .keys1) at (c .before .before .before .before .before .before .before .pre .1 .0) in
-    let z : c .before .before .before .before .before .before .before .args .place ≡ 0 = omega arith in
+    let z : c .before .before .before .before .before .before .before .args .place ≡ 0 = let q = rw (c .before .before .before .before .match .keys1) at (c .before .before .before .before .before .before .before .pre .1 .0) in omega arith in
     rw (c .before .before .before .before .match .keys1, z) (c .before .put-end-of .ensures)
-
-same-length-2 : tie.Need-same-length-2
-same-length-2 c = search needs
 
 returns-2 : tie.Need-returns-2
 unfolding block
 returns-2 c =
-    let q = rw (c .before .before .before .before .match .keys2) at (c .before .before .before .before .before .before .before .pre .1 .0) in
-    let z : c .before .before .before .before .before .before .before .args .place ≡ 0 = omega arith in
+    let z : c .before .before .before .before .before .before .before .args .place ≡ 0 = let q = rw (c .before .before .before .before .match .keys2) at (c .before .before .before .before .before .before .before .pre .1 .0) in omega arith in
     rw (c .before .before .before .before .match .keys2, z) (c .before .put-end-of2 .ensures)
-
-same-length-3 : tie.Need-same-length-3
-same-length-3 c = search needs
 
 returns-3 : tie.Need-returns-3
 unfolding block
 returns-3 c =
-    let q = rw (c .before .before .before .match .keys3) at (c .before .before .before .before .before .before .pre .1 .0) in
-    let z : c .before .before .before .before .before .before .args .place ≡ 0 = omega arith in
+    let z : c .before .before .before .before .before .before .args .place ≡ 0 = let q = rw (c .before .before .before .match .keys3) at (c .before .before .before .before .before .before .pre .1 .0) in omega arith in
     rw (c .before .before .before .match .keys3, z) (c .before .put-somewhere .ensures)
-
-same-length-4 : tie.Need-same-length-4
-same-length-4 c = search needs
 
 returns-4 : tie.Need-returns-4
 unfolding block
 returns-4 c = rw (c .before .before .before .match .keys4) (c .before .put-d .ensures)
 
-same-length-5 : tie.Need-same-length-5
-same-length-5 c = search needs
-
 returns-5 : tie.Need-returns-5
 unfolding block
 returns-5 c = rw (c .before .before .before .match .keys5) (c .before .put-e .ensures)
 
-same-length-6 : tie.Need-same-length-6
-same-length-6 c = search needs
-
 returns-6 : tie.Need-returns-6
 unfolding block
 returns-6 c = rw (c .before .before .before .match .keys6) (c .before .put-f .ensures)
-
-same-length-7 : tie.Need-same-length-7
-same-length-7 c = search needs
 
 returns-7 : tie.Need-returns-7
 unfolding block
@@ -116,17 +92,17 @@ put-clause-spec =
     put-e-requires
     put-f-requires
     put-g-requires
-    same-length
+    (λ c. search needs)
     returns
-    same-length-2
+    (λ c. search needs)
     returns-2
-    same-length-3
+    (λ c. search needs)
     returns-3
-    same-length-4
+    (λ c. search needs)
     returns-4
-    same-length-5
+    (λ c. search needs)
     returns-5
-    same-length-6
+    (λ c. search needs)
     returns-6
-    same-length-7
+    (λ c. search needs)
     returns-7)

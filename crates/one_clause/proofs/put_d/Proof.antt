@@ -6,20 +6,8 @@ use Rattle.one_clause.proofs.Clauses.{room-put, wrote-put, pair-clause}
 use Rattle.one_clause.proofs.put_d.Statement.{statement}
 use Rattle.one_clause.proofs.put_d.Tie as tie
 
-pair-of-requires : tie.Need-pair-of-requires
-pair-of-requires c κs = search needs
-
-negative-requires : tie.Need-negative-requires
-negative-requires c κs = search needs
-
-negative-requires-2 : tie.Need-negative-requires-2
-negative-requires-2 c κs = search needs
-
 put-pair-requires : tie.Need-put-pair-requires
 put-pair-requires c κs = room-put (pair-clause (c .before .before .before .before .args .s .n) (λ v. ¬X (c .before .before .before .before .args .s) (c .before .before .before .before .args .t .0) (c .before .before .before .before .args .a .0) v) (c .before .before .before .pair-of .ensures)) (c .before .before .before .before .pre .1 .1)
-
-same-length : tie.Need-same-length
-same-length c = search needs
 
 returns : tie.Need-returns
 returns c =
@@ -33,9 +21,9 @@ pub put-d-spec : {M : Type 1} → statement M
 put-d-spec =
     tie.close
     (tie.spec
-    pair-of-requires
-    negative-requires
-    negative-requires-2
+    (λ c κs. search needs)
+    (λ c κs. search needs)
+    (λ c κs. search needs)
     put-pair-requires
-    same-length
+    (λ c. search needs)
     returns)

@@ -9,17 +9,8 @@ use Rattle.one_clause.proofs.Clauses.{room-put, wrote-put, other-clause
 use Rattle.one_clause.proofs.put_g.Statement.{statement}
 use Rattle.one_clause.proofs.put_g.Tie as tie
 
-div-other : tie.Need-div-other
-div-other c = search needs
-
 other-requires : tie.Need-other-requires
 other-requires c κs = let i = cell-at (c .before .args .s .k - 1) (c .before .args .s .n) (c .before .args .p) (c .before .pre .1 .0 .2) in search needs
-
-rem-t9 : tie.Need-rem-t9
-rem-t9 c = search needs
-
-add-t10 : tie.Need-add-t10
-add-t10 c = search needs
 
 negative-requires : tie.Need-negative-requires
 negative-requires c κs = let i = cell-at (c .before .before .before .before .before .args .s .k - 1) (c .before .before .before .before .before .args .s .n) (c .before .before .before .before .before .args .p) (c .before .before .before .before .before .pre .1 .0 .2) in search needs
@@ -29,9 +20,6 @@ negative-requires-2 c κs = let i = cell-at (c .before .before .before .before .
 
 put-pair-requires : tie.Need-put-pair-requires
 put-pair-requires c κs = room-put (other-clause (c .before .before .before .before .before .before .before .args .s) (c .before .before .before .before .before .before .before .args .t .0) (c .before .before .before .before .before .before .before .args .a .0) (c .before .before .before .before .before .before .before .pre .1 .0 .1) (c .before .before .before .before .before .before .before .args .p) (c .before .before .before .before .before .other .result) (c .before .before .before .before .before .before .before .pre .1 .0 .2) (c .before .before .before .before .before .other .ensures .0) (c .before .before .before .before .before .other .ensures .1)) (c .before .before .before .before .before .before .before .pre .1 .1)
-
-same-length : tie.Need-same-length
-same-length c = search needs
 
 returns : tie.Need-returns
 returns c =
@@ -45,12 +33,12 @@ pub put-g-spec : {M : Type 1} → statement M
 put-g-spec =
     tie.close
     (tie.spec
-    div-other
+    (λ c. search needs)
     other-requires
-    rem-t9
-    add-t10
+    (λ c. search needs)
+    (λ c. search needs)
     negative-requires
     negative-requires-2
     put-pair-requires
-    same-length
+    (λ c. search needs)
     returns)

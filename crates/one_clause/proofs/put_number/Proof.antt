@@ -32,9 +32,6 @@ put-clause-requires c κs =
     let q = found (c .before .before .before .before .before .before .before .args .b .now) (c .before .before .before .before .before .before .before .args .c) (c .before .before .before .before .before .before .before .pre .0) (c .before .before .before .before .spot-of .ensures) (c .before .before .cells-of .ensures .0) in
     (c .before .before .before .before .before .before .before .pre .0, ((c .before .before .before .before .spot-of .ensures .seven, q .step, q .cell, q .inside), room-put (q .same) (c .before .before .before .before .before .before .before .pre .1 .1)))
 
-same-length : tie.Need-same-length
-same-length c = search needs
-
 returns : tie.Need-returns
 returns c = let q = found (c .before .before .before .before .before .before .before .before .before .args .b .now) (c .before .before .before .before .before .before .before .before .before .args .c) (c .before .before .before .before .before .before .before .before .before .pre .0) (c .before .before .before .before .before .before .spot-of .ensures) (c .before .before .before .before .cells-of .ensures .0) in wrote-put (q .same) _ _ (c .before .put-clause .ensures)
 
@@ -49,5 +46,5 @@ put-number-spec =
     rem-put-clause
     rem-put-clause-2
     put-clause-requires
-    same-length
+    (λ c. search needs)
     returns)
