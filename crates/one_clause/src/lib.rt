@@ -28,8 +28,8 @@ pub struct Pair {
     pub high: usize,
 }
 
-// Clauses of a block of family G: a vertex of each other agent.
-fn others(s: Sizes) -> usize
+// How many clauses a block of family G has: one for each other agent and vertex.
+fn each_of_g(s: Sizes) -> usize
     requires { ⌜ Limits s ⌝ }
     ensures { λ r. ⌜ r ≡ (s .k - 1) * s .n ⌝ }
 {
@@ -51,7 +51,7 @@ fn spot_from(s: Sizes, number: usize, e: usize) -> Spot
     if number < g {
         return Spot(5, s.n, number - f);
     }
-    Spot(6, others(s), number - g)
+    Spot(6, each_of_g(s), number - g)
 }
 
 // The family whose range of clause numbers holds the number.
