@@ -63,10 +63,4 @@ block-length g (suc (suc (suc (suc (suc (suc (suc j))))))) t x l = refl
 
 -- the last family, by what a `match` leaves to its last arm
 pub last : (j : ℕ) → j < 7 → (((((Unit {0} × (j ≡ 0 → ⊥)) × (j ≡ 1 → ⊥)) × (j ≡ 2 → ⊥)) × (j ≡ 3 → ⊥)) × (j ≡ 4 → ⊥)) × (j ≡ 5 → ⊥) → j ≡ 6
-last j l o = six (three (o .0 .0 .0 .0 .0 .1) (o .0 .0 .0 .0 .1) (o .0 .0 .0 .1)) (o .0 .0 .1) (o .0 .1) (o .1)
-  where
-    three : (j ≡ 0 → ⊥) → (j ≡ 1 → ⊥) → (j ≡ 2 → ⊥) → 3 ≤ j
-    three p q r = omega arith
-
-    six : 3 ≤ j → (j ≡ 3 → ⊥) → (j ≡ 4 → ⊥) → (j ≡ 5 → ⊥) → j ≡ 6
-    six h p q r = omega arith
+last j l o = omega (arith, o .1, o .0 .1, o .0 .0 .1, o .0 .0 .0 .1, o .0 .0 .0 .0 .1, o .0 .0 .0 .0 .0 .1)

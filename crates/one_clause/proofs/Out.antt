@@ -16,7 +16,7 @@ use Rattle.answers.specs.Answers.{refuse, accept, decide, lent}
 use Rattle.answers.proofs.Laws.{ask-yes, ask-no, lent-refused}
 use Rattle.instance.specs.declared.Checked.{Checked}
 use Rattle.instance.specs.Instance.{Instance, instance}
-use Rattle.formula.specs.Formula.{Clause, clauses, line}
+use Rattle.formula.specs.Formula.{clauses, line}
 use Rattle.formula.specs.Counts.{clauseCount}
 use Rattle.formula.proofs.Counts.{clause-count}
 use Rattle.formula.proofs.Limits.{clause-most}

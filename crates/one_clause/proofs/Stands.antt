@@ -5,7 +5,7 @@ use Prim.Native.Nat.{ℕ, zero, suc, _+_, _*_, _-_, _/_, _%_, _<_}
 use native.Mathlib.Nat.{mul-one, mul-assoc, div-add-mod'}
 use native.Mathlib.Omega.{arith}
 use lib.ListN.{length, getD}
-use Rattle.lists.specs.Loop.{for, sum}
+use Rattle.lists.specs.Loop.{for}
 use Rattle.lists.proofs.Loops.{for-ext}
 use Rattle.lists.proofs.Blocks.{cell-at}
 use Rattle.lists.proofs.Sums.{sum-ext, for-at}
@@ -32,7 +32,7 @@ count-blocks s (suc (suc (suc (suc (suc zero))))) = refl
 count-blocks s (suc (suc (suc (suc (suc (suc zero)))))) = mul-assoc (s .m * s .k) (s .k - 1) (s .n)
 count-blocks s (suc (suc (suc (suc (suc (suc (suc j))))))) = refl
 
--- Place number `place` of family j, where a block has `each` clauses and a time has `width` blocks. It is clause number c.
+-- Place number `place` of family j, where a block has `each` clauses and a time has `width` blocks. It is clause number `number`.
 pub record Found (b : List ℕ) (c : Checked) (number j each width place : ℕ) : Type 0 where
   pub some : 0 < each
   pub wide : 0 < width

@@ -36,18 +36,16 @@ fn each_of_g(s: Sizes) -> usize
     (s.k - 1) * s.n
 }
 
-// The family whose range of clause numbers holds the number, among the last three, which begin at number e.
-fn spot_from(s: Sizes, number: usize, e: usize) -> Spot
+// The family whose range of clause numbers holds the number, among the last three, which begin at e, f and g.
+fn spot_from(s: Sizes, number: usize, e: usize, f: usize, g: usize) -> Spot
     requires { ⌜ Limits s ⌝ }
-    requires { ⌜ (e ≡ sum 4 (count s)) × (e ≤ number) × (number < total (clausesBy s)) ⌝ }
+    requires { ⌜ (e ≡ sum 4 (count s)) × (f ≡ sum 5 (count s)) × (g ≡ sum 6 (count s)) ⌝ }
+    requires { ⌜ (e ≤ number) × (number < total (clausesBy s)) ⌝ }
     ensures { λ r. ⌜ Stands s number (r .0) (r .1) (r .2) ⌝ }
 {
-    let count = counts::clauses_by(s);
-    let f = e + count.e;
     if number < f {
         return Spot(4, counts::pair_count(s.k), number - e);
     }
-    let g = f + count.f;
     if number < g {
         return Spot(5, s.n, number - f);
     }
@@ -77,7 +75,8 @@ fn spot_of(s: Sizes, number: usize) -> Spot
     if number < e {
         return Spot(3, counts::pair_count(s.n), number - d);
     }
-    spot_from(s, number, e)
+    let f = e + count.e;
+    spot_from(s, number, e, f, f + count.f)
 }
 
 // Pair number p of the numbers below n.

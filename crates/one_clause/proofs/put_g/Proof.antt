@@ -1,7 +1,6 @@
 -- `one_clause::put_g` meets its contract. Place p / n names the other agent, p % n the vertex. Assumes nothing.
 use Prim.Native.Nat.{_-_}
 use native.Mathlib.Numerals.{add-one}
-use native.Mathlib.Omega.{arith}
 use mir.Facts.{toZ-ofZ}
 use borrow.Author.Needs.{needs, sfits-of}
 use Rattle.lists.proofs.Blocks.{cell-at}
