@@ -1,4 +1,4 @@
-pub mod Ranges
-pub mod Laws
+pub mod Pairs
 pub mod Clauses
+pub mod Stands
 pub mod Out

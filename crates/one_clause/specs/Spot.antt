@@ -1,29 +1,37 @@
--- A clause's number as a family and a place in it. They stand in the contracts of this crate's functions.
+-- Where a clause stands. These stand in the contracts of this crate's functions, and in no public one.
 use mathlib.Core.Path.{_≡_}
-use mathlib.Core.List.{List, []}
-use Prim.Native.Nat.{ℕ, zero, suc, _+_, _-_, _<_}
-use lib.ListN.{length, getD}
+use mathlib.Core.List.{List, [], _∷_}
+use Prim.Native.Nat.{ℕ, suc, _+_, _*_, _-_, _<_}
+use lib.ListN.{getD}
 use lib.IntN.{ℤ}
 use Rattle.lists.specs.Loop.{sum}
-use Rattle.lists.specs.Slice.{filled}
-use Rattle.instance.specs.Instance.{Instance, adjacent}
-use Rattle.formula.specs.Formula.{Clause, A, B, C, D, E, F, G, clauses, line}
+use Rattle.instance.specs.declared.Sizes.{Sizes}
+use Rattle.instance.specs.declared.Checked.{Checked}
+use Rattle.instance.specs.Instance.{adjacent}
+use Rattle.instance.specs.Accepted.{instanceOf}
+use Rattle.formula.specs.Formula.{Clause, line}
+use Rattle.formula.specs.Blocks.{Given, held}
+use Rattle.formula.specs.Counts.{pairs, clausesBy}
 
--- the families by number, 0 for A to 6 for G
-abbrev pub family : Instance → ℕ → List Clause
-family I zero = A (I .sizes) (I .start)
-family I (suc zero) = B (I .sizes) (I .goal)
-family I (suc (suc zero)) = C (I .sizes)
-family I (suc (suc (suc zero))) = D (I .sizes)
-family I (suc (suc (suc (suc zero)))) = E (I .sizes)
-family I (suc (suc (suc (suc (suc zero))))) = F (I .sizes) (adjacent I)
-family I (suc (suc (suc (suc (suc (suc j)))))) = G (I .sizes)
+-- How many clauses a family has, by its number, A 0 to G 6, and how many each of its blocks has.
+module _ (s : Sizes) where
+  open Sizes s using (n, k)
 
--- clause number c stands at this place of the family with this number
-pub record Stands (I : Instance) (c j place : ℕ) : Type 0 where
+  abbrev pub count : ℕ → ℕ
+  count j =
+      getD (
+      clausesBy s .A ∷ clausesBy s .B ∷ clausesBy s .C ∷ clausesBy s .D ∷ clausesBy s .E ∷ clausesBy s .F ∷ clausesBy s .G ∷ []
+      ) j 0
+
+  abbrev pub countEach : ℕ → ℕ
+  countEach j = getD (1 ∷ 1 ∷ 1 ∷ pairs n ∷ pairs k ∷ n ∷ (k - 1) * n ∷ []) j 0
+
+-- clause number c stands at this place of the family with number j, whose blocks have `each` clauses
+pub record Stands (s : Sizes) (c j each place : ℕ) : Type 0 where
   pub seven : j < 7
-  pub inside : place < length (family I j)
-  pub same : getD (clauses I) c [] ≡ getD (family I j) place []
+  pub blocks : each ≡ countEach s j
+  pub inside : place < count s j
+  pub at : c ≡ sum j (count s) + place
 
 -- the pair low < high is pair number p of the numbers below n, by low, then high
 pub record PairAt (n p low high : ℕ) : Type 0 where
@@ -31,7 +39,10 @@ pub record PairAt (n p low high : ℕ) : Type 0 where
   pub below : high < n
   pub at : p ≡ sum low (λ u. n - suc u) + (high - suc low)
 
--- the clause with its 0 has been put first in a slice that held f, which now holds g, and r is the number of its words
-pub record Puts (clause : Clause) (r : ℕ) (f g : List ℤ) : Type 0 where
-  pub count : r ≡ length (line clause)
-  pub slice : g ≡ filled (line clause) f
+-- the line of the clause at a place
+abbrev pub lineAt : List Clause → ℕ → List ℤ
+lineAt clauses place = line (getD clauses place [])
+
+-- what the families use of accepted bytes and their checked instance
+abbrev pub heldOf : List ℕ → Checked → Given
+heldOf b c = held c (adjacent (instanceOf b c))

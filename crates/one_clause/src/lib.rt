@@ -1,112 +1,82 @@
 // One clause of the formula, asked by number.
 use answers::Answer;
-use counts::Families;
 use instance::Checked;
 use instance::Sizes;
 use variables::Agent;
 use variables::Step;
 use variables::Vertex;
 ghost use mathlib.Core.Path.{_≡_};
-ghost use mathlib.Core.Bool.{cond};
 ghost use mathlib.Core.List.{[], _∷_};
-ghost use Prim.Native.Nat.{ℕ, _+_, _*_, _-_, _/_, _≤_, _<_};
-ghost use lib.Dec.{ltb};
+ghost use Prim.Native.Nat.{suc, _*_, _-_, _≤_, _<_};
 ghost use lib.ListN.{length, getD, take};
-ghost use Rattle.lists.specs.Slice.{filled};
-ghost use Rattle.instance.specs.Instance.{Instance, adjacent};
-ghost use Rattle.formula.specs.Variables.{X};
-ghost use Rattle.formula.specs.Formula.{A, B, C, D, E, F, G, clauses, line};
-ghost use Rattle.formula.specs.Counts.{clausesBy, clauseCount};
-ghost use Rattle.lists.specs.Loop.{pairs};
+ghost use Rattle.lists.specs.Loop.{sum};
+ghost use Rattle.lists.specs.Slice.{filled, Wrote};
 ghost use Rattle.instance.specs.Limits.{Limits};
 ghost use Rattle.instance.specs.Accepted.{Accepted, instanceOf};
+ghost use Rattle.formula.specs.Variables.{X};
+ghost use Rattle.formula.specs.Formula.{line, blockD, blockE, blockF, blockG, clauses};
+ghost use Rattle.formula.specs.Blocks.{steps, cells, block};
+ghost use Rattle.formula.specs.Counts.{pairs, clausesBy, total, clauseCount};
 ghost use Rattle.calls.specs.Calls.{clauseAnswer, clauseSlice};
-ghost use Rattle.one_clause.specs.Spot.{family, Stands, PairAt, Puts};
+ghost use Rattle.one_clause.specs.Spot.{count, countEach, Stands, PairAt, lineAt, heldOf};
 
-// A family's number, 0 for A to 6 for G, and a place in it.
-pub struct Spot {
-    pub family: usize,
-    pub place: usize,
-}
+// A family's number, A 0 to G 6; how many clauses each of its blocks has; a place in the family.
+pub struct Spot(pub usize, pub usize, pub usize);
 
 pub struct Pair {
     pub low: usize,
     pub high: usize,
 }
 
-// A number taken apart into a row and a place in it.
-pub struct Cell {
-    pub row: usize,
-    pub place: usize,
+// How many clauses a block of family G has: one for each other agent and vertex.
+fn each_of_g(s: Sizes) -> usize
+    requires { ⌜ Limits s ⌝ }
+    ensures { λ r. ⌜ r ≡ (s .k - 1) * s .n ⌝ }
+{
+    (s.k - 1) * s.n
+}
+
+// The family whose range of clause numbers holds the number, among the last three, which begin at e, f and g.
+fn spot_from(s: Sizes, number: usize, e: usize, f: usize, g: usize) -> Spot
+    requires { ⌜ Limits s ⌝ }
+    requires { ⌜ (e ≡ sum 4 (count s)) × (f ≡ sum 5 (count s)) × (g ≡ sum 6 (count s)) ⌝ }
+    requires { ⌜ (e ≤ number) × (number < total (clausesBy s)) ⌝ }
+    ensures { λ r. ⌜ Stands s number (r .0) (r .1) (r .2) ⌝ }
+{
+    if number < f {
+        return Spot(4, counts::pair_count(s.k), number - e);
+    }
+    if number < g {
+        return Spot(5, s.n, number - f);
+    }
+    Spot(6, each_of_g(s), number - g)
 }
 
 // The family whose range of clause numbers holds the number.
 fn spot_of(s: Sizes, number: usize) -> Spot
     requires { ⌜ Limits s ⌝ }
-    requires { ⌜ number < clauseCount s ⌝ }
-    ensures { λ r. ⌜ ((I : Instance) → I .sizes ≡ s → Stands I number (r .family) (r .place)) ⌝ }
+    requires { ⌜ number < total (clausesBy s) ⌝ }
+    ensures { λ r. ⌜ Stands s number (r .0) (r .1) (r .2) ⌝ }
 {
-    let ends = counts::clauses_by(s);
-    let a = ends.a;
-    if number < a {
-        return Spot {
-            family: 0,
-            place: number,
-        };
-    }
-    let b = a + ends.b;
+    let count = counts::clauses_by(s);
+    let b = count.a;
     if number < b {
-        return Spot {
-            family: 1,
-            place: number - a,
-        };
+        return Spot(0, 1, number);
     }
-    let c = b + ends.c;
+    let c = b + count.b;
     if number < c {
-        return Spot {
-            family: 2,
-            place: number - b,
-        };
+        return Spot(1, 1, number - b);
     }
-    let d = c + ends.d;
+    let d = c + count.c;
     if number < d {
-        return Spot {
-            family: 3,
-            place: number - c,
-        };
+        return Spot(2, 1, number - c);
     }
-    let e = d + ends.e;
+    let e = d + count.d;
     if number < e {
-        return Spot {
-            family: 4,
-            place: number - d,
-        };
+        return Spot(3, counts::pair_count(s.n), number - d);
     }
-    let f = e + ends.f;
-    if number < f {
-        return Spot {
-            family: 5,
-            place: number - e,
-        };
-    }
-    Spot {
-        family: 6,
-        place: number - f,
-    }
-}
-
-// A number below rows·width as a row and a place in it.
-fn cell_of(i: usize, rows: usize, width: usize) -> Cell
-    requires { ⌜ i < rows * width ⌝ }
-    ensures { λ r. ⌜ (r .row < rows) × (r .place < width) × (i ≡ r .row * width + r .place) ⌝ }
-{
-    if width == 0 {
-        return Cell { row: 0, place: 0 };
-    }
-    Cell {
-        row: i / width,
-        place: i % width,
-    }
+    let f = e + count.e;
+    spot_from(s, number, e, f, f + count.f)
 }
 
 // Pair number p of the numbers below n.
@@ -126,43 +96,24 @@ fn pair_of(n: usize, p: usize) -> Pair
     }
 }
 
-// Family A: agent i at its start; family B: at its goal. Byte a of the row names its vertex.
-fn put_end_of(f: &mut [i32], s: Sizes, t: Step, row: [u8; 16], i: usize) -> usize
+// Family A: agent a is at its start; family B: at its goal. Byte a of the row names its vertex.
+fn put_end_of(f: &mut [i32], s: Sizes, t: Step, row: [u8; 16], a: usize) -> usize
     requires { ⌜ Limits s ⌝ }
-    requires { ⌜ (t .0 ≤ s .m) × (i < s .k) × (getD row i 0 < s .n) × (2 ≤ length (now f)) ⌝ }
-    ensures { λ r. ⌜ (r ≡ 2) × (now (f .exit) ≡ filled (line (X s (t .0) i (getD row i 0) ∷ [])) (now (f .entry))) ⌝ }
+    requires { ⌜ (t .0 ≤ s .m) × (a < s .k) × (getD row a 0 < s .n) × (2 ≤ length (now f)) ⌝ }
+    ensures { λ r. ⌜ Wrote (line (X s (t .0) a (getD row a 0) ∷ [])) (now (f .entry)) (now (f .exit)) r ⌝ }
 {
-    let v = row[i];
-    clauses::put_unit(f, clauses::positive(s, t, Agent(i), Vertex(v as usize)))
+    let v = row[a];
+    clauses::put_unit(f, clauses::positive(s, t, Agent(a), Vertex(v as usize)))
 }
 
-// Clause i of family C.
-fn put_c(f: &mut [i32], s: Sizes, i: usize) -> usize
+// Family D: clause p of time t and agent a.
+fn put_d(f: &mut [i32], s: Sizes, t: Step, a: Agent, p: usize) -> usize
     requires { ⌜ Limits s ⌝ }
-    requires { ⌜ (i < clausesBy s .C) × (66 ≤ length (now f)) ⌝ }
-    ensures { λ r. ⌜ ((I : Instance) → I .sizes ≡ s → Puts (getD (C (I .sizes)) i []) r (now (f .entry)) (now (f .exit))) ⌝ }
+    requires { ⌜ (t .0 ≤ s .m) × (a .0 < s .k) × (p < pairs (s .n)) ⌝ }
+    requires { ⌜ length (lineAt (blockD s (t .0) (a .0)) p) ≤ length (now f) ⌝ }
+    ensures { λ r. ⌜ Wrote (lineAt (blockD s (t .0) (a .0)) p) (now (f .entry)) (now (f .exit)) r ⌝ }
 {
-    let k = s.k;
-    let rows = s.m + 1;
-    let cell = cell_of(i, rows, k);
-    clauses::put_somewhere(f, s, Step(cell.row), Agent(cell.place))
-}
-
-// Clause i of family D.
-fn put_d(f: &mut [i32], s: Sizes, i: usize) -> usize
-    requires { ⌜ Limits s ⌝ }
-    requires { ⌜ (i < clausesBy s .D) × (66 ≤ length (now f)) ⌝ }
-    ensures { λ r. ⌜ ((I : Instance) → I .sizes ≡ s → Puts (getD (D (I .sizes)) i []) r (now (f .entry)) (now (f .exit))) ⌝ }
-{
-    let n = s.n;
-    let k = s.k;
-    let rows = (s.m + 1) * k;
-    let each = counts::pair_count(n);
-    let cell = cell_of(i, rows, each);
-    let place = cell_of(cell.row, s.m + 1, k);
-    let pair = pair_of(n, cell.place);
-    let t = Step(place.row);
-    let a = Agent(place.place);
+    let pair = pair_of(s.n, p);
     clauses::put_pair(
         f,
         clauses::negative(s, t, a, Vertex(pair.low)),
@@ -170,21 +121,14 @@ fn put_d(f: &mut [i32], s: Sizes, i: usize) -> usize
     )
 }
 
-// Clause i of family E.
-fn put_e(f: &mut [i32], s: Sizes, i: usize) -> usize
+// Family E: clause p of time t and vertex v.
+fn put_e(f: &mut [i32], s: Sizes, t: Step, v: Vertex, p: usize) -> usize
     requires { ⌜ Limits s ⌝ }
-    requires { ⌜ (i < clausesBy s .E) × (66 ≤ length (now f)) ⌝ }
-    ensures { λ r. ⌜ ((I : Instance) → I .sizes ≡ s → Puts (getD (E (I .sizes)) i []) r (now (f .entry)) (now (f .exit))) ⌝ }
+    requires { ⌜ (t .0 ≤ s .m) × (v .0 < s .n) × (p < pairs (s .k)) ⌝ }
+    requires { ⌜ length (lineAt (blockE s (t .0) (v .0)) p) ≤ length (now f) ⌝ }
+    ensures { λ r. ⌜ Wrote (lineAt (blockE s (t .0) (v .0)) p) (now (f .entry)) (now (f .exit)) r ⌝ }
 {
-    let n = s.n;
-    let k = s.k;
-    let rows = (s.m + 1) * n;
-    let each = counts::pair_count(k);
-    let cell = cell_of(i, rows, each);
-    let place = cell_of(cell.row, s.m + 1, n);
-    let pair = pair_of(k, cell.place);
-    let t = Step(place.row);
-    let v = Vertex(place.place);
+    let pair = pair_of(s.k, p);
     clauses::put_pair(
         f,
         clauses::negative(s, t, Agent(pair.low), v),
@@ -192,36 +136,21 @@ fn put_e(f: &mut [i32], s: Sizes, i: usize) -> usize
     )
 }
 
-// Clause i of family F.
-fn put_f(f: &mut [i32], b: &[u8], c: Checked, i: usize) -> usize
+// Family F: the clause of vertex v, of time t and agent a.
+fn put_f(f: &mut [i32], b: &[u8], c: Checked, t: Step, a: Agent, v: usize) -> usize
     requires { ⌜ Accepted (now b) c ⌝ }
-    requires { ⌜ (i < clausesBy (c .sizes) .F) × (66 ≤ length (now f)) ⌝ }
-    ensures { λ r. ⌜ Puts (getD (F (instanceOf (now (b .entry)) c .sizes) (adjacent (instanceOf (now (b .entry)) c))) i []) r (now (f .entry)) (now (f .exit)) ⌝ }
+    requires { ⌜ (t .0 < c .sizes .m) × (a .0 < c .sizes .k) × (v < c .sizes .n) ⌝ }
+    requires { ⌜ length (lineAt (blockF (c .sizes) (heldOf (now b) c .near) (t .0) (a .0)) v) ≤ length (now f) ⌝ }
+    ensures { λ r. ⌜ Wrote (lineAt (blockF (c .sizes) (heldOf (now (b .entry)) c .near) (t .0) (a .0)) v) (now (f .entry)) (now (f .exit)) r ⌝ }
 {
-    let s = c.sizes;
-    let n = s.n;
-    let k = s.k;
-    let m = s.m;
-    let rows = m * k;
-    let cell = cell_of(i, rows, n);
-    let place = cell_of(cell.row, m, k);
-    let v = cell.place;
     let near = neighbours::row_of(b, c, v);
-    clauses::put_onward(
-        f,
-        s,
-        &near,
-        0,
-        Step(place.row),
-        Agent(place.place),
-        Vertex(v),
-    )
+    clauses::put_onward(f, c.sizes, &near, 0, t, a, Vertex(v))
 }
 
 // The agent at a place among those other than a.
 fn other(a: usize, place: usize) -> usize
     requires { ⌜ place < 16 ⌝ }
-    ensures { λ r. ⌜ r ≡ cond (ltb place a) place (place + 1) ⌝ }
+    ensures { λ r. ⌜ (place < a → r ≡ place) × (a ≤ place → r ≡ suc place) × (r ≤ suc place) ⌝ }
 {
     if place < a {
         return place;
@@ -229,64 +158,69 @@ fn other(a: usize, place: usize) -> usize
     place + 1
 }
 
-// Clause i of family G.
-fn put_g(f: &mut [i32], s: Sizes, i: usize) -> usize
+// Family G: clause p of time t and agent a.
+fn put_g(f: &mut [i32], s: Sizes, t: Step, a: Agent, p: usize) -> usize
     requires { ⌜ Limits s ⌝ }
-    requires { ⌜ (i < clausesBy s .G) × (66 ≤ length (now f)) ⌝ }
-    ensures { λ r. ⌜ ((I : Instance) → I .sizes ≡ s → Puts (getD (G (I .sizes)) i []) r (now (f .entry)) (now (f .exit))) ⌝ }
+    requires { ⌜ (t .0 < s .m) × (a .0 < s .k) × (p < (s .k - 1) * s .n) ⌝ }
+    requires { ⌜ length (lineAt (blockG s (t .0) (a .0)) p) ≤ length (now f) ⌝ }
+    ensures { λ r. ⌜ Wrote (lineAt (blockG s (t .0) (a .0)) p) (now (f .entry)) (now (f .exit)) r ⌝ }
 {
-    let n = s.n;
-    let k = s.k;
-    let m = s.m;
-    let others = k - 1;
-    let rows = m * k * others;
-    let cell = cell_of(i, rows, n);
-    let place = cell_of(cell.row, m * k, others);
-    let first = cell_of(place.row, m, k);
-    let a = first.place;
-    let b = other(a, place.place);
-    let v = Vertex(cell.place);
-    let t = first.row;
+    let b = Agent(other(a.0, p / s.n));
+    let v = Vertex(p % s.n);
+    let next = Step(t.0 + 1);
     clauses::put_pair(
         f,
-        clauses::negative(s, Step(t), Agent(b), v),
-        clauses::negative(s, Step(t + 1), Agent(a), v),
+        clauses::negative(s, t, b, v),
+        clauses::negative(s, next, a, v),
     )
 }
 
-// The clause at a place of the family with a number.
-fn put_clause(f: &mut [i32], b: &[u8], c: Checked, which: usize, place: usize) -> usize
+// The clause at a place of the block of t and x, in the family with a number.
+fn put_clause(
+    f: &mut [i32],
+    b: &[u8],
+    c: Checked,
+    which: usize,
+    t: usize,
+    x: usize,
+    place: usize,
+) -> usize
     requires { ⌜ Accepted (now b) c ⌝ }
-    requires { ⌜ (which < 7) × (place < length (family (instanceOf (now b) c) which)) × (66 ≤ length (now f)) ⌝ }
-    ensures { λ r. ⌜ Puts (getD (family (instanceOf (now (b .entry)) c) which) place []) r (now (f .entry)) (now (f .exit)) ⌝ }
+    requires { ⌜ (which < 7) × (t < steps (c .sizes) which) × (x < cells (c .sizes) which) × (place < countEach (c .sizes) which) ⌝ }
+    requires { ⌜ length (lineAt (block (heldOf (now b) c) which t x) place) ≤ length (now f) ⌝ }
+    ensures { λ r. ⌜ Wrote (lineAt (block (heldOf (now (b .entry)) c) which t x) place) (now (f .entry)) (now (f .exit)) r ⌝ }
 {
     let s = c.sizes;
     match which {
         0 => {
             let starts = c.starts;
-            put_end_of(f, s, Step(0), starts, place)
+            put_end_of(f, s, Step(0), starts, x)
         }
         1 => {
             let goals = c.goals;
-            put_end_of(f, s, Step(s.m), goals, place)
+            put_end_of(f, s, Step(s.m), goals, x)
         }
-        2 => put_c(f, s, place),
-        3 => put_d(f, s, place),
-        4 => put_e(f, s, place),
-        5 => put_f(f, b, c, place),
-        _ => put_g(f, s, place),
+        2 => clauses::put_somewhere(f, s, Step(t), Agent(x)),
+        3 => put_d(f, s, Step(t), Agent(x), place),
+        4 => put_e(f, s, Step(t), Vertex(x), place),
+        5 => put_f(f, b, c, Step(t), Agent(x), place),
+        _ => put_g(f, s, Step(t), Agent(x), place),
     }
 }
 
 // The clause with a number.
 fn put_number(f: &mut [i32], b: &[u8], c: Checked, number: usize) -> usize
     requires { ⌜ Accepted (now b) c ⌝ }
-    requires { ⌜ (number < clauseCount (c .sizes)) × (66 ≤ length (now f)) ⌝ }
-    ensures { λ r. ⌜ Puts (getD (clauses (instanceOf (now (b .entry)) c)) number []) r (now (f .entry)) (now (f .exit)) ⌝ }
+    requires { ⌜ (number < clauseCount (c .sizes)) × (length (lineAt (clauses (instanceOf (now b) c)) number) ≤ length (now f)) ⌝ }
+    ensures { λ r. ⌜ Wrote (lineAt (clauses (instanceOf (now (b .entry)) c)) number) (now (f .entry)) (now (f .exit)) r ⌝ }
 {
     let s = c.sizes;
     let spot = spot_of(s, number);
-    put_clause(f, b, c, spot.family, spot.place)
+    let which = spot.0;
+    let each = spot.1;
+    let block = spot.2 / each;
+    let cells = counts::cells_of(s, which);
+    put_clause(f, b, c, which, block / cells, block % cells, spot.2 % each)
 }
 
 // The first words of one slice, copied to the start of another.

@@ -22,24 +22,6 @@ abbrev μ-loop : tie.MeasureT-loop
 loop-holds : tie.Need-loop-holds Inv-loop μ-loop
 loop-holds c = (omega arith, (refl, sym (filled-nil _)))
 
-mul-f : tie.Need-mul-f Inv-loop μ-loop
-mul-f c = search needs
-
-shared-slice-copy-out-f : tie.Need-shared-slice-copy-out-f Inv-loop μ-loop
-shared-slice-copy-out-f c = search needs
-
-mul-t9 : tie.Need-mul-t9 Inv-loop μ-loop
-mul-t9 c = search needs
-
-slice-set-from-f : tie.Need-slice-set-from-f Inv-loop μ-loop
-slice-set-from-f c = search needs
-
-add-i : tie.Need-add-i Inv-loop μ-loop
-add-i c = search needs
-
-loop-less : tie.Need-loop-less Inv-loop μ-loop
-loop-less c = search needs
-
 loop-again : tie.Need-loop-again Inv-loop μ-loop
 loop-again c = (
   omega arith,
@@ -63,12 +45,12 @@ copy-words-spec =
     Inv-loop
     μ-loop
     loop-holds
-    mul-f
-    shared-slice-copy-out-f
-    mul-t9
-    slice-set-from-f
-    add-i
-    loop-less
+    (λ c. search needs)
+    (λ c. search needs)
+    (λ c. search needs)
+    (λ c. search needs)
+    (λ c. search needs)
+    (λ c. search needs)
     loop-again
     same-length
     returns)

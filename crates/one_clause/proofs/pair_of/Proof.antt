@@ -4,7 +4,7 @@ use Prim.Native.Nat.{suc, _+_, _-_, _<_}
 use native.Mathlib.Omega.{arith}
 use borrow.Author.Needs.{needs}
 use Rattle.lists.specs.Loop.{sum}
-use Rattle.one_clause.proofs.Laws.{pairs-some, more-rows, next-row, found-pair}
+use Rattle.one_clause.proofs.Pairs.{pairs-some, more-rows, next-row, found-pair}
 use Rattle.one_clause.proofs.pair_of.Statement.{statement}
 use Rattle.one_clause.proofs.pair_of.Tie as tie
 
@@ -17,21 +17,6 @@ abbrev μ-loop : tie.MeasureT-loop
 loop-holds : tie.Need-loop-holds Inv-loop μ-loop
 loop-holds c = (pairs-some (c .args .n) (omega (arith, c .pre)), omega arith)
 
-sub-loop : tie.Need-sub-loop Inv-loop μ-loop
-sub-loop c = search needs
-
-sub-loop-2 : tie.Need-sub-loop-2 Inv-loop μ-loop
-sub-loop-2 c = search needs
-
-sub-left : tie.Need-sub-left Inv-loop μ-loop
-sub-left c = search needs
-
-sub-left-2 : tie.Need-sub-left-2 Inv-loop μ-loop
-sub-left-2 c = search needs
-
-sub-left-3 : tie.Need-sub-left-3 Inv-loop μ-loop
-sub-left-3 c = search needs
-
 add-low : tie.Need-add-low Inv-loop μ-loop
 add-low c = let r = more-rows (c .before .before .args .n) (c .before .loop .low) (c .before .loop .left) (c .before .before .args .p) (c .before .loop .inv .0) (c .before .loop .inv .1) (c .before .before .pre) in omega arith
 
@@ -40,12 +25,6 @@ loop-less c = let r = more-rows (c .before .before .args .n) (c .before .loop .l
 
 loop-again : tie.Need-loop-again Inv-loop μ-loop
 loop-again c = let r = more-rows (c .before .before .args .n) (c .before .loop .low) (c .before .loop .left) (c .before .before .args .p) (c .before .loop .inv .0) (c .before .loop .inv .1) (c .before .before .pre) in (omega arith, next-row (c .before .before .args .n) (c .before .loop .low) (c .before .loop .left) (c .before .before .args .p) (c .before .loop .inv .0) (c .before .loop .inv .1) (c .loop-test .taken))
-
-add-t8 : tie.Need-add-t8 Inv-loop μ-loop
-add-t8 c = search needs
-
-add-t9 : tie.Need-add-t9 Inv-loop μ-loop
-add-t9 c = search needs
 
 returns : tie.Need-returns Inv-loop μ-loop
 returns c = found-pair (c .before .before .args .n) (c .before .loop .low) (c .before .loop .left) (c .before .before .args .p) (c .before .loop .inv .0) (c .before .loop .inv .1) (c .loop-test .left)
@@ -57,14 +36,14 @@ pair-of-spec =
     Inv-loop
     μ-loop
     loop-holds
-    sub-loop
-    sub-loop-2
-    sub-left
-    sub-left-2
-    sub-left-3
+    (λ c. search needs)
+    (λ c. search needs)
+    (λ c. search needs)
+    (λ c. search needs)
+    (λ c. search needs)
     add-low
     loop-less
     loop-again
-    add-t8
-    add-t9
+    (λ c. search needs)
+    (λ c. search needs)
     returns)

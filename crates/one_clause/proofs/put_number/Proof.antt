@@ -1,22 +1,50 @@
--- `one_clause::put_number` meets its contract. It follows from the contracts of the functions called and the laws cited. Assumes nothing.
-use mathlib.Core.Path.{sym}
+-- `one_clause::put_number` meets its contract. The number is a place of a family, and that a place of a block. Assumes nothing.
+use mathlib.Core.Path.{refl}
 use borrow.Author.Needs.{needs}
-use Rattle.instance.specs.Accepted.{instanceOf}
-use Rattle.instance.proofs.Accepted.{limits-known, sizes-same}
+use Rattle.instance.proofs.Accepted.{limits-known}
+use Rattle.formula.specs.Counts.{clauseCount}
+use Rattle.one_clause.proofs.Clauses.{room-put, wrote-put}
+use Rattle.one_clause.proofs.Stands.{found}
 use Rattle.one_clause.proofs.put_number.Statement.{statement}
 use Rattle.one_clause.proofs.put_number.Tie as tie
 
 spot-of-requires : tie.Need-spot-of-requires
+unfolding clauseCount
 spot-of-requires c κs = (limits-known (c .before .before .args .b .now) (c .before .before .args .c) (c .before .before .pre .0), c .before .before .pre .1 .0)
 
-put-clause-requires : tie.Need-put-clause-requires
-put-clause-requires c κs = ((c .before .before .before .before .pre .0), ((c .before .spot-of .ensures (instanceOf (c .before .before .before .before .args .b .now) (c .before .before .before .before .args .c)) (sym (sizes-same (c .before .before .before .before .args .b .now) (c .before .before .before .before .args .c) (c .before .before .before .before .pre .0)))) .seven, (c .before .spot-of .ensures (instanceOf (c .before .before .before .before .args .b .now) (c .before .before .before .before .args .c)) (sym (sizes-same (c .before .before .before .before .args .b .now) (c .before .before .before .before .args .c) (c .before .before .before .before .pre .0)))) .inside, c .before .before .before .before .pre .1 .1))
+div-block : tie.Need-div-block
+div-block c = let q = found (c .before .before .before .before .args .b .now) (c .before .before .before .before .args .c) (c .before .before .before .before .pre .0) (c .before .spot-of .ensures) refl in search needs
 
-same-length : tie.Need-same-length
-same-length c = search needs
+cells-of-requires : tie.Need-cells-of-requires
+cells-of-requires c κs = (limits-known (c .before .before .before .before .args .b .now) (c .before .before .before .before .args .c) (c .before .before .before .before .pre .0), c .before .spot-of .ensures .seven)
+
+div-put-clause : tie.Need-div-put-clause
+div-put-clause c = let q = found (c .before .before .before .before .before .before .args .b .now) (c .before .before .before .before .before .before .args .c) (c .before .before .before .before .before .before .pre .0) (c .before .before .before .spot-of .ensures) (c .before .cells-of .ensures .0) in search needs
+
+rem-put-clause : tie.Need-rem-put-clause
+rem-put-clause c = let q = found (c .before .before .before .before .before .before .args .b .now) (c .before .before .before .before .before .before .args .c) (c .before .before .before .before .before .before .pre .0) (c .before .before .before .spot-of .ensures) (c .before .cells-of .ensures .0) in search needs
+
+rem-put-clause-2 : tie.Need-rem-put-clause-2
+rem-put-clause-2 c = let q = found (c .before .before .before .before .before .before .before .args .b .now) (c .before .before .before .before .before .before .before .args .c) (c .before .before .before .before .before .before .before .pre .0) (c .before .before .before .before .spot-of .ensures) (c .before .before .cells-of .ensures .0) in search needs
+
+put-clause-requires : tie.Need-put-clause-requires
+put-clause-requires c κs =
+    let q = found (c .before .before .before .before .before .before .before .args .b .now) (c .before .before .before .before .before .before .before .args .c) (c .before .before .before .before .before .before .before .pre .0) (c .before .before .before .before .spot-of .ensures) (c .before .before .cells-of .ensures .0) in
+    (c .before .before .before .before .before .before .before .pre .0, ((c .before .before .before .before .spot-of .ensures .seven, q .step, q .cell, q .inside), room-put (q .same) (c .before .before .before .before .before .before .before .pre .1 .1)))
 
 returns : tie.Need-returns
-returns c = rw ((c .before .before .before .spot-of .ensures (instanceOf (c .before .before .before .before .before .before .args .b .now) (c .before .before .before .before .before .before .args .c)) (sym (sizes-same (c .before .before .before .before .before .before .args .b .now) (c .before .before .before .before .before .before .args .c) (c .before .before .before .before .before .before .pre .0)))) .same) (c .before .put-clause .ensures)
+returns c = let q = found (c .before .before .before .before .before .before .before .before .before .args .b .now) (c .before .before .before .before .before .before .before .before .before .args .c) (c .before .before .before .before .before .before .before .before .before .pre .0) (c .before .before .before .before .before .before .spot-of .ensures) (c .before .before .before .before .cells-of .ensures .0) in wrote-put (q .same) _ _ (c .before .put-clause .ensures)
 
 pub put-number-spec : {M : Type 1} → statement M
-put-number-spec = tie.close (tie.spec spot-of-requires put-clause-requires same-length returns)
+put-number-spec =
+    tie.close
+    (tie.spec
+    spot-of-requires
+    div-block
+    cells-of-requires
+    div-put-clause
+    rem-put-clause
+    rem-put-clause-2
+    put-clause-requires
+    (λ c. search needs)
+    returns)
