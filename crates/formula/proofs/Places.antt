@@ -7,7 +7,7 @@ use native.Mathlib.Nat.{mul-one}
 use native.Mathlib.Decide.{decLt}
 use native.Mathlib.Omega.{arith}
 use lib.ListN.{length, getD}
-use Rattle.lists.specs.Loop.{for, sum}
+use Rattle.lists.specs.Loop.{for, sum, pairs}
 use Rattle.lists.proofs.Loops.{for-length, for-getD}
 use Rattle.lists.proofs.Blocks.{for1-length, for1-getD, cell-at}
 use Rattle.lists.proofs.Sums.{above-length, above-getD, others-length, others-below, others-above}
@@ -15,7 +15,6 @@ use Rattle.instance.specs.declared.Sizes.{Sizes}
 use Rattle.formula.specs.Variables.{Literal, ¬X}
 use Rattle.formula.specs.Formula.{Clause, noTwo, blockG}
 use Rattle.formula.specs.Blocks.{Given, family, steps, cells, block}
-use Rattle.formula.specs.Counts.{pairs}
 use Rattle.formula.proofs.Blocks.{family-flat}
 
 -- D and E: the pair v < w stands behind the pairs that begin below v

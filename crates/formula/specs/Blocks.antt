@@ -7,6 +7,7 @@ use lib.ListN.{getD}
 use Rattle.instance.specs.declared.Sizes.{Sizes}
 use Rattle.instance.specs.declared.Checked.{Checked}
 use Rattle.instance.specs.Instance.{Instance, adjacent}
+use Rattle.instance.specs.Accepted.{instanceOf}
 use Rattle.formula.specs.Formula.{Clause, A, B, C, D, E, F, G, blockA, blockB, blockC, blockD, blockE, blockF, blockG}
 
 -- what the families use
@@ -22,6 +23,10 @@ given I = record { sizes = I .sizes; start = I .start; goal = I .goal; near = ad
 
 abbrev pub held : Checked → (ℕ → ℕ → Bool) → Given
 held c near = record { sizes = c .sizes; start = λ a. getD (c .starts) a 0; goal = λ a. getD (c .goals) a 0; near = near }
+
+-- with the neighbours that the bytes b have
+abbrev pub heldBy : List ℕ → Checked → Given
+heldBy b c = held c (adjacent (instanceOf b c))
 
 -- How many times t a family has, and how many blocks for each: of an agent a, or of a vertex v. In the order A, B, C, D, E, F, G.
 module _ (s : Sizes) where

@@ -5,7 +5,7 @@ use Prim.Native.Nat.{ℕ, zero, suc, _+_, _-_, _≤_, _<_}
 use native.Mathlib.Decide.{decLt}
 use native.Mathlib.Numerals.{add-one}
 use native.Mathlib.Omega.{arith}
-use Rattle.lists.specs.Loop.{sum}
+use Rattle.lists.specs.Loop.{sum, pairs}
 use Rattle.lists.proofs.Sums.{pairs-all}
 use Rattle.one_clause.specs.Spot.{PairAt}
 

@@ -15,10 +15,10 @@ use Rattle.instance.specs.Instance.{Instance}
 use Rattle.instance.specs.Accepted.{Accepted, instanceOf}
 use Rattle.instance.proofs.Accepted.{sizes-same, start-at, goal-at}
 use Rattle.formula.specs.Formula.{Clause, clauses}
-use Rattle.formula.specs.Blocks.{Given, given, steps, cells, block, family}
+use Rattle.formula.specs.Blocks.{Given, given, steps, cells, block, family, heldBy}
 use Rattle.formula.proofs.Blocks.{clauses-families, Same, family-same}
 use Rattle.formula.proofs.Places.{family-length, family-getD}
-use Rattle.one_clause.specs.Spot.{count, countEach, Stands, heldOf}
+use Rattle.one_clause.specs.Spot.{count, countEach, Stands}
 use Rattle.one_clause.proofs.Clauses.{block-length}
 
 count-blocks : (s : Sizes) (j : ℕ) → count s j ≡ steps s j * cells s j * countEach s j
@@ -39,14 +39,14 @@ pub record Found (b : List ℕ) (c : Checked) (number j each width place : ℕ) 
   pub step : place / each / width < steps (c .sizes) j
   pub cell : place / each % width < cells (c .sizes) j
   pub inside : place % each < countEach (c .sizes) j
-  pub same : getD (clauses (instanceOf b c)) number [] ≡ getD (block (heldOf b c) j (place / each / width) (place / each % width)) (place % each) []
+  pub same : getD (clauses (instanceOf b c)) number [] ≡ getD (block (heldBy b c) j (place / each / width) (place / each % width)) (place % each) []
 
 module _ (b : List ℕ) (c : Checked) (w : Accepted b c) where
   abbrev I : Instance
   I = instanceOf b c
 
   abbrev g : Given
-  g = heldOf b c
+  g = heldBy b c
 
   families-held : clauses I ≡ for 7 (family g)
   families-held = clauses-families I ∙ for-ext 7 _ _ (λ j l. sym (family-same g (given I) same j))

@@ -4,14 +4,10 @@ use mathlib.Core.List.{List, [], _∷_}
 use Prim.Native.Nat.{ℕ, suc, _+_, _*_, _-_, _<_}
 use lib.ListN.{getD}
 use lib.IntN.{ℤ}
-use Rattle.lists.specs.Loop.{sum}
+use Rattle.lists.specs.Loop.{sum, pairs}
 use Rattle.instance.specs.declared.Sizes.{Sizes}
-use Rattle.instance.specs.declared.Checked.{Checked}
-use Rattle.instance.specs.Instance.{adjacent}
-use Rattle.instance.specs.Accepted.{instanceOf}
 use Rattle.formula.specs.Formula.{Clause, line}
-use Rattle.formula.specs.Blocks.{Given, held}
-use Rattle.formula.specs.Counts.{pairs, clausesBy}
+use Rattle.formula.specs.Counts.{clausesBy}
 
 -- How many clauses a family has, by its number, A 0 to G 6, and how many each of its blocks has.
 module _ (s : Sizes) where
@@ -42,7 +38,3 @@ pub record PairAt (n p low high : ℕ) : Type 0 where
 -- the line of the clause at a place
 abbrev pub lineAt : List Clause → ℕ → List ℤ
 lineAt clauses place = line (getD clauses place [])
-
--- what the families use of accepted bytes and their checked instance
-abbrev pub heldOf : List ℕ → Checked → Given
-heldOf b c = held c (adjacent (instanceOf b c))

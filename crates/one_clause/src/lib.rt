@@ -9,16 +9,16 @@ ghost use mathlib.Core.Path.{_≡_};
 ghost use mathlib.Core.List.{[], _∷_};
 ghost use Prim.Native.Nat.{suc, _*_, _-_, _≤_, _<_};
 ghost use lib.ListN.{length, getD, take};
-ghost use Rattle.lists.specs.Loop.{sum};
+ghost use Rattle.lists.specs.Loop.{sum, pairs};
 ghost use Rattle.lists.specs.Slice.{filled, Wrote};
 ghost use Rattle.instance.specs.Limits.{Limits};
 ghost use Rattle.instance.specs.Accepted.{Accepted, instanceOf};
 ghost use Rattle.formula.specs.Variables.{X};
 ghost use Rattle.formula.specs.Formula.{line, blockD, blockE, blockF, blockG, clauses};
-ghost use Rattle.formula.specs.Blocks.{steps, cells, block};
-ghost use Rattle.formula.specs.Counts.{pairs, clausesBy, total, clauseCount};
+ghost use Rattle.formula.specs.Blocks.{steps, cells, block, heldBy};
+ghost use Rattle.formula.specs.Counts.{clausesBy, total, clauseCount};
 ghost use Rattle.calls.specs.Calls.{clauseAnswer, clauseSlice};
-ghost use Rattle.one_clause.specs.Spot.{count, countEach, Stands, PairAt, lineAt, heldOf};
+ghost use Rattle.one_clause.specs.Spot.{count, countEach, Stands, PairAt, lineAt};
 
 // A family's number, A 0 to G 6; how many clauses each of its blocks has; a place in the family.
 pub struct Spot(pub usize, pub usize, pub usize);
@@ -140,8 +140,8 @@ fn put_e(f: &mut [i32], s: Sizes, t: Step, v: Vertex, p: usize) -> usize
 fn put_f(f: &mut [i32], b: &[u8], c: Checked, t: Step, a: Agent, v: usize) -> usize
     requires { ⌜ Accepted (now b) c ⌝ }
     requires { ⌜ (t .0 < c .sizes .m) × (a .0 < c .sizes .k) × (v < c .sizes .n) ⌝ }
-    requires { ⌜ length (lineAt (blockF (c .sizes) (heldOf (now b) c .near) (t .0) (a .0)) v) ≤ length (now f) ⌝ }
-    ensures { λ r. ⌜ Wrote (lineAt (blockF (c .sizes) (heldOf (now (b .entry)) c .near) (t .0) (a .0)) v) (now (f .entry)) (now (f .exit)) r ⌝ }
+    requires { ⌜ length (lineAt (blockF (c .sizes) (heldBy (now b) c .near) (t .0) (a .0)) v) ≤ length (now f) ⌝ }
+    ensures { λ r. ⌜ Wrote (lineAt (blockF (c .sizes) (heldBy (now (b .entry)) c .near) (t .0) (a .0)) v) (now (f .entry)) (now (f .exit)) r ⌝ }
 {
     let near = neighbours::row_of(b, c, v);
     clauses::put_onward(f, c.sizes, &near, 0, t, a, Vertex(v))
@@ -187,8 +187,8 @@ fn put_clause(
 ) -> usize
     requires { ⌜ Accepted (now b) c ⌝ }
     requires { ⌜ (which < 7) × (t < steps (c .sizes) which) × (x < cells (c .sizes) which) × (place < countEach (c .sizes) which) ⌝ }
-    requires { ⌜ length (lineAt (block (heldOf (now b) c) which t x) place) ≤ length (now f) ⌝ }
-    ensures { λ r. ⌜ Wrote (lineAt (block (heldOf (now (b .entry)) c) which t x) place) (now (f .entry)) (now (f .exit)) r ⌝ }
+    requires { ⌜ length (lineAt (block (heldBy (now b) c) which t x) place) ≤ length (now f) ⌝ }
+    ensures { λ r. ⌜ Wrote (lineAt (block (heldBy (now (b .entry)) c) which t x) place) (now (f .entry)) (now (f .exit)) r ⌝ }
 {
     let s = c.sizes;
     match which {

@@ -17,7 +17,7 @@ use Rattle.instance.specs.declared.Sizes.{Sizes}
 use Rattle.instance.specs.declared.Checked.{Checked}
 use Rattle.instance.specs.Instance.{Instance}
 use Rattle.formula.specs.Formula.{Clause, clauses}
-use Rattle.formula.specs.Blocks.{Given, given, steps, cells, block, family}
+use Rattle.formula.specs.Blocks.{Given, given, steps, cells, block, family, heldBy}
 use Rattle.formula.proofs.Blocks.{Same, family-blocks, family-same, clauses-families}
 use Rattle.plan.specs.Plan.{place}
 use Rattle.valuation.specs.Valuation.{true?, satisfied?, named}
@@ -26,7 +26,7 @@ use Rattle.valuation.proofs.Families.{places-cong, read-E}
 use Rattle.valuation.proofs.Entries.{named-places}
 use Rattle.instance.specs.Accepted.{Accepted, instanceOf}
 use Rattle.instance.proofs.Accepted.{sizes-same, start-at, goal-at}
-use Rattle.satisfaction.specs.Rows.{Fault, Read, heldBy, row, Before}
+use Rattle.satisfaction.specs.Rows.{Fault, Read, row, Before}
 use Rattle.satisfaction.proofs.Laws.{for-stop, fault-all}
 use Rattle.satisfaction.proofs.Truth.{length-D, length-E, length-F, length-G}
 

@@ -10,15 +10,12 @@ use lib.IntN.{ℤ, pos, negℤ}
 use Rattle.lists.specs.Loop.{for, all}
 use Rattle.answers.specs.Fault.{FirstFault}
 use Rattle.instance.specs.declared.Sizes.{Sizes}
-use Rattle.instance.specs.declared.Checked.{Checked}
-use Rattle.instance.specs.Instance.{adjacent}
 use Rattle.formula.specs.Variables.{X, variableCount}
 use Rattle.formula.specs.Formula.{Clause}
-use Rattle.formula.specs.Blocks.{Given, held, cells, family, block}
+use Rattle.formula.specs.Blocks.{Given, cells, family, block}
 use Rattle.plan.specs.Plan.{planBytes, place}
 use Rattle.valuation.specs.Valuation.{entry, sameNumber, true?, satisfied?}
 use Rattle.valuation.specs.Satisfying.{Valuation}
-use Rattle.instance.specs.Accepted.{instanceOf}
 
 -- r is the place of the first of the clauses without a true literal, or their number where each has one
 unfoldable pub Fault : List ℤ → List Clause → ℕ → Type 0
@@ -66,10 +63,6 @@ module _ (s : Sizes) where
     pub size : length p ≡ planBytes s
     pub valid : Valuation (variableCount s) entries
     pub cells : (t a : ℕ) → t < suc m → a < k → Seen n (λ v. true? entries (X s t a v)) (place s p t a)
-
--- what the families are given, as the code has it
-abbrev pub heldBy : List ℕ → Checked → Given
-heldBy b c = held c (adjacent (instanceOf b c))
 
 module _ (g : Given) where
   -- row t of the family with a number: its blocks of time t

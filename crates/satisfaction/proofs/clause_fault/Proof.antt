@@ -9,9 +9,9 @@ use lib.Dec.{T}
 use Rattle.lists.specs.Loop.{for, all}
 use Rattle.lists.proofs.Loops.{for-all}
 use Rattle.valuation.specs.Valuation.{satisfied?}
-use Rattle.formula.specs.Blocks.{steps, family}
+use Rattle.formula.specs.Blocks.{steps, family, heldBy}
 use Rattle.instance.proofs.Accepted.{limits-known}
-use Rattle.satisfaction.specs.Rows.{Before, heldBy, row}
+use Rattle.satisfaction.specs.Rows.{Before, row}
 use Rattle.satisfaction.proofs.Laws.{block-passed}
 use Rattle.satisfaction.proofs.Families.{in-families, next-family, all-families, whole}
 use Rattle.satisfaction.proofs.clause_fault.Statement.{statement}

@@ -4,10 +4,10 @@ use mathlib.Core.Path.{_≡_}
 use native.Mathlib.Omega.{arith}
 use lib.ListN.{getD}
 use Rattle.formula.specs.Variables.{X}
-use Rattle.formula.specs.Blocks.{steps, cells, block}
+use Rattle.formula.specs.Blocks.{steps, cells, block, heldBy}
 use Rattle.instance.specs.Limits.{Limits}
 use Rattle.instance.proofs.Accepted.{limits-known, starts-length, goals-length, starts-inside, goals-inside}
-use Rattle.satisfaction.specs.Rows.{heldBy, row}
+use Rattle.satisfaction.specs.Rows.{row}
 use Rattle.satisfaction.proofs.Bounds.{Products, products}
 use Rattle.satisfaction.proofs.Families.{last-family, size-A, size-B, size-C, size-D, size-E, size-F, size-G, places, apart}
 use Rattle.satisfaction.proofs.Truth.{units}
