@@ -4,10 +4,10 @@ use variables::Agent;
 use variables::Step;
 use variables::Vertex;
 ghost use mathlib.Core.Path.{_≡_};
+ghost use mathlib.Core.Bool.{cond};
 ghost use mathlib.Core.List.{[], _∷_};
 ghost use Prim.Native.Nat.{_+_, _≤_, _<_};
 ghost use lib.ListN.{length};
-ghost use Rattle.lists.specs.Loop.{when};
 ghost use Rattle.lists.specs.Slice.{Wrote};
 ghost use Rattle.formula.specs.Variables.{X, ¬X};
 ghost use Rattle.formula.specs.Formula.{line, somewhere, nearby, onward};
@@ -68,32 +68,32 @@ pub fn put_somewhere(f: &mut [i32], s: Sizes, t: Step, a: Agent) -> usize
     n + 1
 }
 
-// A literal where a test holds, nothing where it fails.
-fn put_when(f: &mut [i32], test: bool, x: i32) -> usize
-    requires { ⌜ 1 ≤ length (now f) ⌝ }
-    ensures { λ r. ⌜ Wrote (when test (x ∷ [])) (now (f .entry)) (now (f .exit)) r ⌝ }
+// 1 where a test holds, 0 where it fails.
+fn one_if(test: bool) -> usize
+    ensures { λ r. ⌜ r ≡ cond test 1 0 ⌝ }
 {
     if test {
-        f[0] = x;
         return 1;
     }
     0
 }
 
-// X(t,a,w) for each w that is marked, rising. There is a word more than they can take.
+// X(t,a,w) for each w that is marked, rising, and the 0. Each literal is stored, and the next one over it where its w is not marked,
+// so that the loop has no branch.
 fn put_near(f: &mut [i32], s: Sizes, near: &[u8], from: usize, t: Step, a: Agent) -> usize
     requires { ⌜ Limits s ⌝ }
     requires { ⌜ (t .0 ≤ s .m) × (a .0 < s .k) × (from + s .n ≤ length (now near)) ⌝ }
-    requires { ⌜ length (nearby s (marked (now near) from) (t .0) (a .0)) < length (now f) ⌝ }
-    ensures { λ r. ⌜ Wrote (nearby s (marked (now (near .entry)) from) (t .0) (a .0)) (now (f .entry)) (now (f .exit)) r ⌝ }
+    requires { ⌜ length (line (nearby s (marked (now near) from) (t .0) (a .0))) ≤ length (now f) ⌝ }
+    ensures { λ r. ⌜ Wrote (line (nearby s (marked (now (near .entry)) from) (t .0) (a .0))) (now (f .entry)) (now (f .exit)) r ⌝ }
 {
     let n = s.n;
     let mut at: usize = 0;
     for w in 0..n {
-        let test = near[from + w] == 1;
-        at += put_when(&mut f[at..], test, positive(s, t, a, Vertex(w)));
+        f[at] = positive(s, t, a, Vertex(w));
+        at += one_if(near[from + w] == 1);
     }
-    at
+    f[at] = 0;
+    at + 1
 }
 
 // A clause of family F: agent a at v at time t keeps v or goes to a vertex that is marked.
@@ -114,7 +114,5 @@ pub fn put_onward(
     let next = Step(t.0 + 1);
     f[0] = negative(s, t, a, v);
     f[1] = positive(s, next, a, v);
-    let at = 2 + put_near(&mut f[2..], s, near, from, next, a);
-    f[at] = 0;
-    at + 1
+    2 + put_near(&mut f[2..], s, near, from, next, a)
 }

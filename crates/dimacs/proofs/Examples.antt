@@ -6,12 +6,12 @@ use lib.Dec.{lit<, lit≤}
 use lib.IntN.{pos, negℤ}
 use Rattle.instance.specs.Instance.{instance, adjacent}
 use Rattle.formula.specs.Variables.{index}
-use Rattle.formula.specs.Formula.{A, B, C, D, E, F, G, clauses}
+use Rattle.formula.specs.Formula.{A, B, C, D, E, F, G, clauses, formula}
 use Rattle.dimacs.proofs.Laws.{decimal-one, decimal-more}
 use Rattle.dimacs.specs.Text.{digit, digits, decimal, signed, wordText, clauseText, headerText, refusalText, formulaText}
 
 -- two vertices, one agent, one edge, m 1: the nine lines, from "p cnf 4 8" to "-2 4 3 0"
-pub pair : formulaText (instance (2 ∷ 1 ∷ 1 ∷ 0 ∷ 0 ∷ 1 ∷ 0 ∷ 1 ∷ []) 1)
+pub pair : formulaText (formula (instance (2 ∷ 1 ∷ 1 ∷ 0 ∷ 0 ∷ 1 ∷ 0 ∷ 1 ∷ []) 1))
     ≡ 112 ∷ 32 ∷ 99 ∷ 110 ∷ 102 ∷ 32 ∷ 52 ∷ 32 ∷ 56 ∷ 10 ∷
     49 ∷ 32 ∷ 48 ∷ 10 ∷
     52 ∷ 32 ∷ 48 ∷ 10 ∷

@@ -17,7 +17,7 @@ use mir.Syntax.{w32, w64}
 use mir.Val.{Fits, SFits, toZ, ofZ}
 use mir.Facts.{toZ-ofZ}
 use Rattle.lists.specs.Loop.{for, each}
-use Rattle.lists.specs.Slice.{filled}
+use Rattle.lists.specs.Slice.{filled, Wrote}
 use Rattle.lists.proofs.Loops.{each-append}
 use Rattle.lists.proofs.Slices.{filled-set}
 use Rattle.dimacs.specs.Text.{digit, digits, decimal, ended, signed, after, wordText}
@@ -45,29 +45,12 @@ decimal-more zero h = absurd (let z : ⊥ = omega arith in z)
 decimal-more (suc x) h =
     rw (le-ltb (suc x) 10 h) (ap (λ (l : List ℕ). l ++ digit (suc x % 10) ∷ []) (fuel x (suc x / 10) (suc x / 10) (omega arith) (omega arith)))
 
-pub decimal-two : (x : ℕ) → 10 ≤ x → x < 100 → decimal x ≡ digit (x / 10) ∷ digit (x % 10) ∷ []
-decimal-two x h k = decimal-more x h ∙ ap (λ (l : List ℕ). l ++ digit (x % 10) ∷ []) (decimal-one (x / 10) (omega arith))
-
-pub decimal-three : (x : ℕ) → 100 ≤ x → x < 1000 → decimal x ≡ digit (x / 10 / 10) ∷ digit (x / 10 % 10) ∷ digit (x % 10) ∷ []
-decimal-three x h k =
-    decimal-more x (omega arith) ∙ ap (λ (l : List ℕ). l ++ digit (x % 10) ∷ []) (decimal-two (x / 10) (omega arith) (omega arith))
-
-pub decimal-four : (x : ℕ) → 1000 ≤ x → x < 10000
-    → decimal x ≡ digit (x / 10 / 10 / 10) ∷ digit (x / 10 / 10 % 10) ∷ digit (x / 10 % 10) ∷ digit (x % 10) ∷ []
-decimal-four x h k =
-    decimal-more x (omega arith) ∙ ap (λ (l : List ℕ). l ++ digit (x % 10) ∷ []) (decimal-three (x / 10) (omega arith) (omega arith))
-
-pub decimal-five : (x : ℕ) → 10000 ≤ x → x < 100000
-    → decimal x ≡ digit (x / 10 / 10 / 10 / 10) ∷ digit (x / 10 / 10 / 10 % 10) ∷ digit (x / 10 / 10 % 10) ∷ digit (x / 10 % 10) ∷ digit (x % 10) ∷ []
-decimal-five x h k =
-    decimal-more x (omega arith) ∙ ap (λ (l : List ℕ). l ++ digit (x % 10) ∷ []) (decimal-four (x / 10) (omega arith) (omega arith))
-
 -- one digit more behind those of a tenth
 pub length-more : (x : ℕ) → 10 ≤ x → length (decimal x) ≡ length (decimal (x / 10)) + 1
 length-more x h = ap length (decimal-more x h) ∙ length-append (decimal (x / 10)) _
 
 pub put-more : (x r : ℕ) (f l : List ℕ) → 10 ≤ x → r ≡ length (decimal (x / 10)) → length (decimal x) ≤ length l → f ≡ filled (decimal (x / 10)) l
-    → (r + 1 ≡ length (decimal x)) × (set f r (digit (x % 10)) ≡ filled (decimal x) l)
+    → Wrote (decimal x) l (set f r (digit (x % 10))) (r + 1)
 put-more x r f l h er hr ef =
     let n = length-more x h in (
       omega arith,
@@ -89,40 +72,35 @@ length-most (suc w) x h =
 pub length-any : (x : ℕ) → x < 2 ^ 64 → length (decimal x) ≤ 20
 length-any x h = length-most 19 x (omega arith)
 
-pub length-word : (x : ℕ) → x ≤ 2147483648 → length (decimal x) ≤ 10
-length-word x h = length-most 9 x (omega arith)
-
 -- one byte behind a number
 pub put-after : (x b r : ℕ) (f l : List ℕ) → r ≡ length (decimal x) → length (decimal x) < length l → f ≡ filled (decimal x) l
-    → (r + 1 ≡ length (ended x b)) × (set f r b ≡ filled (ended x b) l)
-put-after x b r f l er h ef = (
-  rw (length-append, er),
-  ap (λ (g : List ℕ). set g r b) ef ∙ filled-set (decimal x) l r b 0 (sym er) (omega arith),
+    → x < 2 ^ 64 → Wrote (ended x b) l (set f r b) (r + 1) × (r + 1 ≤ 21)
+put-after x b r f l er h ef k = (
+  (rw (length-append, er), ap (λ (g : List ℕ). set g r b) ef ∙ filled-set (decimal x) l r b 0 (sym er) (omega arith)),
+  omega (arith, length-any x k),
 )
 
 -- ---- words
-pub word-negative : (w : ℤ) → ltZ w (pos 0) ≡ true → wordText w ≡ (45 ∷ []) ++ ended (natAbs w) 32
+pub word-size : (x : ℕ) → wordText (pos x) ≡ ended x (after (pos x))
+unfolding wordText signed
+word-size x = refl
+
+pub length-word : (w x : ℕ) → x < 10 ^ suc w → length (wordText (pos x)) ≤ suc (suc w)
+length-word w x h = omega (arith, ap length (word-size x), length-append (decimal x) (after (pos x) ∷ []), length-most w x h)
+
+pub word-negative : (w : ℤ) → ltZ w (pos 0) ≡ true → wordText w ≡ (45 ∷ []) ++ wordText (pos (natAbs w))
 unfolding wordText signed
 word-negative (pos zero) e = let z : _≡_ {A = ℕ} 0 1 = cc in absurd (let f : ⊥ = omega arith in f)
 word-negative (pos (suc n)) e = absurd (let h = ltb-true (suc n) 0 e in let f : ⊥ = omega arith in f)
 word-negative (negsuc n) e = refl
 
-pub word-zero : (w : ℤ) → natAbs w ≡ 0 → wordText w ≡ ended (natAbs w) 10
-unfolding wordText signed
-word-zero (pos zero) e = refl
-word-zero (pos (suc n)) e = absurd (let f : ⊥ = omega arith in f)
-word-zero (negsuc n) e = absurd (let f : ⊥ = omega arith in f)
+pub word-positive : (w : ℤ) → ltZ w (pos 0) ≡ false → w ≡ pos (natAbs w)
+word-positive (pos n) e = refl
+word-positive (negsuc n) e = let z : _≡_ {A = ℕ} 0 1 = cc in absurd (let f : ⊥ = omega arith in f)
 
-pub word-positive : (w : ℤ) → ltZ w (pos 0) ≡ false → (natAbs w ≡ 0 → ⊥) → wordText w ≡ ended (natAbs w) 32
-unfolding wordText signed
-word-positive (pos zero) e d = absurd (d refl)
-word-positive (pos (suc n)) e d = refl
-word-positive (negsuc n) e d = let z : _≡_ {A = ℕ} 0 1 = cc in absurd (let f : ⊥ = omega arith in f)
-
-pub length-word-text : (w : ℤ) → SFits w32 w → length (wordText w) ≤ 12
-unfolding wordText signed
-length-word-text (pos x) f = omega (arith, length-append (decimal x) (after (pos x) ∷ []), length-word x (omega (arith, f .sfits)))
-length-word-text (negsuc x) f = omega (arith, length-append (45 ∷ decimal (suc x)) (32 ∷ []), length-word (suc x) (omega (arith, f .sfits)))
+pub end-space : (x : ℕ) → (x ≡ 0 → ⊥) → 32 ≡ after (pos x)
+end-space zero d = absurd (d refl)
+end-space (suc x) d = refl
 
 -- a loop over the elements of a list
 pub each-element : {A B : Type 0} (g : A → List B) (l : List A) (d : A) (i : ℕ) → i ≤ length l → for i (λ j. g (getD l j d)) ≡ each g (take i l)

@@ -1,4 +1,5 @@
--- Laws of the text, what it says, and examples.
+-- Laws of the text and of its table, what the text says, and examples.
 pub mod Laws
+pub mod Table
 pub mod Reading
 pub mod Examples

@@ -16,7 +16,7 @@ use Rattle.lists.proofs.Loops.{all-append, for-all, when-all, one-all, each-app
 use Rattle.instance.specs.declared.Sizes.{Sizes}
 use Rattle.instance.specs.Instance.{Instance, adjacent}
 use Rattle.formula.specs.Variables.{variableCount}
-use Rattle.formula.specs.Formula.{Clause, A, B, C, D, E, F, G, clauses, line, words}
+use Rattle.formula.specs.Formula.{Clause, A, B, C, D, E, F, G, clauses, formula, line, words}
 use Rattle.formula.specs.Counts.{clauseCount}
 use Rattle.formula.proofs.Counts.{clause-count}
 use Rattle.dimacs.specs.Text.{digit, digits, decimal, signed, wordText, wordsText, clauseText, headerText, formulaText, readOn}
@@ -152,11 +152,11 @@ module _ (I : Instance) where
       simp all-append ((((((literals-A, literals-B), literals-C), literals-D), literals-E), literals-F), literals-G)
 
   -- the text of the formula's words is a line a clause
-  pub formula-lines : wordsText (words I) ≡ each clauseText (clauses I)
+  pub formula-lines : wordsText (words (formula I)) ≡ each clauseText (clauses I)
   unfolding words
   formula-lines = clauses-lines (clauses I) literals
 
   -- what the program prints: the header with the closed count, then the text of the words
-  pub formula-text : formulaText I ≡ headerText (variableCount sizes) (clauseCount sizes) ++ wordsText (words I)
+  pub formula-text : formulaText (formula I) ≡ headerText (variableCount sizes) (clauseCount sizes) ++ wordsText (words (formula I))
   unfolding formulaText
   formula-text = ap₂ (λ (c : ℕ) (l : List ℕ). headerText (variableCount sizes) c ++ l) (clause-count I) (sym formula-lines)

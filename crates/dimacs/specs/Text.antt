@@ -6,9 +6,7 @@ use lib.Dec.{ltb}
 use lib.IntN.{ℤ, pos, negsuc}
 use lib.ListN.{length}
 use Rattle.lists.specs.Loop.{each}
-use Rattle.instance.specs.Instance.{Instance}
-use Rattle.formula.specs.Variables.{variableCount}
-use Rattle.formula.specs.Formula.{Clause, clauses}
+use Rattle.formula.specs.Formula.{Clause, Formula}
 
 -- the digit d, below 10: 0 is byte 48
 abbrev pub digit : ℕ → ℕ
@@ -58,9 +56,9 @@ unfoldable pub refusalText : ℕ → ℕ → List ℕ
 refusalText number place =
     (99 ∷ 32 ∷ 114 ∷ 101 ∷ 102 ∷ 117 ∷ 115 ∷ 101 ∷ 100 ∷ 32 ∷ []) ++ (ended number 32 ++ ended place 10)
 
--- what is printed of an accepted instance: the header, with N and the clause count, then a line a clause
-unfoldable pub formulaText : Instance → List ℕ
-formulaText I = headerText (variableCount (I .sizes)) (length (clauses I)) ++ each clauseText (clauses I)
+-- what is printed of a formula: the header, with its variables and its clause count, then a line a clause
+unfoldable pub formulaText : Formula → List ℕ
+formulaText f = headerText (f .variables) (length (f .clauses)) ++ each clauseText (f .clauses)
 
 -- The number that digits say, read from the first to the last, after those that say x.
 abbrev pub readOn : ℕ → List ℕ → ℕ

@@ -1,29 +1,29 @@
 // The writers of the families. Each writes the words of its clauses to the start of the slice that it is lent, and answers how
-// many they are: the next begin at the word after them. A family is its blocks, a block its groups, and only `write_group` asks
-// which family it is.
-use instance::Checked;
+// many they are: the next begin at the word after them. A family is its blocks, and only `write_block` asks which family it is.
 use instance::Sizes;
 use variables::Agent;
 use variables::Step;
+use variables::Variable;
 use variables::Vertex;
 ghost use mathlib.Core.Path.{_≡_};
 ghost use mathlib.Core.List.{[], _∷_};
-ghost use Prim.Native.Nat.{_≤_, _<_};
+ghost use Prim.Native.Nat.{_+_, _*_, _≤_, _<_};
 ghost use lib.ListN.{length, getD};
 ghost use Rattle.lists.specs.Loop.{for, each};
 ghost use Rattle.lists.specs.Slice.{Wrote};
-ghost use Rattle.formula.specs.Variables.{X};
-ghost use Rattle.formula.specs.Formula.{line, groupD, groupE, groupG};
-ghost use Rattle.formula.specs.Blocks.{steps, cells, groups, group, block, family};
+ghost use Rattle.formula.specs.Variables.{X, highest};
+ghost use Rattle.formula.specs.Formula.{line, noTwo, blockD, blockE, blockF, blockG};
+ghost use Rattle.formula.specs.Blocks.{steps, cells, block, family};
 ghost use Rattle.instance.specs.Limits.{Limits};
-ghost use Rattle.families.specs.Held.{held, Ready, Counted};
+ghost use Rattle.clauses.specs.Lines.{marked};
+ghost use Rattle.families.specs.Held.{heldIn, Ready};
+ghost use Rattle.families.specs.Runs.{nots, above, apart};
 
-// A family: its number, and how many values its three indexes have.
-pub struct Family {
-    pub which: usize,
-    pub steps: usize,
-    pub cells: usize,
-    pub groups: usize,
+// Variables at one distance from each to the next.
+pub struct Run {
+    pub first: usize,
+    pub stride: usize,
+    pub count: usize,
 }
 
 // A byte as a vertex.
@@ -34,58 +34,107 @@ fn vertex(x: u8) -> Vertex
 }
 
 // A and B, of agent a: it is at time t where its byte of a row says.
-fn write_unit(f: &mut [i32], s: Sizes, t: Step, row: [u8; 16], a: Agent) -> usize
+fn write_unit(f: &mut [i32], s: Sizes, t: Step, row: &[u8; 16], a: Agent) -> usize
     requires { ⌜ Limits s ⌝ }
-    requires { ⌜ (t .0 ≤ s .m) × (a .0 < s .k) × (getD row (a .0) 0 < s .n) × (2 ≤ length (now f)) ⌝ }
-    ensures { λ r. ⌜ Wrote (line (X s (t .0) (a .0) (getD row (a .0) 0) ∷ [])) (now (f .entry)) (now (f .exit)) r ⌝ }
+    requires { ⌜ (t .0 ≤ s .m) × (a .0 < s .k) × (getD (now row) (a .0) 0 < s .n) × (2 ≤ length (now f)) ⌝ }
+    ensures { λ r. ⌜ Wrote (line (X s (t .0) (a .0) (getD (now (row .entry)) (a .0) 0) ∷ [])) (now (f .entry)) (now (f .exit)) r ⌝ }
 {
     let i = a.0;
     let v = vertex(row[i]);
     clauses::put_unit(f, clauses::positive(s, t, a, v))
 }
 
-// D, of time t, agent a and lower vertex v.
-fn write_d(f: &mut [i32], s: Sizes, t: Step, a: Agent, v: Vertex) -> usize
+// The negation of variable i of a run.
+fn not_in(run: Run, i: usize) -> i32
+    requires { ⌜ run .first + i * run .stride ≤ highest ⌝ }
+    ensures { λ r. ⌜ r ≡ nots run i ⌝ }
+{
+    variables::negation_of(Variable(run.first + i * run.stride))
+}
+
+// Of a run, i and each that comes after it do not both hold.
+fn write_above(f: &mut [i32], run: Run, i: usize) -> usize
+    requires { ⌜ (i < run .count) × (run .first + run .count * run .stride ≤ highest) ⌝ }
+    requires { ⌜ length (each line (for (run .count) (above (nots run) i))) ≤ length (now f) ⌝ }
+    ensures { λ r. ⌜ Wrote (each line (for (run .count) (above (nots run) i))) (now (f .entry)) (now (f .exit)) r ⌝ }
+{
+    let end = run.count;
+    let next = i + 1;
+    let x = not_in(run, i);
+    let mut at: usize = 0;
+    for j in next..end {
+        at += clauses::put_pair(&mut f[at..], x, not_in(run, j));
+    }
+    at
+}
+
+// No two of a run hold.
+fn write_no_two(f: &mut [i32], run: Run) -> usize
+    requires { ⌜ run .first + run .count * run .stride ≤ highest ⌝ }
+    requires { ⌜ length (each line (noTwo (run .count) (nots run))) ≤ length (now f) ⌝ }
+    ensures { λ r. ⌜ Wrote (each line (noTwo (run .count) (nots run))) (now (f .entry)) (now (f .exit)) r ⌝ }
+{
+    let end = run.count;
+    let mut at: usize = 0;
+    for i in 0..end {
+        at += write_above(&mut f[at..], run, i);
+    }
+    at
+}
+
+// D, of time t and agent a: the vertices are a run.
+fn write_d(f: &mut [i32], s: Sizes, t: Step, a: Agent) -> usize
     requires { ⌜ Limits s ⌝ }
-    requires { ⌜ (t .0 ≤ s .m) × (a .0 < s .k) × (v .0 < s .n) ⌝ }
-    requires { ⌜ length (each line (groupD s (t .0) (a .0) (v .0))) ≤ length (now f) ⌝ }
-    ensures { λ r. ⌜ Wrote (each line (groupD s (t .0) (a .0) (v .0))) (now (f .entry)) (now (f .exit)) r ⌝ }
+    requires { ⌜ (t .0 ≤ s .m) × (a .0 < s .k) ⌝ }
+    requires { ⌜ length (each line (blockD s (t .0) (a .0))) ≤ length (now f) ⌝ }
+    ensures { λ r. ⌜ Wrote (each line (blockD s (t .0) (a .0))) (now (f .entry)) (now (f .exit)) r ⌝ }
+{
+    let first = variables::variable_of(s, t, a, Vertex(0));
+    let run = Run {
+        first: first.0,
+        stride: 1,
+        count: s.n,
+    };
+    write_no_two(f, run)
+}
+
+// E, of time t and vertex v: the agents are a run.
+fn write_e(f: &mut [i32], s: Sizes, t: Step, v: Vertex) -> usize
+    requires { ⌜ Limits s ⌝ }
+    requires { ⌜ (t .0 ≤ s .m) × (v .0 < s .n) ⌝ }
+    requires { ⌜ length (each line (blockE s (t .0) (v .0))) ≤ length (now f) ⌝ }
+    ensures { λ r. ⌜ Wrote (each line (blockE s (t .0) (v .0))) (now (f .entry)) (now (f .exit)) r ⌝ }
+{
+    let first = variables::variable_of(s, t, Agent(0), v);
+    let run = Run {
+        first: first.0,
+        stride: s.n,
+        count: s.k,
+    };
+    write_no_two(f, run)
+}
+
+// F, of time t and agent a. Row v of the table is 64 bytes.
+fn write_f(f: &mut [i32], s: Sizes, table: &[u8], t: Step, a: Agent) -> usize
+    requires { ⌜ Limits s ⌝ }
+    requires { ⌜ (t .0 < s .m) × (a .0 < s .k) × (4096 ≤ length (now table)) ⌝ }
+    requires { ⌜ length (each line (blockF s (λ v. marked (now table) (64 * v)) (t .0) (a .0))) ≤ length (now f) ⌝ }
+    ensures { λ r. ⌜ Wrote (each line (blockF s (λ v. marked (now (table .entry)) (64 * v)) (t .0) (a .0))) (now (f .entry)) (now (f .exit)) r ⌝ }
 {
     let n = s.n;
-    let low = v.0;
-    let next = low + 1;
-    let x = clauses::negative(s, t, a, v);
     let mut at: usize = 0;
-    for w in next..n {
-        at += clauses::put_pair(&mut f[at..], x, clauses::negative(s, t, a, Vertex(w)));
+    for v in 0..n {
+        at += clauses::put_onward(&mut f[at..], s, table, 64 * v, t, a, Vertex(v));
     }
     at
 }
 
-// E, of time t, vertex v and lower agent a.
-fn write_e(f: &mut [i32], s: Sizes, t: Step, v: Vertex, a: Agent) -> usize
-    requires { ⌜ Limits s ⌝ }
-    requires { ⌜ (t .0 ≤ s .m) × (v .0 < s .n) × (a .0 < s .k) ⌝ }
-    requires { ⌜ length (each line (groupE s (t .0) (v .0) (a .0))) ≤ length (now f) ⌝ }
-    ensures { λ r. ⌜ Wrote (each line (groupE s (t .0) (v .0) (a .0))) (now (f .entry)) (now (f .exit)) r ⌝ }
-{
-    let k = s.k;
-    let low = a.0;
-    let next = low + 1;
-    let x = clauses::negative(s, t, a, v);
-    let mut at: usize = 0;
-    for b in next..k {
-        at += clauses::put_pair(&mut f[at..], x, clauses::negative(s, t, Agent(b), v));
-    }
-    at
-}
-
-// G, of time t and agents a and b, where they are two.
-fn write_g(f: &mut [i32], s: Sizes, t: Step, a: Agent, b: Agent) -> usize
+// Of G, time t and agents a and b: where they are two, a does not go where b was.
+fn write_apart(f: &mut [i32], s: Sizes, t: Step, a: Agent, b: Agent) -> usize
     requires { ⌜ Limits s ⌝ }
     requires { ⌜ (t .0 < s .m) × (a .0 < s .k) × (b .0 < s .k) ⌝ }
-    requires { ⌜ length (each line (groupG s (t .0) (a .0) (b .0))) ≤ length (now f) ⌝ }
-    ensures { λ r. ⌜ Wrote (each line (groupG s (t .0) (a .0) (b .0))) (now (f .entry)) (now (f .exit)) r ⌝ }
+    requires { ⌜ length (each line (apart s (t .0) (a .0) (b .0))) ≤ length (now f) ⌝ }
+    ensures { λ r. ⌜ Wrote (each line (apart s (t .0) (a .0) (b .0))) (now (f .entry)) (now (f .exit)) r ⌝ }
 {
     if a.0 == b.0 {
         return 0;
@@ -103,135 +152,89 @@ fn write_g(f: &mut [i32], s: Sizes, t: Step, a: Agent, b: Agent) -> usize
     at
 }
 
-// Group y of a family's block of t and x. Row y of the table is 64 bytes.
-fn write_group(
-    f: &mut [i32],
-    c: Checked,
-    table: &[u8],
-    which: usize,
-    t: usize,
-    x: usize,
-    y: usize,
-) -> usize
-    requires { ⌜ Ready c (now table) ⌝ }
-    requires { ⌜ (which < 7) × (t < steps (c .sizes) which) × (x < cells (c .sizes) which) × (y < groups (c .sizes) which) ⌝ }
-    requires { ⌜ length (each line (group (held c (now table)) which t x y)) ≤ length (now f) ⌝ }
-    ensures { λ r. ⌜ Wrote (each line (group (held c (now (table .entry))) which t x y)) (now (f .entry)) (now (f .exit)) r ⌝ }
-{
-    let s = c.sizes;
-    match which {
-        0 => {
-            let starts = c.starts;
-            write_unit(f, s, Step(0), starts, Agent(y))
-        }
-        1 => {
-            let goals = c.goals;
-            write_unit(f, s, Step(s.m), goals, Agent(y))
-        }
-        2 => clauses::put_somewhere(f, s, Step(t), Agent(x)),
-        3 => write_d(f, s, Step(t), Agent(x), Vertex(y)),
-        4 => write_e(f, s, Step(t), Vertex(x), Agent(y)),
-        5 => clauses::put_onward(f, s, table, 64 * y, Step(t), Agent(x), Vertex(y)),
-        _ => write_g(f, s, Step(t), Agent(x), Agent(y)),
-    }
-}
-
-// The family with a number, A 0 to G 6.
-pub fn family_of(s: Sizes, which: usize) -> Family
+// G, of time t and agent a.
+fn write_g(f: &mut [i32], s: Sizes, t: Step, a: Agent) -> usize
     requires { ⌜ Limits s ⌝ }
-    requires { ⌜ which < 7 ⌝ }
-    ensures { λ r. ⌜ (r .which ≡ which) × Counted s r ⌝ }
+    requires { ⌜ (t .0 < s .m) × (a .0 < s .k) ⌝ }
+    requires { ⌜ length (each line (blockG s (t .0) (a .0))) ≤ length (now f) ⌝ }
+    ensures { λ r. ⌜ Wrote (each line (blockG s (t .0) (a .0))) (now (f .entry)) (now (f .exit)) r ⌝ }
 {
-    let n = s.n;
     let k = s.k;
-    let m = s.m;
-    match which {
-        0 => Family {
-            which,
-            steps: 1,
-            cells: 1,
-            groups: k,
-        },
-        1 => Family {
-            which,
-            steps: 1,
-            cells: 1,
-            groups: k,
-        },
-        2 => Family {
-            which,
-            steps: m + 1,
-            cells: k,
-            groups: 1,
-        },
-        3 => Family {
-            which,
-            steps: m + 1,
-            cells: k,
-            groups: n,
-        },
-        4 => Family {
-            which,
-            steps: m + 1,
-            cells: n,
-            groups: k,
-        },
-        5 => Family {
-            which,
-            steps: m,
-            cells: k,
-            groups: n,
-        },
-        _ => Family {
-            which,
-            steps: m,
-            cells: k,
-            groups: k,
-        },
-    }
-}
-
-// The block of t and x of a family.
-pub fn write_block(f: &mut [i32], c: Checked, table: &[u8], g: Family, t: usize, x: usize) -> usize
-    requires { ⌜ Ready c (now table) × Counted (c .sizes) g ⌝ }
-    requires { ⌜ (t < g .steps) × (x < g .cells) ⌝ }
-    requires { ⌜ length (each line (block (held c (now table)) (g .which) t x)) ≤ length (now f) ⌝ }
-    ensures { λ r. ⌜ Wrote (each line (block (held c (now (table .entry))) (g .which) t x)) (now (f .entry)) (now (f .exit)) r ⌝ }
-{
-    let which = g.which;
-    let end = g.groups;
     let mut at: usize = 0;
-    for y in 0..end {
-        at += write_group(&mut f[at..], c, table, which, t, x, y);
+    for b in 0..k {
+        at += write_apart(&mut f[at..], s, t, a, Agent(b));
     }
     at
 }
 
-// The blocks of t.
-fn write_step(f: &mut [i32], c: Checked, table: &[u8], g: Family, t: usize) -> usize
-    requires { ⌜ Ready c (now table) × Counted (c .sizes) g ⌝ }
-    requires { ⌜ t < g .steps ⌝ }
-    requires { ⌜ length (each line (for (g .cells) (block (held c (now table)) (g .which) t))) ≤ length (now f) ⌝ }
-    ensures { λ r. ⌜ Wrote (each line (for (g .cells) (block (held c (now (table .entry))) (g .which) t))) (now (f .entry)) (now (f .exit)) r ⌝ }
+// A family's block of t and x.
+pub fn write_block(
+    f: &mut [i32],
+    s: Sizes,
+    starts: &[u8; 16],
+    goals: &[u8; 16],
+    table: &[u8],
+    which: usize,
+    t: usize,
+    x: usize,
+) -> usize
+    requires { ⌜ Ready (heldIn s (now starts) (now goals) (now table)) × (4096 ≤ length (now table)) ⌝ }
+    requires { ⌜ (which < 7) × (t < steps s which) × (x < cells s which) ⌝ }
+    requires { ⌜ length (each line (block (heldIn s (now starts) (now goals) (now table)) which t x)) ≤ length (now f) ⌝ }
+    ensures { λ r. ⌜ Wrote (each line (block (heldIn s (now (starts .entry)) (now (goals .entry)) (now (table .entry))) which t x)) (now (f .entry)) (now (f .exit)) r ⌝ }
 {
-    let end = g.cells;
+    match which {
+        0 => write_unit(f, s, Step(0), starts, Agent(x)),
+        1 => write_unit(f, s, Step(s.m), goals, Agent(x)),
+        2 => clauses::put_somewhere(f, s, Step(t), Agent(x)),
+        3 => write_d(f, s, Step(t), Agent(x)),
+        4 => write_e(f, s, Step(t), Vertex(x)),
+        5 => write_f(f, s, table, Step(t), Agent(x)),
+        _ => write_g(f, s, Step(t), Agent(x)),
+    }
+}
+
+// The blocks of t.
+fn write_step(
+    f: &mut [i32],
+    s: Sizes,
+    starts: &[u8; 16],
+    goals: &[u8; 16],
+    table: &[u8],
+    which: usize,
+    t: usize,
+) -> usize
+    requires { ⌜ Ready (heldIn s (now starts) (now goals) (now table)) × (4096 ≤ length (now table)) ⌝ }
+    requires { ⌜ (which < 7) × (t < steps s which) ⌝ }
+    requires { ⌜ length (each line (for (cells s which) (block (heldIn s (now starts) (now goals) (now table)) which t))) ≤ length (now f) ⌝ }
+    ensures { λ r. ⌜ Wrote (each line (for (cells s which) (block (heldIn s (now (starts .entry)) (now (goals .entry)) (now (table .entry))) which t))) (now (f .entry)) (now (f .exit)) r ⌝ }
+{
+    let end = counts::cells_of(s, which);
     let mut at: usize = 0;
     for x in 0..end {
-        at += write_block(&mut f[at..], c, table, g, t, x);
+        at += write_block(&mut f[at..], s, starts, goals, table, which, t, x);
     }
     at
 }
 
 // A family.
-pub fn write_family(f: &mut [i32], c: Checked, table: &[u8], g: Family) -> usize
-    requires { ⌜ Ready c (now table) × Counted (c .sizes) g ⌝ }
-    requires { ⌜ length (each line (family (held c (now table)) (g .which))) ≤ length (now f) ⌝ }
-    ensures { λ r. ⌜ Wrote (each line (family (held c (now (table .entry))) (g .which))) (now (f .entry)) (now (f .exit)) r ⌝ }
+pub fn write_family(
+    f: &mut [i32],
+    s: Sizes,
+    starts: &[u8; 16],
+    goals: &[u8; 16],
+    table: &[u8],
+    which: usize,
+) -> usize
+    requires { ⌜ Ready (heldIn s (now starts) (now goals) (now table)) × (4096 ≤ length (now table)) ⌝ }
+    requires { ⌜ which < 7 ⌝ }
+    requires { ⌜ length (each line (family (heldIn s (now starts) (now goals) (now table)) which)) ≤ length (now f) ⌝ }
+    ensures { λ r. ⌜ Wrote (each line (family (heldIn s (now (starts .entry)) (now (goals .entry)) (now (table .entry))) which)) (now (f .entry)) (now (f .exit)) r ⌝ }
 {
-    let end = g.steps;
+    let end = counts::steps_of(s, which);
     let mut at: usize = 0;
     for t in 0..end {
-        at += write_step(&mut f[at..], c, table, g, t);
+        at += write_step(&mut f[at..], s, starts, goals, table, which, t);
     }
     at
 }

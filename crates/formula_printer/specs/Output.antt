@@ -5,13 +5,14 @@ use Prim.Native.Nat.{ℕ}
 use lib.ListN.{getD, take, drop}
 use Rattle.answers.specs.Answers.{byNumber}
 use Rattle.instance.specs.Instance.{instance}
+use Rattle.formula.specs.Formula.{formula}
 use Rattle.dimacs.specs.Text.{formulaText, refusalText}
 use Rattle.instance.specs.Questions.{instanceAnswer}
 
 -- of an instance and a horizon: the formula's text, or the one line of a refusal
 unfoldable pub answerText : List ℕ → ℕ → List ℕ
 answerText b m =
-    byNumber (instanceAnswer b m .number) (formulaText (instance b m))
+    byNumber (instanceAnswer b m .number) (formulaText (formula (instance b m)))
     (refusalText (instanceAnswer b m .number) (instanceAnswer b m .second))
 
 -- of an input: one byte m, then the instance; an empty one counts as m 0 and an empty instance

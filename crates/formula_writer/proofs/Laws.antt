@@ -1,7 +1,7 @@
 -- The words that are written are the formula's, and the answer is the definition's.
-use mathlib.Core.Path.{_≡_, refl, sym, _∙_, ap, ap₂}
+use mathlib.Core.Path.{_≡_, sym, _∙_, ap}
 use mathlib.Core.Logic.{_≢_}
-use mathlib.Core.List.{List, [], _∷_, _++_}
+use mathlib.Core.List.{List, []}
 use Prim.Native.Nat.{ℕ, _*_, _≤_, _<_}
 use native.Mathlib.Omega.{arith}
 use lib.IntN.{ℤ}
@@ -13,104 +13,76 @@ use Rattle.lists.proofs.Tests.{leb-iff}
 use Rattle.lists.proofs.Loops.{for-ext}
 use Rattle.answers.specs.declared.Answer.{Answer}
 use Rattle.answers.specs.Answers.{refuse, accept, decide, withClauses}
-use Rattle.answers.proofs.Laws.{ask-yes, ask-no, byNumber-refused, lent-accepted, lent-refused}
+use Rattle.answers.proofs.Laws.{ask-yes, ask-no, byNumber-accepted, byNumber-refused, lent-accepted, lent-refused}
 use Rattle.instance.specs.declared.Checked.{Checked}
 use Rattle.instance.specs.Instance.{Instance, instance, adjacent}
-use Rattle.formula.specs.Formula.{clauses, line, words}
+use Rattle.instance.specs.Accepted.{Accepted, instanceOf}
+use Rattle.instance.proofs.Accepted.{sizes-same, graph, start-at, goal-at, limits-known, starts-inside, goals-inside}
+use Rattle.formula.specs.Formula.{clauses, formula, line, words}
 use Rattle.formula.specs.Counts.{clauseCount, wordCount}
+use Rattle.formula.specs.Blocks.{Given, given, family}
 use Rattle.formula.proofs.Counts.{clause-count, word-count}
-use Rattle.formula.specs.Blocks.{given, family}
 use Rattle.formula.proofs.Blocks.{clauses-families, Same, family-same}
 use Rattle.clauses.specs.Lines.{marked}
-use Rattle.families.specs.Held.{held, Ready}
-use Rattle.calls.specs.Questions.{question12}
-use Rattle.instance.specs.Questions.{instanceQuestions, instanceAnswer, instanceChecked}
-use Rattle.calls.specs.Calls.{writeAnswer, writeSlice}
-use Rattle.instance.specs.Accepted.{Accepted, instanceOf}
-use Rattle.instance.proofs.Instance.{first-refused, first-passed}
-use Rattle.instance.proofs.Accepted.{accepted, horizon-of, sizes-same, graph, start-at, goal-at, limits-known, starts-inside, goals-inside}
+use Rattle.families.specs.Held.{heldIn, Ready}
+use Rattle.calls.specs.Calls.{writeRest, writeQuestions, writeAnswer, writeSlice}
 
 module _ (b : List ℕ) (c : Checked) (w : Accepted b c) where
   abbrev I : Instance
   I = instanceOf b c
 
-  module _ (table : List ℕ) (near : (v x : ℕ) → v < c .sizes .n → x < c .sizes .n → marked table (64 * v) x ≡ adjacent I v x) where
-    pub words-held : words I ≡ each line (for 7 (family (held c table)))
-    unfolding words
-    words-held =
-        ap (each line) (clauses-families I ∙ for-ext 7 _ _ (λ j l. sym (family-same (held c table) (given I) same j)))
-      where
-        same : Same (held c table) (given I)
-        same = record { sizes = sizes-same b c w; start = start-at b c w; goal = goal-at b c w; near = near }
+  abbrev held : List ℕ → Given
+  held table = heldIn (c .sizes) (c .starts) (c .goals) table
 
-    pub ready : 4096 ≤ length table → Ready c table
-    ready h =
-        record {
-          limits = limits-known b c w;
-          starts = starts-inside b c w;
-          goals = goals-inside b c w;
-          rows = h;
-        }
+  pub words-held : (table : List ℕ) → ((v x : ℕ) → v < c .sizes .n → x < c .sizes .n → marked table (64 * v) x ≡ adjacent I v x)
+      → words (formula I) ≡ each line (for 7 (family (held table)))
+  unfolding words
+  words-held table near = ap (each line) (clauses-families I ∙ for-ext 7 _ _ (λ j l. sym (family-same (held table) (given I) same j)))
+    where
+      same : Same (held table) (given I)
+      same = record { sizes = sizes-same b c w; start = start-at b c w; goal = goal-at b c w; near = near }
 
-  pub word-count-of : length (words I) ≡ wordCount (c .sizes)
+  pub ready : (table : List ℕ) → Ready (held table)
+  ready table = record { limits = limits-known b c w; starts = starts-inside b c w; goals = goals-inside b c w }
+
+  pub word-count-of : length (words (formula I)) ≡ wordCount (c .sizes)
   word-count-of = word-count I (graph b c w) ∙ ap wordCount (sym (sizes-same b c w))
 
   pub clause-count-of : length (clauses I) ≡ clauseCount (c .sizes)
   clause-count-of = clause-count I ∙ ap clauseCount (sym (sizes-same b c w))
 
--- ---- the ways out of the call
-module _ (b : List ℕ) (m : ℕ) (a : Answer) (ea : a ≡ instanceAnswer b m) (f : List ℤ) where
-  -- the answer to all questions, without the clause count
-  abbrev asked : Answer
-  asked = decide (instanceQuestions b m ++ question12 (length (words (instance b m))) (length f) ∷ []) (length (words (instance b m)))
+  -- 12, for a slice of the given size
+  module _ (size : ℕ) where
+    abbrev asked : Answer
+    asked = decide (writeRest I size) (length (words (formula I)))
 
-  -- from that answer to the writer's
-  by-answer : (r : Answer) → r ≡ asked → r .number ≢ 0
+    pub stop-12 : size < wordCount (c .sizes) → refuse 12 (wordCount (c .sizes)) ≡ asked
+    stop-12 l =
+        ap (refuse 12) (sym word-count-of)
+        ∙ sym (ask-no (leb (length (words (formula I))) size) _ [] _ (λ t. omega (arith, leb-iff (length (words (formula I))) size .0 t, word-count-of)))
+
+    pub pass-12 : wordCount (c .sizes) ≤ size → accept (wordCount (c .sizes)) ≡ asked
+    unfolding decide
+    pass-12 l =
+        ap accept (sym word-count-of)
+        ∙ sym (ask-yes (leb (length (words (formula I))) size) _ [] _ (leb-iff (length (words (formula I))) size .1 (omega (arith, word-count-of))))
+
+-- ---- from the answer to all questions, without the clause count, to the writer's
+module _ (b : List ℕ) (m : ℕ) (f : List ℤ) (r : Answer) (e : r ≡ decide (writeQuestions b m (length f)) (length (words (formula (instance b m))))) where
+  pub refused : r .number ≢ 0
       → (record { number = r .number; second = r .second; clauses = 0 } ≡ writeAnswer b m (length f)) × (f ≡ writeSlice b m f)
   unfolding writeAnswer writeSlice withClauses
-  by-answer r e d =
+  refused d =
       rw (← e) (
         ap (λ (q : ℕ). record { number = r .number; second = r .second; clauses = q }) (sym (byNumber-refused (r .number) (length (clauses (instance b m))) 0 d)),
-        sym (lent-refused r (words (instance b m)) f d),
+        sym (lent-refused r _ f d),
       )
 
-  pub instance-refused : a .number ≢ 0
-      → (record { number = a .number; second = a .second; clauses = 0 } ≡ writeAnswer b m (length f)) × (f ≡ writeSlice b m f)
-  instance-refused d = by-answer a (first-refused b m a ea _ _ d) d
-
-  module _ (e : a .number ≡ 0) (c : Checked) (ec : c ≡ instanceChecked b m) where
-    zero-number : instanceAnswer b m .number ≡ 0
-    zero-number = sym (ap (λ (x : Answer). x .number) ea) ∙ e
-
-    pub checked-accepted : Accepted b c
-    checked-accepted = accepted b m c ec zero-number
-
-    same-instance : instanceOf b c ≡ instance b m
-    same-instance = ap (instance b) (horizon-of b m c ec zero-number)
-
-    pub words-needed : length (words (instance b m)) ≡ wordCount (c .sizes)
-    words-needed = ap (λ (J : Instance). length (words J)) (sym same-instance) ∙ word-count-of b c checked-accepted
-
-    clauses-counted : length (clauses (instance b m)) ≡ clauseCount (c .sizes)
-    clauses-counted = ap (λ (J : Instance). length (clauses J)) (sym same-instance) ∙ clause-count-of b c checked-accepted
-
-    pub too-short : length f < wordCount (c .sizes)
-        → (record { number = 12; second = wordCount (c .sizes); clauses = 0 } ≡ writeAnswer b m (length f)) × (f ≡ writeSlice b m f)
-    too-short l =
-        by-answer (refuse 12 (wordCount (c .sizes)))
-        (ap (refuse 12) (sym words-needed)
-        ∙ sym (ask-no (leb (length (words (instance b m))) (length f)) _ [] _ (λ t. let h = leb-iff (length (words (instance b m))) (length f) .0 t in let n = words-needed in omega arith))
-        ∙ first-passed b m a ea _ _ e)
-        (λ z. let q : _≡_ {A = ℕ} 12 0 = z in omega arith)
-
-    pub done : wordCount (c .sizes) ≤ length f → (g : List ℤ) → g ≡ filled (words (instanceOf b c)) f
-        → (record { number = 0; second = wordCount (c .sizes); clauses = clauseCount (c .sizes) } ≡ writeAnswer b m (length f)) × (g ≡ writeSlice b m f)
-    unfolding writeAnswer writeSlice withClauses decide
-    done l g eg =
-        let all : accept (length (words (instance b m))) ≡ asked =
-        sym (ask-yes (leb (length (words (instance b m))) (length f)) _ [] _ (leb-iff (length (words (instance b m))) (length f) .1 (let n = words-needed in omega arith)))
-        ∙ first-passed b m a ea _ _ e in
-        rw (← all) (
-          ap₂ (λ (p q : ℕ). record { number = 0; second = p; clauses = q }) (sym words-needed) (sym clauses-counted),
-          eg ∙ ap (λ (J : Instance). filled (words J) f) same-instance ∙ sym (lent-accepted (accept (length (words (instance b m)))) (words (instance b m)) f refl),
-        )
+  pub done : r .number ≡ 0 → (count : ℕ) → count ≡ length (clauses (instance b m)) → (g : List ℤ) → g ≡ filled (words (formula (instance b m))) f
+      → (record { number = r .number; second = r .second; clauses = count } ≡ writeAnswer b m (length f)) × (g ≡ writeSlice b m f)
+  unfolding writeAnswer writeSlice withClauses
+  done z count ec g eg =
+      rw (← e) (
+        ap (λ (q : ℕ). record { number = r .number; second = r .second; clauses = q }) (ec ∙ sym (byNumber-accepted (r .number) (length (clauses (instance b m))) 0 z)),
+        eg ∙ sym (lent-accepted r _ f z),
+      )

@@ -1,27 +1,33 @@
 // The formula writer: instance bytes, a horizon and a lent slice in, the words of the formula out.
 use answers::Written;
 use instance::Checked;
+use instance::Sizes;
 ghost use mathlib.Core.Path.{_≡_};
 ghost use Prim.Native.Nat.{_≤_};
 ghost use lib.ListN.{length};
 ghost use Rattle.lists.specs.Loop.{for, each};
 ghost use Rattle.lists.specs.Slice.{Wrote};
-ghost use Rattle.formula.specs.Formula.{line, words};
+ghost use Rattle.formula.specs.Formula.{formula, line, words};
 ghost use Rattle.formula.specs.Blocks.{family};
-ghost use Rattle.families.specs.Held.{held, Ready};
+ghost use Rattle.families.specs.Held.{heldIn, Ready};
 ghost use Rattle.instance.specs.Accepted.{Accepted, instanceOf};
 ghost use Rattle.calls.specs.Calls.{writeAnswer, writeSlice};
 
 // The seven families, each to the part of the slice behind the one before it.
-fn write_families(f: &mut [i32], c: Checked, table: &[u8]) -> usize
-    requires { ⌜ Ready c (now table) ⌝ }
-    requires { ⌜ length (each line (for 7 (family (held c (now table))))) ≤ length (now f) ⌝ }
-    ensures { λ r. ⌜ Wrote (each line (for 7 (family (held c (now (table .entry)))))) (now (f .entry)) (now (f .exit)) r ⌝ }
+fn write_families(
+    f: &mut [i32],
+    s: Sizes,
+    starts: &[u8; 16],
+    goals: &[u8; 16],
+    table: &[u8],
+) -> usize
+    requires { ⌜ Ready (heldIn s (now starts) (now goals) (now table)) × (4096 ≤ length (now table)) ⌝ }
+    requires { ⌜ length (each line (for 7 (family (heldIn s (now starts) (now goals) (now table))))) ≤ length (now f) ⌝ }
+    ensures { λ r. ⌜ Wrote (each line (for 7 (family (heldIn s (now (starts .entry)) (now (goals .entry)) (now (table .entry)))))) (now (f .entry)) (now (f .exit)) r ⌝ }
 {
     let mut at: usize = 0;
     for which in 0..7usize {
-        let g = families::family_of(c.sizes, which);
-        at += families::write_family(&mut f[at..], c, table, g);
+        at += families::write_family(&mut f[at..], s, starts, goals, table, which);
     }
     at
 }
@@ -29,11 +35,13 @@ fn write_families(f: &mut [i32], c: Checked, table: &[u8]) -> usize
 // The formula of an accepted instance, to a slice with room for it.
 fn write_words(f: &mut [i32], b: &[u8], c: Checked) -> usize
     requires { ⌜ Accepted (now b) c ⌝ }
-    requires { ⌜ length (words (instanceOf (now b) c)) ≤ length (now f) ⌝ }
-    ensures { λ r. ⌜ Wrote (words (instanceOf (now (b .entry)) c)) (now (f .entry)) (now (f .exit)) r ⌝ }
+    requires { ⌜ length (words (formula (instanceOf (now b) c))) ≤ length (now f) ⌝ }
+    ensures { λ r. ⌜ Wrote (words (formula (instanceOf (now (b .entry)) c))) (now (f .entry)) (now (f .exit)) r ⌝ }
 {
     let table = neighbours::table_of(b, c);
-    write_families(f, c, &table)
+    let starts = c.starts;
+    let goals = c.goals;
+    write_families(f, c.sizes, &starts, &goals, &table)
 }
 
 // Questions 1 to 10 and 12. A refusal changes no word of the slice.

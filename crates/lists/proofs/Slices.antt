@@ -7,7 +7,7 @@ use native.Mathlib.Nat.{zero-add, le-refl, eq-or-lt-of-le, le-of-suc-le-suc}
 use native.Mathlib.Numerals.{add-one}
 use native.Mathlib.Omega.{arith}
 use borrow.Rule.Slice.PartMut.{putMid}
-use lib.ListN.{length, take, drop, set, length-append, length-drop, drop-of-length-le}
+use lib.ListN.{length, take, drop, set, length-set, length-append, length-drop, drop-of-length-le}
 use lib.Seq.{drop-cons, set-at, take-at, drop-at, drop-drop, take-all, sets, sets-eq, take-append-seam}
 use lib.Arith.{le-zero}
 use Rattle.lists.specs.Loop.{for, each}
@@ -111,6 +111,25 @@ module _ {A : Type 0} {g : ℕ → List A} {n : ℕ} {s : List A} where
           same = ap length e ∙ filled-length (for (i + 1) g) s (omega arith);
           here = q;
           slice = e;
+        }
+
+    -- the turn: one element, stored at `at`
+    pub filling-set : i < n → (x : A) → g i ≡ x ∷ [] → Filling g n s (i + 1) (at + 1) (set f at x)
+    filling-set l x e =
+        let one : length (g i) ≡ 1 = ap length e in
+        let fit : at + 1 ≤ length s = omega (arith, for-room g l, w .room, w .here) in
+        let q : set f at x ≡ filled (for (i + 1) g) s =
+        rw add-one
+        (ap (λ (k : List A). set k at x) (w .slice)
+        ∙ filled-set (for i g) s at x x (sym (w .here)) (omega arith)
+        ∙ ap (λ (k : List A). filled (for i g ++ k) s) (sym e)) in
+        record {
+          within = omega arith;
+          room = w .room;
+          fits = fit;
+          same = length-set f at x ∙ w .same;
+          here = for-next g i at 1 (w .here) (sym one);
+          slice = q;
         }
 
     -- all n turns

@@ -1,4 +1,4 @@
--- `clauses::put_unit` meets its contract. The invariant: the turns so far have written their blocks one behind another, and `at` is the number of their words. Assumes nothing.
+-- `clauses::put_unit` meets its contract. Assumes nothing.
 use mathlib.Core.Path.{refl}
 use mathlib.Core.List.{[], _∷_}
 use native.Mathlib.Omega.{arith}
@@ -9,17 +9,8 @@ use Rattle.formula.specs.Formula.{line}
 use Rattle.clauses.proofs.put_unit.Statement.{statement}
 use Rattle.clauses.proofs.put_unit.Tie as tie
 
-slice-set-from-x : tie.Need-slice-set-from-x
-slice-set-from-x c = search needs
-
-slice-set-of-f : tie.Need-slice-set-of-f
-slice-set-of-f c = search needs
-
-same-length : tie.Need-same-length
-same-length c = search needs
-
 returns : tie.Need-returns
 returns c = (refl, rw (toZ-ofZ (c .fits .x)) (sets-filled (line (c .args .x ∷ [])) (c .args .f .now) (omega arith)))
 
 pub put-unit-spec : {M : Type 1} → statement M
-put-unit-spec = tie.close (tie.spec slice-set-from-x slice-set-of-f same-length returns)
+put-unit-spec = tie.close (tie.spec (λ c. search needs) (λ c. search needs) (λ c. search needs) returns)

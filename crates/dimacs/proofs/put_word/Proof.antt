@@ -1,9 +1,14 @@
--- `dimacs::put_word` meets its contract: by the sign and the size, a word is one of three texts. Assumes nothing.
-use mathlib.Core.Path.{_≡_, sym, _∙_}
+-- `dimacs::put_word` meets its contract: the text of its size, behind "-" where it is negative. Assumes nothing.
+use mathlib.Core.Path.{refl, sym, _∙_, ap}
+use mathlib.Core.List.{[], _∷_}
 use native.Mathlib.Omega.{arith}
-use lib.IntN.{natAbs}
+use lib.IntN.{pos}
+use lib.ListN.{set, length-take, length-drop, length-set}
 use mir.Facts.{toZ-ofZ}
-use Rattle.dimacs.proofs.Laws.{length-word, word-negative, word-zero, word-positive}
+use Rattle.dimacs.specs.Text.{wordText}
+use Rattle.dimacs.proofs.Laws.{word-negative, word-positive}
+use Rattle.dimacs.proofs.Table.{begins-wrote, begins-part}
+use Rattle.lists.proofs.Slices.{sets-filled}
 use borrow.Author.Needs.{needs}
 use Rattle.dimacs.proofs.put_word.Statement.{statement}
 use Rattle.dimacs.proofs.put_word.Tie as tie
@@ -11,21 +16,41 @@ use Rattle.dimacs.proofs.put_word.Tie as tie
 size-of-requires : tie.Need-size-of-requires
 size-of-requires c κs = search needs
 
-put-negative-requires : tie.Need-put-negative-requires
-put-negative-requires c κs = omega (arith, length-word (c .before .before .size-of .result) (c .before .before .size-of .ensures .1))
+slice-write-out : tie.Need-slice-write-out
+slice-write-out c = search needs
+
+sub-put-size : tie.Need-sub-put-size
+sub-put-size c = simp length-set (omega arith)
+
+part-put-size-start : tie.Need-part-put-size-start
+part-put-size-start c = simp length-set (omega arith)
+
+part-put-size-end : tie.Need-part-put-size-end
+part-put-size-end c = search needs
+
+put-size-requires : tie.Need-put-size-requires
+put-size-requires c κs = (c .before .before .before .before .before .pre .0, c .before .before .size-of .ensures .1, simp (length-take, length-drop, length-set) (omega (arith, c .before .before .before .before .before .pre .1)))
+
+add-result : tie.Need-add-result
+add-result c = search needs
 
 same-length : tie.Need-same-length
-same-length c = search needs
+same-length c = rw (c .before .out .given .1, length-set)
 
 returns : tie.Need-returns
 returns c =
-    let f = c .before .before .before .before .before .before .before .fits .w in
-    let w = c .before .before .before .before .before .before .before .args .w in
-    let q : c .before .before .before .before .before .size-of .result ≡ natAbs w = rw (toZ-ofZ f) at (c .before .before .before .before .before .size-of .ensures .0) in
-    rw (word-negative w (rw (toZ-ofZ f) at (c .before .before .before .before .if1 .taken)), ← q) (c .before .before .put-negative .ensures)
+    let f = c .before .before .before .before .before .before .before .before .fits .w in
+    let l = c .before .before .before .before .before .before .before .before .args .out .now in
+    let q = rw (toZ-ofZ f) at (c .before .before .before .before .before .size-of .ensures .0) in
+    let b = c .before .before .put-size .ensures in
+    rw (word-negative (c .before .before .before .before .before .before .before .before .args .w) (rw (toZ-ofZ f) at (c .before .before .before .before .if1 .taken)), ← q) (
+      begins-part (set l 0 45) (c .before .before .put-size .last .0) (45 ∷ []) (wordText (pos (c .before .before .before .before .before .size-of .result))) 1 (c .before .before .put-size .result)
+          (begins-wrote (45 ∷ []) l (set l 0 45) 1 (refl, sets-filled (45 ∷ []) l (omega (arith, c .before .before .before .before .before .before .before .before .pre .1)))) (b .0),
+      omega (arith, b .1),
+    )
 
-put-ended-requires : tie.Need-put-ended-requires
-put-ended-requires c κs = omega (arith, length-word (c .before .before .before .size-of .result) (c .before .before .before .size-of .ensures .1))
+put-size-requires-2 : tie.Need-put-size-requires-2
+put-size-requires-2 c κs = search needs
 
 same-length-2 : tie.Need-same-length-2
 same-length-2 c = search needs
@@ -33,34 +58,23 @@ same-length-2 c = search needs
 returns-2 : tie.Need-returns-2
 returns-2 c =
     let f = c .before .before .before .before .before .before .before .before .fits .w in
-    let w = c .before .before .before .before .before .before .before .before .args .w in
-    let q : c .before .before .before .before .before .before .size-of .result ≡ natAbs w = rw (toZ-ofZ f) at (c .before .before .before .before .before .before .size-of .ensures .0) in
-    rw (word-zero w (sym q ∙ c .before .before .before .before .if2 .taken), ← q) (c .before .before .put-ended .ensures)
-
-put-ended-requires-2 : tie.Need-put-ended-requires-2
-put-ended-requires-2 c κs = omega (arith, length-word (c .before .before .before .size-of .result) (c .before .before .before .size-of .ensures .1))
-
-same-length-3 : tie.Need-same-length-3
-same-length-3 c = search needs
-
-returns-3 : tie.Need-returns-3
-returns-3 c =
-    let f = c .before .before .before .before .before .before .before .before .fits .w in
-    let w = c .before .before .before .before .before .before .before .before .args .w in
-    let q : c .before .before .before .before .before .before .size-of .result ≡ natAbs w = rw (toZ-ofZ f) at (c .before .before .before .before .before .before .size-of .ensures .0) in
-    rw (word-positive w (rw (toZ-ofZ f) at (c .before .before .before .before .before .if1 .left)) (λ z. c .before .before .before .before .if2 .left (q ∙ z)), ← q) (c .before .before .put-ended2 .ensures)
+    let q = rw (toZ-ofZ f) at (c .before .before .before .before .before .size-of .ensures .0) in
+    let e = ap wordText (word-positive (c .before .before .before .before .before .before .before .before .args .w) (rw (toZ-ofZ f) at (c .before .before .before .before .if1 .left)) ∙ ap pos (sym q)) in
+    rw e (c .before .before .put-size2 .ensures .0, omega (arith, c .before .before .put-size2 .ensures .1))
 
 pub put-word-spec : {M : Type 1} → statement M
 put-word-spec =
     tie.close
     (tie.spec
     size-of-requires
-    put-negative-requires
+    slice-write-out
+    sub-put-size
+    part-put-size-start
+    part-put-size-end
+    put-size-requires
+    add-result
     same-length
     returns
-    put-ended-requires
+    put-size-requires-2
     same-length-2
-    returns-2
-    put-ended-requires-2
-    same-length-3
-    returns-3)
+    returns-2)

@@ -1,76 +1,105 @@
--- `families::write_block` meets its contract. The invariant: each turn has written its group behind those before it. Assumes nothing.
-use mathlib.Core.Path.{_≡_, refl, sym}
-use Prim.Native.Nat.{_-_, _<_}
+-- `families::write_block` meets its contract: each arm by the contract of the function that it calls. Assumes nothing.
+use mathlib.Core.Path.{_≡_}
+use Prim.Native.Nat.{ℕ, _≤_, _<_}
 use native.Mathlib.Omega.{arith}
 use borrow.Author.Needs.{needs}
-use lib.ListN.{length, length-take, length-drop}
-use Rattle.lists.specs.Loop.{for, each}
-use Rattle.lists.proofs.Slices.{Filling, each-filling, filling-room, filling-next, each-filled}
-use Rattle.formula.specs.Formula.{line}
-use Rattle.formula.specs.Blocks.{group, block}
-use Rattle.families.specs.Held.{held}
+use lib.ListN.{length}
+use Rattle.lists.specs.Loop.{each}
+use Rattle.formula.specs.Formula.{line, somewhere}
+use Rattle.formula.specs.Blocks.{Given, steps, cells, block}
+use Rattle.families.specs.Held.{heldIn}
+use Rattle.families.proofs.Laws.{one, one-room, last}
 use Rattle.families.proofs.write_block.Statement.{statement}
 use Rattle.families.proofs.write_block.Tie as tie
 
-abbrev Inv-loop : tie.InvT-loop
-Inv-loop f₀ c table t x which end at₀ y₀ f at y = Filling (λ y. each line (group (held c table) which t x y)) end f₀ y at f
+abbrev given : tie.Start → Given
+given c = heldIn (c .args .s) (c .args .starts .now) (c .args .goals .now) (c .args .table .now)
 
-abbrev μ-loop : tie.MeasureT-loop
-μ-loop f₀ c table t x which end at₀ y₀ f at y = end - y
+-- what is required, of the family of an arm
+arm : (c : tie.Start) {j : ℕ} → c .args .which ≡ j
+    → (c .args .t < steps (c .args .s) j) × (c .args .x < cells (c .args .s) j) × (length (each line (block (given c) j (c .args .t) (c .args .x))) ≤ length (c .args .f .now))
+arm c e = let q = rw e at (c .pre .1 .0) in (q .1, q .2, rw e at (c .pre .1 .1))
 
-loop-holds : tie.Need-loop-holds Inv-loop μ-loop
+write-unit-requires : tie.Need-write-unit-requires
+unfolding steps cells block
+write-unit-requires c κs =
+    let q = arm (c .before .before .before) (c .before .match .keys1) in (c .before .before .before .pre .0 .0 .limits, (omega arith, q .1, c .before .before .before .pre .0 .0 .starts (c .before .before .before .args .x) (q .1), q .2))
+
+write-unit-requires-2 : tie.Need-write-unit-requires-2
+unfolding steps cells block
+write-unit-requires-2 c κs =
+    let q = arm (c .before .before .before) (c .before .match .keys2) in (c .before .before .before .pre .0 .0 .limits, (omega arith, q .1, c .before .before .before .pre .0 .0 .goals (c .before .before .before .args .x) (q .1), q .2))
+
+put-somewhere-requires : tie.Need-put-somewhere-requires
+unfolding steps cells block
+put-somewhere-requires c κs = let q = arm (c .before .before .before) (c .before .match .keys3) in let r = one-room (somewhere (c .before .before .before .args .s) (c .before .before .before .args .t) (c .before .before .before .args .x)) (q .2) in search needs
+
+write-d-requires : tie.Need-write-d-requires
+unfolding steps cells block
+write-d-requires c κs = let q = arm (c .before .before .before) (c .before .match .keys4) in search needs
+
+write-e-requires : tie.Need-write-e-requires
+unfolding steps cells block
+write-e-requires c κs = let q = arm (c .before .before .before) (c .before .match .keys5) in search needs
+
+write-f-requires : tie.Need-write-f-requires
+unfolding steps cells block
+write-f-requires c κs = let q = arm (c .before .before .before) (c .before .match .keys6) in search needs
+
+write-g-requires : tie.Need-write-g-requires
+unfolding steps cells block
+write-g-requires c κs = let q = arm (c .before .before .before) (last (c .before .before .before .args .which) (c .before .before .before .pre .1 .0 .0) (c .before .match .rest)) in search needs
+
+returns : tie.Need-returns
 unfolding block
-loop-holds c = each-filling line (group (held (c .before .args .c) (c .before .args .table .now)) (c .before .args .g .which) (c .before .args .t) (c .before .args .x)) (rw (← (c .before .pre .0 .1 .groups)) at (c .before .pre .1 .1))
+returns c = rw (c .before .before .before .match .keys1) (c .before .write-unit .ensures)
 
-mul-write-group : tie.Need-mul-write-group Inv-loop μ-loop
-mul-write-group c = search needs
-
-sub-write-group : tie.Need-sub-write-group Inv-loop μ-loop
-sub-write-group c = search needs
-
-part-write-group-start : tie.Need-part-write-group-start Inv-loop μ-loop
-part-write-group-start c = search needs
-
-part-write-group-end : tie.Need-part-write-group-end Inv-loop μ-loop
-part-write-group-end c = search needs
-
-write-group-requires : tie.Need-write-group-requires Inv-loop μ-loop
-write-group-requires c κs = simp (length-take, length-drop) (let r = filling-room (c .before .before .loop .inv) (c .before .loop-test .taken) in (c .before .before .before .before .pre .0 .0, ((c .before .before .before .before .pre .0 .1 .which, rw (← (c .before .before .before .before .pre .0 .1 .steps)) (c .before .before .before .before .pre .1 .0 .0), rw (← (c .before .before .before .before .pre .0 .1 .cells)) (c .before .before .before .before .pre .1 .0 .1), rw (← (c .before .before .before .before .pre .0 .1 .groups)) (c .before .loop-test .taken)), search needs)))
-
-add-y : tie.Need-add-y Inv-loop μ-loop
-add-y c = search needs
-
-loop-less : tie.Need-loop-less Inv-loop μ-loop
-loop-less c = search needs
-
-loop-again : tie.Need-loop-again Inv-loop μ-loop
-loop-again c = filling-next (c .before .before .before .before .loop .inv) (c .before .before .before .loop-test .taken) (c .before .write-group .ensures)
-
-add-at : tie.Need-add-at Inv-loop μ-loop
-add-at c = let q = loop-again c .fits in omega arith
-
-same-length : tie.Need-same-length Inv-loop μ-loop
-same-length c = c .before .loop .inv .same
-
-returns : tie.Need-returns Inv-loop μ-loop
+returns-2 : tie.Need-returns-2
 unfolding block
-returns c = rw (← (c .before .before .before .pre .0 .1 .groups)) (each-filled line (group (held (c .before .before .before .args .c) (c .before .before .before .args .table .now)) (c .before .before .before .args .g .which) (c .before .before .before .args .t) (c .before .before .before .args .x)) (c .before .loop .inv) (omega arith))
+returns-2 c = rw (c .before .before .before .match .keys2) (c .before .write-unit2 .ensures)
+
+returns-3 : tie.Need-returns-3
+unfolding block
+returns-3 c = rw (c .before .before .before .match .keys3) (one (somewhere (c .before .before .before .before .before .args .s) (c .before .before .before .before .before .args .t) (c .before .before .before .before .before .args .x)) (c .before .before .before .before .before .args .f .now) _ (c .before .put-somewhere .ensures))
+
+returns-4 : tie.Need-returns-4
+unfolding block
+returns-4 c = rw (c .before .before .before .match .keys4) (c .before .write-d .ensures)
+
+returns-5 : tie.Need-returns-5
+unfolding block
+returns-5 c = rw (c .before .before .before .match .keys5) (c .before .write-e .ensures)
+
+returns-6 : tie.Need-returns-6
+unfolding block
+returns-6 c = rw (c .before .before .before .match .keys6) (c .before .write-f .ensures)
+
+returns-7 : tie.Need-returns-7
+unfolding block
+returns-7 c = rw (last (c .before .before .before .before .before .args .which) (c .before .before .before .before .before .pre .1 .0 .0) (c .before .before .before .match .rest)) (c .before .write-g .ensures)
 
 pub write-block-spec : {M : Type 1} → statement M
 write-block-spec =
     tie.close
     (tie.spec
-    Inv-loop
-    μ-loop
-    loop-holds
-    mul-write-group
-    sub-write-group
-    part-write-group-start
-    part-write-group-end
-    write-group-requires
-    add-at
-    add-y
-    loop-less
-    loop-again
-    same-length
-    returns)
+    write-unit-requires
+    write-unit-requires-2
+    put-somewhere-requires
+    write-d-requires
+    write-e-requires
+    write-f-requires
+    write-g-requires
+    (λ c. search needs)
+    returns
+    (λ c. search needs)
+    returns-2
+    (λ c. search needs)
+    returns-3
+    (λ c. search needs)
+    returns-4
+    (λ c. search needs)
+    returns-5
+    (λ c. search needs)
+    returns-6
+    (λ c. search needs)
+    returns-7)

@@ -1,34 +1,57 @@
--- `formula_writer::write_formula` meets its contract. Each call fills the part that starts where the one before it ended. Assumes nothing.
+-- `formula_writer::write_formula` meets its contract: the instance check decides, or the slice is too short, or the words are written. Assumes nothing.
+use mathlib.Core.Path.{_≡_, refl, sym, _∙_, ap}
+use mathlib.Core.List.{List}
+use Prim.Native.Nat.{ℕ, _≤_, _<_}
 use native.Mathlib.Omega.{arith}
-use borrow.Author.Needs.{needs}
+use lib.IntN.{ℤ}
+use lib.ListN.{length}
+use Rattle.lists.specs.Slice.{filled}
+use Rattle.answers.specs.Answers.{Question, refuse, accept}
+use Rattle.instance.specs.Instance.{Instance}
 use Rattle.instance.proofs.Accepted.{limits-known}
-use Rattle.formula_writer.proofs.Laws.{instance-refused, checked-accepted, word-count-of, too-short, done}
+use Rattle.instance.proofs.Call.{passed, horizon, instance-refuses, call-answers}
+use Rattle.formula.specs.Formula.{clauses, formula, words}
+use Rattle.calls.specs.Calls.{writeRest}
+use Rattle.formula_writer.proofs.Laws.{word-count-of, clause-count-of, stop-12, pass-12, refused, done}
+use borrow.Author.Needs.{needs}
 use Rattle.formula_writer.proofs.write_formula.Statement.{statement}
 use Rattle.formula_writer.proofs.write_formula.Tie as tie
+
+-- the questions after 1 to 10, and the count
+abbrev asks : tie.Start → Instance → List Question
+asks s I = writeRest I (length (s .args .f .now))
+
+abbrev count : Instance → ℕ
+count I = length (words (formula I))
 
 check-instance-requires : tie.Need-check-instance-requires
 check-instance-requires c κs = search needs
 
 returns : tie.Need-returns
-returns c = instance-refused (c .before .before .before .before .before .before .args .b .now) (c .before .before .before .before .before .before .args .m) (c .before .before .before .before .check-instance .result .answer) (c .before .before .before .before .check-instance .ensures .0) (c .before .before .before .before .before .before .args .f .now) (c .if1 .taken)
+returns c = refused (c .before .before .before .before .before .before .args .b .now) (c .before .before .before .before .before .before .args .m) (c .before .before .before .before .before .before .args .f .now) _ (instance-refuses (c .before .before .before .before .before .before .args .b .now) (c .before .before .before .before .before .before .args .m) (c .before .before .before .before .check-instance .result .answer) (c .before .before .before .before .check-instance .result .checked) (c .before .before .before .before .check-instance .ensures .0) (c .before .before .before .before .check-instance .ensures .1) (asks (c .before .before .before .before .before .before)) count (c .if1 .taken)) (c .if1 .taken)
 
 word-count-requires : tie.Need-word-count-requires
-word-count-requires c κs = limits-known (c .before .before .before .before .before .before .before .args .b .now) (c .before .before .before .before .before .check-instance .result .checked) (checked-accepted (c .before .before .before .before .before .before .before .args .b .now) (c .before .before .before .before .before .before .before .args .m) (c .before .before .before .before .before .check-instance .result .answer) (c .before .before .before .before .before .check-instance .ensures .0) (c .before .before .before .before .before .before .before .args .f .now) (c .before .if1 .left) (c .before .before .before .before .before .check-instance .result .checked) (c .before .before .before .before .before .check-instance .ensures .1))
+word-count-requires c κs = limits-known _ _ (passed (c .before .before .before .before .before .before .before .args .b .now) (c .before .before .before .before .before .before .before .args .m) (c .before .before .before .before .before .check-instance .result .answer) (c .before .before .before .before .before .check-instance .result .checked) (c .before .before .before .before .before .check-instance .ensures .0) (c .before .before .before .before .before .check-instance .ensures .1) (c .before .if1 .left))
 
 clause-count-requires : tie.Need-clause-count-requires
-clause-count-requires c κs = limits-known (c .before .before .before .before .before .before .before .before .args .b .now) (c .before .before .before .before .before .before .check-instance .result .checked) (checked-accepted (c .before .before .before .before .before .before .before .before .args .b .now) (c .before .before .before .before .before .before .before .before .args .m) (c .before .before .before .before .before .before .check-instance .result .answer) (c .before .before .before .before .before .before .check-instance .ensures .0) (c .before .before .before .before .before .before .before .before .args .f .now) (c .before .before .if1 .left) (c .before .before .before .before .before .before .check-instance .result .checked) (c .before .before .before .before .before .before .check-instance .ensures .1))
+clause-count-requires c κs = limits-known _ _ (passed (c .before .before .before .before .before .before .before .before .args .b .now) (c .before .before .before .before .before .before .before .before .args .m) (c .before .before .before .before .before .before .check-instance .result .answer) (c .before .before .before .before .before .before .check-instance .result .checked) (c .before .before .before .before .before .before .check-instance .ensures .0) (c .before .before .before .before .before .before .check-instance .ensures .1) (c .before .before .if1 .left))
 
 returns-2 : tie.Need-returns-2
-returns-2 c = rw (c .before .before .word-count .ensures) (too-short (c .before .before .before .before .before .before .before .before .before .before .args .b .now) (c .before .before .before .before .before .before .before .before .before .before .args .m) (c .before .before .before .before .before .before .before .before .check-instance .result .answer) (c .before .before .before .before .before .before .before .before .check-instance .ensures .0) (c .before .before .before .before .before .before .before .before .before .before .args .f .now) (c .before .before .before .before .if1 .left) (c .before .before .before .before .before .before .before .before .check-instance .result .checked) (c .before .before .before .before .before .before .before .before .check-instance .ensures .1) (let q = c .before .before .word-count .ensures in omega arith))
+returns-2 c = rw (c .before .before .word-count .ensures) (refused (c .before .before .before .before .before .before .before .before .before .before .args .b .now) (c .before .before .before .before .before .before .before .before .before .before .args .m) (c .before .before .before .before .before .before .before .before .before .before .args .f .now) (refuse 12 _) (call-answers (c .before .before .before .before .before .before .before .before .before .before .args .b .now) (c .before .before .before .before .before .before .before .before .before .before .args .m) (c .before .before .before .before .before .before .before .before .check-instance .result .answer) (c .before .before .before .before .before .before .before .before .check-instance .result .checked) (c .before .before .before .before .before .before .before .before .check-instance .ensures .0) (c .before .before .before .before .before .before .before .before .check-instance .ensures .1) (asks (c .before .before .before .before .before .before .before .before .before .before)) count (c .before .before .before .before .if1 .left) _ (stop-12 (c .before .before .before .before .before .before .before .before .before .before .args .b .now) (c .before .before .before .before .before .before .before .before .check-instance .result .checked) (passed (c .before .before .before .before .before .before .before .before .before .before .args .b .now) (c .before .before .before .before .before .before .before .before .before .before .args .m) (c .before .before .before .before .before .before .before .before .check-instance .result .answer) (c .before .before .before .before .before .before .before .before .check-instance .result .checked) (c .before .before .before .before .before .before .before .before .check-instance .ensures .0) (c .before .before .before .before .before .before .before .before .check-instance .ensures .1) (c .before .before .before .before .if1 .left)) (length (c .before .before .before .before .before .before .before .before .before .before .args .f .now)) (omega (arith, c .before .before .word-count .ensures, c .if2 .taken)))) (λ z. let f : ⊥ = omega arith in f))
 
 write-words-requires : tie.Need-write-words-requires
-write-words-requires c κs = (checked-accepted (c .before .before .before .before .before .before .before .before .before .before .before .args .b .now) (c .before .before .before .before .before .before .before .before .before .before .before .args .m) (c .before .before .before .before .before .before .before .before .before .check-instance .result .answer) (c .before .before .before .before .before .before .before .before .before .check-instance .ensures .0) (c .before .before .before .before .before .before .before .before .before .before .before .args .f .now) (c .before .before .before .before .before .if1 .left) (c .before .before .before .before .before .before .before .before .before .check-instance .result .checked) (c .before .before .before .before .before .before .before .before .before .check-instance .ensures .1), let q = c .before .before .before .word-count .ensures in let n = word-count-of (c .before .before .before .before .before .before .before .before .before .before .before .args .b .now) (c .before .before .before .before .before .before .before .before .before .check-instance .result .checked) (checked-accepted (c .before .before .before .before .before .before .before .before .before .before .before .args .b .now) (c .before .before .before .before .before .before .before .before .before .before .before .args .m) (c .before .before .before .before .before .before .before .before .before .check-instance .result .answer) (c .before .before .before .before .before .before .before .before .before .check-instance .ensures .0) (c .before .before .before .before .before .before .before .before .before .before .before .args .f .now) (c .before .before .before .before .before .if1 .left) (c .before .before .before .before .before .before .before .before .before .check-instance .result .checked) (c .before .before .before .before .before .before .before .before .before .check-instance .ensures .1)) in omega arith)
+write-words-requires c κs = ((passed (c .before .before .before .before .before .before .before .before .before .before .before .args .b .now) (c .before .before .before .before .before .before .before .before .before .before .before .args .m) (c .before .before .before .before .before .before .before .before .before .check-instance .result .answer) (c .before .before .before .before .before .before .before .before .before .check-instance .result .checked) (c .before .before .before .before .before .before .before .before .before .check-instance .ensures .0) (c .before .before .before .before .before .before .before .before .before .check-instance .ensures .1) (c .before .before .before .before .before .if1 .left)), omega (arith, word-count-of (c .before .before .before .before .before .before .before .before .before .before .before .args .b .now) (c .before .before .before .before .before .before .before .before .before .check-instance .result .checked) (passed (c .before .before .before .before .before .before .before .before .before .before .before .args .b .now) (c .before .before .before .before .before .before .before .before .before .before .before .args .m) (c .before .before .before .before .before .before .before .before .before .check-instance .result .answer) (c .before .before .before .before .before .before .before .before .before .check-instance .result .checked) (c .before .before .before .before .before .before .before .before .before .check-instance .ensures .0) (c .before .before .before .before .before .before .before .before .before .check-instance .ensures .1) (c .before .before .before .before .before .if1 .left)), c .before .before .before .word-count .ensures, c .before .if2 .left))
 
 same-length : tie.Need-same-length
 same-length c = search needs
 
 returns-3 : tie.Need-returns-3
-returns-3 c = rw (c .before .before .before .before .before .word-count .ensures, c .before .before .before .before .clause-count .ensures) (done (c .before .before .before .before .before .before .before .before .before .before .before .before .before .args .b .now) (c .before .before .before .before .before .before .before .before .before .before .before .before .before .args .m) (c .before .before .before .before .before .before .before .before .before .before .before .check-instance .result .answer) (c .before .before .before .before .before .before .before .before .before .before .before .check-instance .ensures .0) (c .before .before .before .before .before .before .before .before .before .before .before .before .before .args .f .now) (c .before .before .before .before .before .before .before .if1 .left) (c .before .before .before .before .before .before .before .before .before .before .before .check-instance .result .checked) (c .before .before .before .before .before .before .before .before .before .before .before .check-instance .ensures .1) (let q = c .before .before .before .before .before .word-count .ensures in omega arith) _ (c .before .write-words .ensures .1))
+returns-3 c =
+    let same = horizon (c .before .before .before .before .before .before .before .before .before .before .before .before .before .args .b .now) (c .before .before .before .before .before .before .before .before .before .before .before .before .before .args .m) (c .before .before .before .before .before .before .before .before .before .before .before .check-instance .result .answer) (c .before .before .before .before .before .before .before .before .before .before .before .check-instance .result .checked) (c .before .before .before .before .before .before .before .before .before .before .before .check-instance .ensures .0) (c .before .before .before .before .before .before .before .before .before .before .before .check-instance .ensures .1) (c .before .before .before .before .before .before .before .if1 .left) in
+    rw (c .before .before .before .before .before .word-count .ensures)
+    (done (c .before .before .before .before .before .before .before .before .before .before .before .before .before .args .b .now) (c .before .before .before .before .before .before .before .before .before .before .before .before .before .args .m) (c .before .before .before .before .before .before .before .before .before .before .before .before .before .args .f .now) (accept _) (call-answers (c .before .before .before .before .before .before .before .before .before .before .before .before .before .args .b .now) (c .before .before .before .before .before .before .before .before .before .before .before .before .before .args .m) (c .before .before .before .before .before .before .before .before .before .before .before .check-instance .result .answer) (c .before .before .before .before .before .before .before .before .before .before .before .check-instance .result .checked) (c .before .before .before .before .before .before .before .before .before .before .before .check-instance .ensures .0) (c .before .before .before .before .before .before .before .before .before .before .before .check-instance .ensures .1) (asks (c .before .before .before .before .before .before .before .before .before .before .before .before .before)) count (c .before .before .before .before .before .before .before .if1 .left) _ (pass-12 (c .before .before .before .before .before .before .before .before .before .before .before .before .before .args .b .now) (c .before .before .before .before .before .before .before .before .before .before .before .check-instance .result .checked) (passed (c .before .before .before .before .before .before .before .before .before .before .before .before .before .args .b .now) (c .before .before .before .before .before .before .before .before .before .before .before .before .before .args .m) (c .before .before .before .before .before .before .before .before .before .before .before .check-instance .result .answer) (c .before .before .before .before .before .before .before .before .before .before .before .check-instance .result .checked) (c .before .before .before .before .before .before .before .before .before .before .before .check-instance .ensures .0) (c .before .before .before .before .before .before .before .before .before .before .before .check-instance .ensures .1) (c .before .before .before .before .before .before .before .if1 .left)) (length (c .before .before .before .before .before .before .before .before .before .before .before .before .before .args .f .now)) (omega (arith, c .before .before .before .before .before .word-count .ensures, c .before .before .before .if2 .left)))) refl (c .before .before .before .before .clause-count .result)
+    (c .before .before .before .before .clause-count .ensures ∙ sym (clause-count-of (c .before .before .before .before .before .before .before .before .before .before .before .before .before .args .b .now) (c .before .before .before .before .before .before .before .before .before .before .before .check-instance .result .checked) (passed (c .before .before .before .before .before .before .before .before .before .before .before .before .before .args .b .now) (c .before .before .before .before .before .before .before .before .before .before .before .before .before .args .m) (c .before .before .before .before .before .before .before .before .before .before .before .check-instance .result .answer) (c .before .before .before .before .before .before .before .before .before .before .before .check-instance .result .checked) (c .before .before .before .before .before .before .before .before .before .before .before .check-instance .ensures .0) (c .before .before .before .before .before .before .before .before .before .before .before .check-instance .ensures .1) (c .before .before .before .before .before .before .before .if1 .left))) ∙ ap (λ (J : Instance). length (clauses J)) same)
+    (c .before .write-words .last .0) (c .before .write-words .ensures .1 ∙ ap (λ (J : Instance). filled (words (formula J)) (c .before .before .before .before .before .before .before .before .before .before .before .before .before .args .f .now)) same))
 
 pub write-formula-spec : {M : Type 1} → statement M
 write-formula-spec =

@@ -1,0 +1,60 @@
+-- How many words a block has at most: as many as one of D with 64 vertices.
+use mathlib.Core.Path.{_≡_, refl}
+use mathlib.Core.Bool.{Bool, true, false, not}
+use mathlib.Core.List.{List, [], _∷_}
+use Prim.Native.Nat.{ℕ, zero, suc, _*_, _≤_}
+use native.Mathlib.Nat.{suc-mul, le-refl}
+use native.Mathlib.Omega.{arith}
+use lib.ListN.{length, length-append}
+use lib.Dec.{eqb}
+use Rattle.lists.specs.Loop.{for, when, each, pairs}
+use Rattle.lists.proofs.Loops.{each-for, each-when}
+use Rattle.lists.proofs.Blocks.{for1-length}
+use Rattle.lists.proofs.Sums.{above-length}
+use Rattle.instance.specs.declared.Sizes.{Sizes}
+use Rattle.instance.specs.Limits.{Limits}
+use Rattle.formula.specs.Variables.{Literal, X, ¬X}
+use Rattle.formula.specs.Formula.{Clause, line, noTwo, somewhere, onward}
+use Rattle.formula.specs.Blocks.{Given, block}
+use Rattle.formula.proofs.Counts.{one-line}
+use Rattle.formula.proofs.Limits.{pairs-most}
+use Rattle.families.specs.Runs.{apart}
+
+for-most : {A : Type 0} (n c : ℕ) (f : ℕ → List A) → ((i : ℕ) → length (f i) ≤ c) → length (for n f) ≤ n * c
+for-most zero c f h = omega arith
+for-most (suc n) c f h = omega (arith, length-append (for n f) (f n), for-most n c f h, h n, suc-mul n c)
+
+when-most : {A : Type 0} (b : Bool) (l : List A) → length (when b l) ≤ length l
+when-most true l = le-refl _
+when-most false l = omega arith
+
+lines-most : (n c : ℕ) (f : ℕ → List Clause) → ((i : ℕ) → length (each line (f i)) ≤ c) → length (each line (for n f)) ≤ n * c
+lines-most n c f h = rw (each-for line n f) (for-most n c (λ i. each line (f i)) h)
+
+no-two : (n : ℕ) (¬x : ℕ → Literal) → length (each line (noTwo n ¬x)) ≡ pairs n * 3
+no-two n ¬x = simp (each-for, each-when) (above-length n 3 _ (λ i j. refl))
+
+module _ (g : Given) (w : Limits (g .sizes)) where
+  open Sizes (g .sizes) using (n, k)
+
+  pub block-most : (j t x : ℕ) → length (each line (block g j t x)) ≤ 6048
+  unfolding block
+  block-most zero t x = omega arith
+  block-most (suc zero) t x = omega arith
+  block-most (suc (suc zero)) t x = omega (arith, one-line (somewhere (g .sizes) t x), for1-length n (X (g .sizes) t x), w .n-most)
+  block-most (suc (suc (suc zero))) t x = omega (arith, no-two n (¬X (g .sizes) t x), pairs-most (g .sizes) w n 64 (w .n-most))
+  block-most (suc (suc (suc (suc zero)))) t x = omega (arith, no-two k (λ a. ¬X (g .sizes) t a x), pairs-most (g .sizes) w k 16 (w .k-most))
+  block-most (suc (suc (suc (suc (suc zero))))) t x =
+      omega (arith, lines-most n 67 (λ v. onward (g .sizes) (g .near v) t x v ∷ []) turn, w .n-most)
+    where
+      turn : (v : ℕ) → length (each line (onward (g .sizes) (g .near v) t x v ∷ [])) ≤ 67
+      turn v =
+          omega (arith, one-line (onward (g .sizes) (g .near v) t x v), for-most n 1 (λ u. when (g .near v u) (X (g .sizes) (suc t) x u ∷ [])) (λ u. when-most (g .near v u) (X (g .sizes) (suc t) x u ∷ [])), w .n-most)
+  block-most (suc (suc (suc (suc (suc (suc zero)))))) t x = omega (arith, lines-most k 192 (apart (g .sizes) t x) turn, w .k-most)
+    where
+      turn : (b : ℕ) → length (each line (apart (g .sizes) t x b)) ≤ 192
+      turn b =
+          let f : ℕ → List Clause = λ v. (¬X (g .sizes) t b v ∷ ¬X (g .sizes) (suc t) x v ∷ []) ∷ [] in
+          rw (each-when line (not (eqb x b)) (for n f))
+          (omega (arith, when-most (not (eqb x b)) (each line (for n f)), lines-most n 3 f (λ v. le-refl _), w .n-most))
+  block-most (suc (suc (suc (suc (suc (suc (suc j))))))) t x = omega arith
