@@ -1,76 +1,119 @@
 // The printing of the formula program: the text of a given input, to standard output, block by block.
-use families::Family;
 use instance::Checked;
 use instance::Sizes;
 ghost use Prim.Native.Nat.{_*_, _≤_, _<_};
 ghost use lib.ListN.{length};
-ghost use Rattle.formula.specs.Limits.{Limits};
-ghost use Rattle.calls.specs.Accepted.{Accepted};
-ghost use Rattle.families.specs.Held.{Ready, Counted};
-ghost use Rattle.formula_printer.specs.Room.{Room};
+ghost use Rattle.instance.specs.Limits.{Limits};
+ghost use Rattle.instance.specs.Accepted.{Accepted};
+ghost use Rattle.formula.specs.Blocks.{steps, cells};
+ghost use Rattle.families.specs.Held.{heldIn, Ready};
+ghost use Rattle.dimacs.specs.Table.{Texts};
+ghost use Rattle.formula_printer.specs.Room.{Room, Block};
 
 // The text of a block of words.
-fn print_words(words: &[i32], text: &mut [u8])
-    requires { ⌜ 12 * length (now words) ≤ length (now text) ⌝ }
+fn print_words(words: &[i32], text: &mut [u8], texts: &[u8])
+    requires { ⌜ Texts (now texts) × (12 * length (now words) ≤ length (now text)) ⌝ }
 {
-    let n = dimacs::put_words(text, words);
+    let n = dimacs::put_words(text, texts, words);
     io::write_all(1, &text[0..n]);
 }
 
-// The blocks of t of a family.
-fn print_step(words: &mut [i32], text: &mut [u8], c: Checked, table: &[u8], g: Family, t: usize)
-    requires { ⌜ Room (now words) (now text) ⌝ }
-    requires { ⌜ Ready c (now table) × Counted (c .sizes) g ⌝ }
-    requires { ⌜ t < g .steps ⌝ }
+// The block of t and x of a family.
+fn print_block(
+    words: &mut [i32],
+    text: &mut [u8],
+    texts: &[u8],
+    s: Sizes,
+    starts: &[u8; 16],
+    goals: &[u8; 16],
+    table: &[u8],
+    which: usize,
+    t: usize,
+    x: usize,
+)
+    requires { ⌜ Block (now words) (now text) × Texts (now texts) ⌝ }
+    requires { ⌜ Ready (heldIn s (now starts) (now goals) (now table)) × (4096 ≤ length (now table)) ⌝ }
+    requires { ⌜ (which < 7) × (t < steps s which) × (x < cells s which) ⌝ }
 {
-    let end = g.cells;
+    let n = families::write_block(words, s, starts, goals, table, which, t, x);
+    print_words(&words[0..n], text, texts);
+}
+
+// The blocks of t.
+fn print_step(
+    words: &mut [i32],
+    text: &mut [u8],
+    texts: &[u8],
+    s: Sizes,
+    starts: &[u8; 16],
+    goals: &[u8; 16],
+    table: &[u8],
+    which: usize,
+    t: usize,
+)
+    requires { ⌜ Block (now words) (now text) × Texts (now texts) ⌝ }
+    requires { ⌜ Ready (heldIn s (now starts) (now goals) (now table)) × (4096 ≤ length (now table)) ⌝ }
+    requires { ⌜ (which < 7) × (t < steps s which) ⌝ }
+{
+    let end = counts::cells_of(s, which);
     for x in 0..end {
-        let n = families::write_block(words, c, table, g, t, x);
-        print_words(&words[0..n], text);
+        print_block(words, text, texts, s, starts, goals, table, which, t, x);
     }
 }
 
 // A family.
-fn print_family(words: &mut [i32], text: &mut [u8], c: Checked, table: &[u8], g: Family)
-    requires { ⌜ Room (now words) (now text) ⌝ }
-    requires { ⌜ Ready c (now table) × Counted (c .sizes) g ⌝ }
+fn print_family(
+    words: &mut [i32],
+    text: &mut [u8],
+    texts: &[u8],
+    s: Sizes,
+    starts: &[u8; 16],
+    goals: &[u8; 16],
+    table: &[u8],
+    which: usize,
+)
+    requires { ⌜ Block (now words) (now text) × Texts (now texts) ⌝ }
+    requires { ⌜ Ready (heldIn s (now starts) (now goals) (now table)) × (4096 ≤ length (now table)) ⌝ }
+    requires { ⌜ which < 7 ⌝ }
 {
-    let end = g.steps;
+    let end = counts::steps_of(s, which);
     for t in 0..end {
-        print_step(words, text, c, table, g, t);
+        print_step(words, text, texts, s, starts, goals, table, which, t);
     }
 }
 
-// The seven families.
-fn print_families(words: &mut [i32], text: &mut [u8], c: Checked, table: &[u8])
-    requires { ⌜ Room (now words) (now text) ⌝ }
-    requires { ⌜ Ready c (now table) ⌝ }
+// The seven families of an accepted instance.
+fn print_families(words: &mut [i32], text: &mut [u8], texts: &[u8], b: &[u8], c: Checked)
+    requires { ⌜ Block (now words) (now text) × Texts (now texts) ⌝ }
+    requires { ⌜ Accepted (now b) c ⌝ }
 {
+    let table = neighbours::table_of(b, c);
+    let starts = c.starts;
+    let goals = c.goals;
     for which in 0..7usize {
-        let g = families::family_of(c.sizes, which);
-        print_family(words, text, c, table, g);
+        print_family(words, text, texts, c.sizes, &starts, &goals, &table, which);
     }
 }
 
 // The line of the counts.
-fn print_header(text: &mut [u8], s: Sizes)
+fn print_header(text: &mut [u8], variables: usize, clauses: usize)
     requires { ⌜ 48 ≤ length (now text) ⌝ }
-    requires { ⌜ Limits s ⌝ }
 {
-    let variables = s.n * s.k * (s.m + 1);
-    let clauses = counts::clause_count(s);
     let n = dimacs::put_header(text, variables, clauses);
     io::write_all(1, &text[0..n]);
 }
 
-// The formula of an accepted instance.
-fn print_formula(words: &mut [i32], text: &mut [u8], b: &[u8], c: Checked)
-    requires { ⌜ Room (now words) (now text) ⌝ }
+// The formula of an accepted instance. The texts of its literals and of 0 are made first.
+fn print_formula(words: &mut [i32], text: &mut [u8], texts: &mut [u8], b: &[u8], c: Checked)
+    requires { ⌜ Room (now words) (now text) (now texts) ⌝ }
     requires { ⌜ Accepted (now b) c ⌝ }
 {
-    let table = neighbours::table_of(b, c);
-    print_header(text, c.sizes);
-    print_families(words, text, c, &table);
+    let s = c.sizes;
+    let variables = counts::variable_count(s);
+    let end = 8 * (variables + 1);
+    dimacs::put_texts(texts, variables + 1);
+    print_header(text, variables, counts::clause_count(s));
+    print_families(words, text, &texts[0..end], b, c);
 }
 
 // The one line of a refusal.
@@ -82,8 +125,8 @@ fn print_refusal(text: &mut [u8], number: usize, place: usize)
 }
 
 // Asks 1 to 10 of the instance, and prints the refusal or the formula.
-fn print_answer(words: &mut [i32], text: &mut [u8], b: &[u8], m: usize)
-    requires { ⌜ Room (now words) (now text) ⌝ }
+fn print_answer(words: &mut [i32], text: &mut [u8], texts: &mut [u8], b: &[u8], m: usize)
+    requires { ⌜ Room (now words) (now text) (now texts) ⌝ }
 {
     let i = instance_check::check_instance(b, m);
     let answer = i.answer;
@@ -92,17 +135,17 @@ fn print_answer(words: &mut [i32], text: &mut [u8], b: &[u8], m: usize)
         print_refusal(text, answer.number as usize, answer.second);
         return;
     }
-    print_formula(words, text, b, c);
+    print_formula(words, text, texts, b, c);
 }
 
 // Prints what an input asks for: the byte m, then the instance. An empty input counts as m 0 and an empty instance.
-pub fn print_input(words: &mut [i32], text: &mut [u8], input: &[u8])
-    requires { ⌜ Room (now words) (now text) ⌝ }
+pub fn print_input(words: &mut [i32], text: &mut [u8], texts: &mut [u8], input: &[u8])
+    requires { ⌜ Room (now words) (now text) (now texts) ⌝ }
 {
     if input.len() == 0 {
-        print_answer(words, text, input, 0);
+        print_answer(words, text, texts, input, 0);
         return;
     }
     let m = numbers::wide(input[0]);
-    print_answer(words, text, &input[1..], m);
+    print_answer(words, text, texts, &input[1..], m);
 }

@@ -1,8 +1,5 @@
--- `formula_printer::print_answer` is safe and ends: where the number is 0, the instance is accepted. Assumes nothing.
-use mathlib.Core.Path.{_≡_, sym, _∙_, ap}
-use Rattle.answers.specs.declared.Answer.{Answer}
-use Rattle.instance.specs.Questions.{instanceAnswer}
-use Rattle.instance.proofs.Accepted.{accepted}
+-- `formula_printer::print_answer` meets its contract: where the number is 0, the instance is accepted. Assumes nothing.
+use Rattle.instance.proofs.Call.{passed}
 use borrow.Author.Needs.{needs}
 use Rattle.formula_printer.proofs.print_answer.Statement.{statement}
 use Rattle.formula_printer.proofs.print_answer.Tie as tie
@@ -23,16 +20,16 @@ returns : tie.Need-returns
 returns c = search needs
 
 print-formula-requires : tie.Need-print-formula-requires
-print-formula-requires c κs =
-    let e = c .before .before .before .before .before .before .check-instance .ensures in
-    let z : instanceAnswer (c .before .before .before .before .before .before .before .before .before .args .b .now) (c .before .before .before .before .before .before .before .before .before .args .m) .number ≡ 0 = sym (ap (λ (x : Answer). x .number) (e .0)) ∙ c .before .before .if1 .left in
-    (c .before .before .before .before .before .before .before .before .before .pre, accepted (c .before .before .before .before .before .before .before .before .before .args .b .now) (c .before .before .before .before .before .before .before .before .before .args .m) _ (e .1) z)
+print-formula-requires c κs = (c .before .before .before .before .before .before .before .before .before .before .before .pre, passed (c .before .before .before .before .before .before .before .before .before .before .before .args .b .now) (c .before .before .before .before .before .before .before .before .before .before .before .args .m) (c .before .before .before .before .before .before .before .check-instance .result .answer) (c .before .before .before .before .before .before .before .check-instance .result .checked) (c .before .before .before .before .before .before .before .check-instance .ensures .0) (c .before .before .before .before .before .before .before .check-instance .ensures .1) (c .before .before .before .if1 .left))
 
 same-length-2 : tie.Need-same-length-2
 same-length-2 c = search needs
 
 same-length-3 : tie.Need-same-length-3
 same-length-3 c = search needs
+
+same-length-4 : tie.Need-same-length-4
+same-length-4 c = search needs
 
 returns-2 : tie.Need-returns-2
 returns-2 c = search needs
@@ -49,4 +46,5 @@ print-answer-spec =
     print-formula-requires
     same-length-2
     same-length-3
+    same-length-4
     returns-2)

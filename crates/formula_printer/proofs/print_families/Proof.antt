@@ -1,25 +1,32 @@
--- `formula_printer::print_families` is safe and ends: both buffers keep their lengths. Assumes nothing.
+-- `formula_printer::print_families` meets its contract: both buffers keep their lengths; the starts and goals of an accepted instance are vertices. Assumes nothing.
 use mathlib.Core.Path.{_≡_}
 use Prim.Native.Nat.{_-_, _≤_}
-use borrow.Author.Needs.{needs}
+use native.Mathlib.Omega.{arith}
 use lib.ListN.{length}
+use Rattle.instance.proofs.Accepted.{limits-known, starts-inside, goals-inside}
+use borrow.Author.Needs.{needs}
 use Rattle.formula_printer.proofs.print_families.Statement.{statement}
 use Rattle.formula_printer.proofs.print_families.Tie as tie
 
 abbrev Inv-loop : tie.InvT-loop
-Inv-loop words₀ text₀ c table which₀ words text which = (which ≤ 7) × ((length words ≡ length words₀) × (length text ≡ length text₀))
+Inv-loop words₀ text₀ texts b c table starts goals which₀ words text which = (which ≤ 7) × ((length words ≡ length words₀) × (length text ≡ length text₀))
 
 abbrev μ-loop : tie.MeasureT-loop
-μ-loop words₀ text₀ c table which₀ words text which = 7 - which
+μ-loop words₀ text₀ texts b c table starts goals which₀ words text which = 7 - which
+
+table-of-requires : tie.Need-table-of-requires Inv-loop μ-loop
+table-of-requires c κs = search needs
 
 loop-holds : tie.Need-loop-holds Inv-loop μ-loop
 loop-holds c = search needs
 
-family-of-requires : tie.Need-family-of-requires Inv-loop μ-loop
-family-of-requires c κs = search needs
+slice-aggregate-print-family : tie.Need-slice-aggregate-print-family Inv-loop μ-loop
+slice-aggregate-print-family c = search needs
 
 print-family-requires : tie.Need-print-family-requires Inv-loop μ-loop
-print-family-requires c κs = search needs
+print-family-requires c κs =
+    let w = c .before .before .before .before .before .before .before .before .before .before .before .before .before .pre .1 in
+    ((record { words-room = omega (arith, c .before .before .before .before .before .before .loop .inv .1 .0, c .before .before .before .before .before .before .before .before .before .before .before .before .before .pre .0 .0 .words-room); text-room = omega (arith, c .before .before .before .before .before .before .loop .inv .1 .1, c .before .before .before .before .before .before .before .before .before .before .before .before .before .pre .0 .0 .text-room) }, c .before .before .before .before .before .before .before .before .before .before .before .before .before .pre .0 .1), ((record { limits = limits-known _ _ w; starts = starts-inside _ _ w; goals = goals-inside _ _ w }, omega (arith, c .before .before .before .before .before .before .before .before .before .table-of .ensures .0)), c .before .before .before .before .before .loop-test .taken))
 
 add-which : tie.Need-add-which Inv-loop μ-loop
 add-which c = search needs
@@ -37,7 +44,7 @@ same-length-2 : tie.Need-same-length-2 Inv-loop μ-loop
 same-length-2 c = search needs
 
 returns : tie.Need-returns Inv-loop μ-loop
-returns c = search needs
+returns c = tt
 
 pub print-families-spec : {M : Type 1} → statement M
 print-families-spec =
@@ -45,8 +52,9 @@ print-families-spec =
     (tie.spec
     Inv-loop
     μ-loop
+    table-of-requires
     loop-holds
-    family-of-requires
+    slice-aggregate-print-family
     print-family-requires
     add-which
     loop-less

@@ -1,22 +1,26 @@
--- `formula_printer::print_family` is safe and ends: both buffers keep their lengths. Assumes nothing.
+-- `formula_printer::print_family` meets its contract: both buffers keep their lengths. Assumes nothing.
 use mathlib.Core.Path.{_≡_}
 use Prim.Native.Nat.{_-_, _≤_}
-use borrow.Author.Needs.{needs}
+use native.Mathlib.Omega.{arith}
 use lib.ListN.{length}
+use borrow.Author.Needs.{needs}
 use Rattle.formula_printer.proofs.print_family.Statement.{statement}
 use Rattle.formula_printer.proofs.print_family.Tie as tie
 
 abbrev Inv-loop : tie.InvT-loop
-Inv-loop words₀ text₀ c table g end t₀ words text t = (t ≤ end) × ((length words ≡ length words₀) × (length text ≡ length text₀))
+Inv-loop words₀ text₀ texts s starts goals table which end t₀ words text t = (t ≤ end) × ((length words ≡ length words₀) × (length text ≡ length text₀))
 
 abbrev μ-loop : tie.MeasureT-loop
-μ-loop words₀ text₀ c table g end t₀ words text t = end - t
+μ-loop words₀ text₀ texts s starts goals table which end t₀ words text t = end - t
+
+steps-of-requires : tie.Need-steps-of-requires Inv-loop μ-loop
+steps-of-requires c κs = (c .before .before .before .pre .1 .0 .0 .limits, c .before .before .before .pre .1 .1)
 
 loop-holds : tie.Need-loop-holds Inv-loop μ-loop
 loop-holds c = search needs
 
 print-step-requires : tie.Need-print-step-requires Inv-loop μ-loop
-print-step-requires c κs = search needs
+print-step-requires c κs = ((record { words-room = omega (arith, c .before .before .before .loop .inv .1 .0, c .before .before .before .before .before .before .before .before .pre .0 .0 .words-room); text-room = omega (arith, c .before .before .before .loop .inv .1 .1, c .before .before .before .before .before .before .before .before .pre .0 .0 .text-room) }, c .before .before .before .before .before .before .before .before .pre .0 .1), (c .before .before .before .before .before .before .before .before .pre .1 .0, (c .before .before .before .before .before .before .before .before .pre .1 .1, omega (arith, c .before .before .loop-test .taken, c .before .before .before .before .steps-of .ensures .0))))
 
 add-t : tie.Need-add-t Inv-loop μ-loop
 add-t c = search needs
@@ -34,7 +38,7 @@ same-length-2 : tie.Need-same-length-2 Inv-loop μ-loop
 same-length-2 c = search needs
 
 returns : tie.Need-returns Inv-loop μ-loop
-returns c = search needs
+returns c = tt
 
 pub print-family-spec : {M : Type 1} → statement M
 print-family-spec =
@@ -42,6 +46,7 @@ print-family-spec =
     (tie.spec
     Inv-loop
     μ-loop
+    steps-of-requires
     loop-holds
     print-step-requires
     add-t

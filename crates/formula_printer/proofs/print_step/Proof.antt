@@ -1,36 +1,26 @@
--- `formula_printer::print_step` is safe and ends: a block has at most 12,288 words; both buffers keep their lengths. Assumes nothing.
+-- `formula_printer::print_step` meets its contract: both buffers keep their lengths. Assumes nothing.
 use mathlib.Core.Path.{_≡_}
 use Prim.Native.Nat.{_-_, _≤_}
+use native.Mathlib.Omega.{arith}
+use lib.ListN.{length}
 use borrow.Author.Needs.{needs}
-use lib.ListN.{length, length-take, length-drop}
-use Rattle.families.specs.Held.{held}
-use Rattle.formula_printer.proofs.Laws.{block-most}
 use Rattle.formula_printer.proofs.print_step.Statement.{statement}
 use Rattle.formula_printer.proofs.print_step.Tie as tie
 
 abbrev Inv-loop : tie.InvT-loop
-Inv-loop words₀ text₀ c table g t end x₀ words text x = (x ≤ end) × ((length words ≡ length words₀) × (length text ≡ length text₀))
+Inv-loop words₀ text₀ texts s starts goals table which t end x₀ words text x = (x ≤ end) × ((length words ≡ length words₀) × (length text ≡ length text₀))
 
 abbrev μ-loop : tie.MeasureT-loop
-μ-loop words₀ text₀ c table g t end x₀ words text x = end - x
+μ-loop words₀ text₀ texts s starts goals table which t end x₀ words text x = end - x
+
+cells-of-requires : tie.Need-cells-of-requires Inv-loop μ-loop
+cells-of-requires c κs = (c .before .before .before .pre .1 .0 .0 .limits, c .before .before .before .pre .1 .1 .0)
 
 loop-holds : tie.Need-loop-holds Inv-loop μ-loop
 loop-holds c = search needs
 
-write-block-requires : tie.Need-write-block-requires Inv-loop μ-loop
-write-block-requires c κs = let m = block-most (held (c .before .before .before .before .before .args .c) (c .before .before .before .before .before .args .table .now)) (c .before .before .before .before .before .pre .1 .0 .0 .limits) (c .before .before .before .before .before .args .g .which) (c .before .before .before .before .before .args .t) (c .before .before .loop .x) in (c .before .before .before .before .before .pre .1 .0, ((c .before .before .before .before .before .pre .1 .1, c .before .loop-test .taken), search needs))
-
-sub-print-words : tie.Need-sub-print-words Inv-loop μ-loop
-sub-print-words c = search needs
-
-part-print-words-start : tie.Need-part-print-words-start Inv-loop μ-loop
-part-print-words-start c = search needs
-
-part-print-words-end : tie.Need-part-print-words-end Inv-loop μ-loop
-part-print-words-end c = let m = block-most (held (c .before .before .before .before .before .before .before .before .args .c) (c .before .before .before .before .before .before .before .before .args .table .now)) (c .before .before .before .before .before .before .before .before .pre .1 .0 .0 .limits) (c .before .before .before .before .before .before .before .before .args .g .which) (c .before .before .before .before .before .before .before .before .args .t) (c .before .before .before .before .before .loop .x) in let q = c .before .before .write-block .ensures .0 in search needs
-
-print-words-requires : tie.Need-print-words-requires Inv-loop μ-loop
-print-words-requires c κs = let m = block-most (held (c .before .before .before .before .before .before .before .before .before .before .args .c) (c .before .before .before .before .before .before .before .before .before .before .args .table .now)) (c .before .before .before .before .before .before .before .before .before .before .pre .1 .0 .0 .limits) (c .before .before .before .before .before .before .before .before .before .before .args .g .which) (c .before .before .before .before .before .before .before .before .before .before .args .t) (c .before .before .before .before .before .before .before .loop .x) in let q = c .before .before .before .before .write-block .ensures .0 in simp (length-take, length-drop) (search needs)
+print-block-requires : tie.Need-print-block-requires Inv-loop μ-loop
+print-block-requires c κs = ((record { words-room = omega (arith, c .before .before .before .loop .inv .1 .0, c .before .before .before .before .before .before .before .before .pre .0 .0 .words-room); text-room = omega (arith, c .before .before .before .loop .inv .1 .1, c .before .before .before .before .before .before .before .before .pre .0 .0 .text-room) }, c .before .before .before .before .before .before .before .before .pre .0 .1), (c .before .before .before .before .before .before .before .before .pre .1 .0, (c .before .before .before .before .before .before .before .before .pre .1 .1 .0, c .before .before .before .before .before .before .before .before .pre .1 .1 .1, omega (arith, c .before .before .loop-test .taken, c .before .before .before .before .cells-of .ensures .0))))
 
 add-x : tie.Need-add-x Inv-loop μ-loop
 add-x c = search needs
@@ -48,7 +38,7 @@ same-length-2 : tie.Need-same-length-2 Inv-loop μ-loop
 same-length-2 c = search needs
 
 returns : tie.Need-returns Inv-loop μ-loop
-returns c = search needs
+returns c = tt
 
 pub print-step-spec : {M : Type 1} → statement M
 print-step-spec =
@@ -56,12 +46,9 @@ print-step-spec =
     (tie.spec
     Inv-loop
     μ-loop
+    cells-of-requires
     loop-holds
-    write-block-requires
-    sub-print-words
-    part-print-words-start
-    part-print-words-end
-    print-words-requires
+    print-block-requires
     add-x
     loop-less
     loop-again
