@@ -13,6 +13,7 @@ use Rattle.instance.specs.declared.Sizes.{Sizes}
 use Rattle.instance.specs.Limits.{Limits}
 use Rattle.formula.specs.Variables.{Literal, index, highest}
 use Rattle.formula.specs.Formula.{Clause, line, noTwo, blockD, blockE}
+use Rattle.variables.specs.declared.Variable.{Variable}
 use Rattle.variables.proofs.Laws.{bounds}
 use Rattle.families.specs.declared.Run.{Run}
 use Rattle.families.specs.Runs.{nots, above}
@@ -25,7 +26,7 @@ pub one-room : (c : Clause) {n : ℕ} → length (each line (c ∷ [])) ≤ n �
 one-room c h = rw (append-nil (line c)) at h
 
 -- ---- pairs of a run
-pub within : (run : Run) {i : ℕ} → i < run .count → run .first + run .count * run .stride ≤ highest → run .first + i * run .stride ≤ highest
+pub within : (run : Run) {i : ℕ} → i < run .count → run .first .0 + run .count * run .stride ≤ highest → run .first .0 + i * run .stride ≤ highest
 within run {i} l h = omega (arith, suc-mul i (run .stride), mul-le-mul-right (run .stride) l)
 
 module _ (¬x : ℕ → Literal) where
@@ -39,22 +40,22 @@ module _ (¬x : ℕ → Literal) where
 module _ (s : Sizes) (t : ℕ) where
   open Sizes s using (n, k, m)
 
-  pub vertices : (a x : ℕ) → x ≡ suc (index s t a 0) → noTwo n (nots (record { first = x; stride = 1; count = n })) ≡ blockD s t a
+  pub vertices : (a : ℕ) (x : Variable) → x .0 ≡ suc (index s t a 0) → noTwo n (nots (record { first = x; stride = 1; count = n })) ≡ blockD s t a
   unfolding index
-  vertices a x e = ap (noTwo n) (fun-ext (λ v. let q : x + v * 1 ≡ suc (index s t a v) = omega arith in ap (λ (y : ℕ). negℤ (pos y)) q))
+  vertices a x e = ap (noTwo n) (fun-ext (λ v. let q : x .0 + v * 1 ≡ suc (index s t a v) = omega arith in ap (λ (y : ℕ). negℤ (pos y)) q))
 
-  pub agents : (v x : ℕ) → x ≡ suc (index s t 0 v) → noTwo k (nots (record { first = x; stride = n; count = k })) ≡ blockE s t v
+  pub agents : (v : ℕ) (x : Variable) → x .0 ≡ suc (index s t 0 v) → noTwo k (nots (record { first = x; stride = n; count = k })) ≡ blockE s t v
   unfolding index
   agents v x e =
       ap (noTwo k) (fun-ext (λ a.
-      let q : x + a * n ≡ suc (index s t a v) = omega (arith, add-mul (t * k) a n, add-mul (t * k) 0 n) in
+      let q : x .0 + a * n ≡ suc (index s t a v) = omega (arith, add-mul (t * k) a n, add-mul (t * k) 0 n) in
       ap (λ (y : ℕ). negℤ (pos y)) q))
 
-  pub vertices-fit : Limits s → (a x : ℕ) → t ≤ m → a < k → x ≡ suc (index s t a 0) → x + n * 1 ≤ highest
+  pub vertices-fit : Limits s → (a : ℕ) (x : Variable) → t ≤ m → a < k → x .0 ≡ suc (index s t a 0) → x .0 + n * 1 ≤ highest
   unfolding index
   vertices-fit w a x ht ha e = omega (arith, bounds s t a w ht ha, w .n-most)
 
-  pub agents-fit : Limits s → (v x : ℕ) → t ≤ m → v < n → x ≡ suc (index s t 0 v) → x + k * n ≤ highest
+  pub agents-fit : Limits s → (v : ℕ) (x : Variable) → t ≤ m → v < n → x .0 ≡ suc (index s t 0 v) → x .0 + k * n ≤ highest
   unfolding index
   agents-fit w v x ht hv e =
       let q : k * n ≤ 1024 = mul-le-mul {n₂ = 16} {m₂ = 64} (w .k-most) (w .n-most) in

@@ -12,7 +12,7 @@ use Rattle.families.specs.declared.Run.{Run}
 
 -- the negation of variable i of a run
 abbrev pub nots : Run → ℕ → Literal
-nots run i = negℤ (pos (run .first + i * run .stride))
+nots run i = negℤ (pos (run .first .0 + i * run .stride))
 
 -- of noTwo: i and j do not both hold, where j comes after i
 abbrev pub above : (ℕ → Literal) → ℕ → ℕ → List Clause

@@ -21,7 +21,7 @@ ghost use Rattle.families.specs.Runs.{nots, above, apart};
 
 // Variables at one distance from each to the next.
 pub struct Run {
-    pub first: usize,
+    pub first: Variable,
     pub stride: usize,
     pub count: usize,
 }
@@ -46,15 +46,15 @@ fn write_unit(f: &mut [i32], s: Sizes, t: Step, row: &[u8; 16], a: Agent) -> usi
 
 // The negation of variable i of a run.
 fn not_in(run: Run, i: usize) -> i32
-    requires { ⌜ run .first + i * run .stride ≤ highest ⌝ }
+    requires { ⌜ run .first .0 + i * run .stride ≤ highest ⌝ }
     ensures { λ r. ⌜ r ≡ nots run i ⌝ }
 {
-    variables::negation_of(Variable(run.first + i * run.stride))
+    variables::negation_of(Variable(run.first.0 + i * run.stride))
 }
 
 // Of a run, i and each that comes after it do not both hold.
 fn write_above(f: &mut [i32], run: Run, i: usize) -> usize
-    requires { ⌜ (i < run .count) × (run .first + run .count * run .stride ≤ highest) ⌝ }
+    requires { ⌜ (i < run .count) × (run .first .0 + run .count * run .stride ≤ highest) ⌝ }
     requires { ⌜ length (each line (for (run .count) (above (nots run) i))) ≤ length (now f) ⌝ }
     ensures { λ r. ⌜ Wrote (each line (for (run .count) (above (nots run) i))) (now (f .entry)) (now (f .exit)) r ⌝ }
 {
@@ -70,7 +70,7 @@ fn write_above(f: &mut [i32], run: Run, i: usize) -> usize
 
 // No two of a run hold.
 fn write_no_two(f: &mut [i32], run: Run) -> usize
-    requires { ⌜ run .first + run .count * run .stride ≤ highest ⌝ }
+    requires { ⌜ run .first .0 + run .count * run .stride ≤ highest ⌝ }
     requires { ⌜ length (each line (noTwo (run .count) (nots run))) ≤ length (now f) ⌝ }
     ensures { λ r. ⌜ Wrote (each line (noTwo (run .count) (nots run))) (now (f .entry)) (now (f .exit)) r ⌝ }
 {
@@ -91,7 +91,7 @@ fn write_d(f: &mut [i32], s: Sizes, t: Step, a: Agent) -> usize
 {
     let first = variables::variable_of(s, t, a, Vertex(0));
     let run = Run {
-        first: first.0,
+        first,
         stride: 1,
         count: s.n,
     };
@@ -107,7 +107,7 @@ fn write_e(f: &mut [i32], s: Sizes, t: Step, v: Vertex) -> usize
 {
     let first = variables::variable_of(s, t, Agent(0), v);
     let run = Run {
-        first: first.0,
+        first,
         stride: s.n,
         count: s.k,
     };
