@@ -11,8 +11,14 @@ fn filled(s: &mut [u8]) -> bool {
 }
 
 // Reads an input and prints for it, where `left` may follow. Answers how many may follow it, 0 where there is none.
-fn print_next(input: &mut [u8], words: &mut [i32], text: &mut [u8], left: usize) -> usize
-    requires { ⌜ (2 ≤ length (now input)) × Room (now words) (now text) × (0 < left) ⌝ }
+fn print_next(
+    input: &mut [u8],
+    words: &mut [i32],
+    text: &mut [u8],
+    texts: &mut [u8],
+    left: usize,
+) -> usize
+    requires { ⌜ (2 ≤ length (now input)) × Room (now words) (now text) (now texts) × (0 < left) ⌝ }
     ensures { λ r. ⌜ r < left ⌝ }
 {
     if !filled(&mut input[0..2]) {
@@ -25,22 +31,23 @@ fn print_next(input: &mut [u8], words: &mut [i32], text: &mut [u8], left: usize)
     if !filled(&mut input[0..n]) {
         return 0;
     }
-    formula_printer::print_input(words, text, &input[0..n]);
+    formula_printer::print_input(words, text, texts, &input[0..n]);
     left - 1
 }
 
-fn run(input: &mut [u8], words: &mut [i32], text: &mut [u8])
-    requires { ⌜ (2 ≤ length (now input)) × Room (now words) (now text) ⌝ }
+fn run(input: &mut [u8], words: &mut [i32], text: &mut [u8], texts: &mut [u8])
+    requires { ⌜ (2 ≤ length (now input)) × Room (now words) (now text) (now texts) ⌝ }
 {
     let mut left: usize = 1000000;
     while 0 < left {
-        left = print_next(input, words, text, left);
+        left = print_next(input, words, text, texts, left);
     }
 }
 
 fn main() {
     let mut input = [0u8; 4070];
-    let mut words = [0i32; 12288];
-    let mut text = [0u8; 147456];
-    run(&mut input, &mut words, &mut text);
+    let mut words = [0i32; 6048];
+    let mut text = [0u8; 72576];
+    let mut texts = [0u8; 270344];
+    run(&mut input, &mut words, &mut text, &mut texts);
 }

@@ -76,11 +76,13 @@ returns-3 c =
     let d = c .before .before .before .before .before .before .before .before .before .before .ask-entries .ensures .1 .1 (c .before .before .before .before .before .before .before .if2 .left) in
     let e = call-answers (c .before .before .before .before .before .before .before .before .before .before .before .before .before .before .before .before .before .before .args .b .now) (c .before .before .before .before .before .before .before .before .before .before .before .before .before .before .before .before .before .before .args .m) (c .before .before .before .before .before .before .before .before .before .before .before .before .before .before .before .check-instance .result .answer) (c .before .before .before .before .before .before .before .before .before .before .before .before .before .before .before .check-instance .result .checked) (c .before .before .before .before .before .before .before .before .before .before .before .before .before .before .before .check-instance .ensures .0) (c .before .before .before .before .before .before .before .before .before .before .before .before .before .before .before .check-instance .ensures .1) (asks (c .before .before .before .before .before .before .before .before .before .before .before .before .before .before .before .before .before .before)) count (c .before .before .before .before .before .before .before .before .before .before .before .before .if1 .left) (c .before .before .before .before .before .before .before .before .before .before .ask-entries .result .answer) (c .before .before .before .before .before .before .before .before .before .before .ask-entries .ensures .0) in
     let same = sizes-same _ _ w ∙ ap (λ (J : Instance). J .sizes) (horizon (c .before .before .before .before .before .before .before .before .before .before .before .before .before .before .before .before .before .before .args .b .now) (c .before .before .before .before .before .before .before .before .before .before .before .before .before .before .before .before .before .before .args .m) (c .before .before .before .before .before .before .before .before .before .before .before .before .before .before .before .check-instance .result .answer) (c .before .before .before .before .before .before .before .before .before .before .before .before .before .before .before .check-instance .result .checked) (c .before .before .before .before .before .before .before .before .before .before .before .before .before .before .before .check-instance .ensures .0) (c .before .before .before .before .before .before .before .before .before .before .before .before .before .before .before .check-instance .ensures .1) (c .before .before .before .before .before .before .before .before .before .before .before .before .if1 .left)) in
-    let n : c .before .before .before .before .before .before .before .before .before .before .ask-entries .result .answer .second - 0 ≡ planBytes (c .before .before .before .before .before .before .before .before .before .before .before .before .before .before .before .check-instance .result .checked .sizes) = omega (arith, d .0) in
-    (e, c .before .before .write-plan .ensures ∙ ap (λ (x : ℕ). filled (take x (c .before .before .before .before .before .before .before .before .before .before .ask-entries .result .places)) (c .before .before .before .before .before .before .before .before .before .before .before .before .before .before .before .before .before .before .args .plan .now)) n
-    ∙ ap (λ (l : List ℕ). filled l (c .before .before .before .before .before .before .before .before .before .before .before .before .before .before .before .before .before .before .args .plan .now)) (d .1)
-    ∙ ap (λ (s : Sizes). filled (namedPlan s (c .before .before .before .before .before .before .before .before .before .before .before .before .before .before .before .before .before .before .args .entries .now)) (c .before .before .before .before .before .before .before .before .before .before .before .before .before .before .before .before .before .before .args .plan .now)) same
-    ∙ slice-filled _ (c .before .before .before .before .before .before .before .before .before .before .ask-entries .result .answer) e _ (c .before .before .before .before .before .before .before .before .before .before .before .before .before .before .before .before .before .before .args .plan .now) (c .before .before .before .before .before .before .before .if2 .left))
+    let n : c .before .before .before .before .before .before .before .before .before .before .ask-entries .result .answer .second - 0 ≡ planBytes (c .before .before .before .before .before .before .before .before .before .before .before .before .before .before .before .check-instance .result .checked .sizes) = omega (arith, d .0) in (
+      e,
+      c .before .before .write-plan .ensures ∙ ap (λ (x : ℕ). filled (take x (c .before .before .before .before .before .before .before .before .before .before .ask-entries .result .places)) (c .before .before .before .before .before .before .before .before .before .before .before .before .before .before .before .before .before .before .args .plan .now)) n
+          ∙ ap (λ (l : List ℕ). filled l (c .before .before .before .before .before .before .before .before .before .before .before .before .before .before .before .before .before .before .args .plan .now)) (d .1)
+          ∙ ap (λ (s : Sizes). filled (namedPlan s (c .before .before .before .before .before .before .before .before .before .before .before .before .before .before .before .before .before .before .args .entries .now)) (c .before .before .before .before .before .before .before .before .before .before .before .before .before .before .before .before .before .before .args .plan .now)) same
+          ∙ slice-filled _ (c .before .before .before .before .before .before .before .before .before .before .ask-entries .result .answer) e _ (c .before .before .before .before .before .before .before .before .before .before .before .before .before .before .before .before .before .before .args .plan .now) (c .before .before .before .before .before .before .before .if2 .left),
+    )
 
 pub decode-spec : {M : Type 1} → statement M
 decode-spec =

@@ -68,9 +68,11 @@ returns-4 : tie.Need-returns-4
 unfolding clauseAnswer clauseSlice
 returns-4 c =
     let e = call-answers (c .before .before .before .before .before .before .before .before .before .before .before .before .before .before .before .before .before .args .b .now) (c .before .before .before .before .before .before .before .before .before .before .before .before .before .before .before .before .before .args .m) (c .before .before .before .before .before .before .before .before .before .before .before .before .before .before .before .check-instance .result .answer) (c .before .before .before .before .before .before .before .before .before .before .before .before .before .before .before .check-instance .result .checked) (c .before .before .before .before .before .before .before .before .before .before .before .before .before .before .before .check-instance .ensures .0) (c .before .before .before .before .before .before .before .before .before .before .before .before .before .before .before .check-instance .ensures .1) (asks (c .before .before .before .before .before .before .before .before .before .before .before .before .before .before .before .before .before)) (count (c .before .before .before .before .before .before .before .before .before .before .before .before .before .before .before .before .before)) (c .before .before .before .before .before .before .before .before .before .before .before .if1 .left) _ (pass-12 (c .before .before .before .before .before .before .before .before .before .before .before .before .before .before .before .before .before .args .b .now) (c .before .before .before .before .before .before .before .before .before .before .before .before .before .before .before .check-instance .result .checked) (passed (c .before .before .before .before .before .before .before .before .before .before .before .before .before .before .before .before .before .args .b .now) (c .before .before .before .before .before .before .before .before .before .before .before .before .before .before .before .before .before .args .m) (c .before .before .before .before .before .before .before .before .before .before .before .before .before .before .before .check-instance .result .answer) (c .before .before .before .before .before .before .before .before .before .before .before .before .before .before .before .check-instance .result .checked) (c .before .before .before .before .before .before .before .before .before .before .before .before .before .before .before .check-instance .ensures .0) (c .before .before .before .before .before .before .before .before .before .before .before .before .before .before .before .check-instance .ensures .1) (c .before .before .before .before .before .before .before .before .before .before .before .if1 .left)) (c .before .before .before .before .before .before .before .before .before .before .before .before .before .before .before .before .before .args .number) (length (c .before .before .before .before .before .before .before .before .before .before .before .before .before .before .before .before .before .args .f .now)) (omega (arith, c .before .before .before .before .before .before .before .before .before .clause-count .ensures, c .before .before .before .before .before .before .before .before .if2 .left)) (c .before .before .before .before .before .before .put-number .result) (c .before .before .before .before .before .before .put-number .ensures .0) (c .before .before .before .before .if3 .left)) in
-    let same = ap (λ (J : Instance). clauseWords J (c .before .before .before .before .before .before .before .before .before .before .before .before .before .before .before .before .before .args .number)) (horizon (c .before .before .before .before .before .before .before .before .before .before .before .before .before .before .before .before .before .args .b .now) (c .before .before .before .before .before .before .before .before .before .before .before .before .before .before .before .before .before .args .m) (c .before .before .before .before .before .before .before .before .before .before .before .before .before .before .before .check-instance .result .answer) (c .before .before .before .before .before .before .before .before .before .before .before .before .before .before .before .check-instance .result .checked) (c .before .before .before .before .before .before .before .before .before .before .before .before .before .before .before .check-instance .ensures .0) (c .before .before .before .before .before .before .before .before .before .before .before .before .before .before .before .check-instance .ensures .1) (c .before .before .before .before .before .before .before .before .before .before .before .if1 .left)) in
-    (e, c .before .copy-words .ensures ∙ ap (λ (l : List ℤ). filled l (c .before .before .before .before .before .before .before .before .before .before .before .before .before .before .before .before .before .args .f .now)) (taken _ _ _ (c .before .before .before .before .before .before .put-number .ensures) ∙ same)
-    ∙ slice-filled _ (accept (c .before .before .before .before .before .before .put-number .result)) e _ (c .before .before .before .before .before .before .before .before .before .before .before .before .before .before .before .before .before .args .f .now) refl)
+    let same = ap (λ (J : Instance). clauseWords J (c .before .before .before .before .before .before .before .before .before .before .before .before .before .before .before .before .before .args .number)) (horizon (c .before .before .before .before .before .before .before .before .before .before .before .before .before .before .before .before .before .args .b .now) (c .before .before .before .before .before .before .before .before .before .before .before .before .before .before .before .before .before .args .m) (c .before .before .before .before .before .before .before .before .before .before .before .before .before .before .before .check-instance .result .answer) (c .before .before .before .before .before .before .before .before .before .before .before .before .before .before .before .check-instance .result .checked) (c .before .before .before .before .before .before .before .before .before .before .before .before .before .before .before .check-instance .ensures .0) (c .before .before .before .before .before .before .before .before .before .before .before .before .before .before .before .check-instance .ensures .1) (c .before .before .before .before .before .before .before .before .before .before .before .if1 .left)) in (
+      e,
+      c .before .copy-words .ensures ∙ ap (λ (l : List ℤ). filled l (c .before .before .before .before .before .before .before .before .before .before .before .before .before .before .before .before .before .args .f .now)) (taken _ _ _ (c .before .before .before .before .before .before .put-number .ensures) ∙ same)
+          ∙ slice-filled _ (accept (c .before .before .before .before .before .before .put-number .result)) e _ (c .before .before .before .before .before .before .before .before .before .before .before .before .before .before .before .before .before .args .f .now) refl,
+    )
 
 pub clause-spec : {M : Type 1} → statement M
 clause-spec =

@@ -6,10 +6,10 @@ use Rattle.program_runs.proofs.run.Statement.{statement}
 use Rattle.program_runs.proofs.run.Tie as tie
 
 abbrev Inv-loop : tie.InvT-loop
-Inv-loop input₀ words₀ text₀ left₀ input words text left = (length input ≡ length input₀) × ((length words ≡ length words₀) × (length text ≡ length text₀))
+Inv-loop input₀ words₀ text₀ texts₀ left₀ input words text texts left = (length input ≡ length input₀) × ((length words ≡ length words₀) × ((length text ≡ length text₀) × (length texts ≡ length texts₀)))
 
 abbrev μ-loop : tie.MeasureT-loop
-μ-loop input₀ words₀ text₀ left₀ input words text left = left
+μ-loop input₀ words₀ text₀ texts₀ left₀ input words text texts left = left
 
 loop-holds : tie.Need-loop-holds Inv-loop μ-loop
 loop-holds c = search needs
@@ -32,6 +32,9 @@ same-length-2 c = search needs
 same-length-3 : tie.Need-same-length-3 Inv-loop μ-loop
 same-length-3 c = search needs
 
+same-length-4 : tie.Need-same-length-4 Inv-loop μ-loop
+same-length-4 c = search needs
+
 returns : tie.Need-returns Inv-loop μ-loop
 returns c = search needs
 
@@ -48,4 +51,5 @@ run-spec =
     same-length
     same-length-2
     same-length-3
+    same-length-4
     returns)
