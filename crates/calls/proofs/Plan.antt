@@ -1,14 +1,14 @@
 -- The plan check's questions are answered yes exactly for the plans that pass.
 use mathlib.Core.Path.{_≡_}
 use mathlib.Core.Logic.{_↔_, Iff·trans}
-use mathlib.Core.List.{List, [], _∷_}
+use mathlib.Core.List.{List, _∷_}
 use Prim.Native.Nat.{ℕ, suc}
 use native.Mathlib.Omega.{arith}
 use lib.Dec.{T}
 use Rattle.lists.specs.Loop.{for, all}
 use Rattle.lists.proofs.Tests.{and-iff, or-imp, not-iff, eqb-iff, ltb-iff, every-iff}
 use Rattle.lists.proofs.Loops.{all-append, for-all}
-use Rattle.answers.specs.Answers.{Question, clear}
+use Rattle.answers.specs.Answers.{clear}
 use Rattle.answers.proofs.Laws.{numbered, clear-iff, each-all, each-nil, decide-iff, decide-after, ask-nil, ask-all}
 use Rattle.instance.specs.declared.Sizes.{Sizes}
 use Rattle.instance.specs.Instance.{Instance, instance}

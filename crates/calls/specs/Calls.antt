@@ -8,7 +8,6 @@ use Rattle.lists.specs.Loop.{for}
 use Rattle.answers.specs.declared.Answer.{Answer}
 use Rattle.answers.specs.declared.Written.{Written}
 use Rattle.answers.specs.Answers.{Question, decide, lent, withClauses}
-use Rattle.instance.specs.declared.Sizes.{Sizes}
 use Rattle.instance.specs.Instance.{Instance, instance}
 use Rattle.instance.specs.Questions.{instanceQuestions}
 use Rattle.formula.specs.Formula.{Formula, formula, line, words}

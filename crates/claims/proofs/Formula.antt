@@ -1,5 +1,5 @@
 -- The formula's counts and the plan check, gathered.
-use mathlib.Core.Path.{_≡_, refl, sym, _∙_, ap}
+use mathlib.Core.Path.{_≡_, sym, _∙_, ap}
 use mathlib.Core.List.{List, [], _∷_, _++_}
 use Prim.Native.Nat.{ℕ, suc, _*_, _-_, _/_, _≤_}
 use native.Mathlib.Nat.{mul-comm, mul-div-cancel-left}

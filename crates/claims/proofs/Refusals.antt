@@ -1,25 +1,24 @@
 -- Refusals, proved from what `decide` is.
 use mathlib.Core.Path.{_≡_, refl, sym, _∙_, ap, subst}
-use mathlib.Core.Logic.{_↔_, _≢_, ⊎-elim}
+use mathlib.Core.Logic.{_≢_}
 use mathlib.Core.List.{List, [], _∷_, _++_, cons≢nil}
-use mathlib.Core.Bool.{Bool, true, false, _&&_}
-use Prim.Native.Nat.{ℕ, zero, suc, _<_}
+use mathlib.Core.Bool.{Bool, true, false}
+use Prim.Native.Nat.{ℕ, zero, suc}
 use native.Mathlib.Nat.{le-refl}
 use native.Mathlib.Omega.{arith}
-use lib.ListN.{length}
 use lib.Dec.{T}
 use lib.IntN.{ℤ}
 use Rattle.lists.specs.Loop.{for, unless, all}
 use Rattle.lists.proofs.Tests.{and-iff}
 use Rattle.lists.proofs.Loops.{all-append, unless-nil, for-nil}
 use Rattle.answers.specs.declared.Answer.{Answer}
-use Rattle.answers.specs.Answers.{Question, refuse, ask, askEach, decide, lent, withClauses, clear}
+use Rattle.answers.specs.Answers.{Question, ask, askEach, decide, withClauses}
 use Rattle.answers.proofs.Laws.{numbered, ask-all, decide-iff, lent-refused, byNumber-refused, numbered-second}
 use Rattle.instance.specs.Instance.{Instance, instance}
 use Rattle.instance.specs.Questions.{instanceQuestions, instanceAnswer}
 use Rattle.instance.proofs.Instance.{numbered-instance}
 use Rattle.formula.specs.Formula.{Formula, formula}
-use Rattle.calls.specs.Questions.{question11, question12, question13, question14, question15, question16, question23, question24}
+use Rattle.calls.specs.Questions.{question13, question14, question15, question16, question23, question24}
 use Rattle.calls.specs.Calls.{stepQuestions, planQuestions, writeQuestions, writeAnswer, writeSlice, clauseQuestions, clauseAnswer, clauseSlice, checkQuestions, checkAnswer, decodeQuestions, decodeAnswer, decodeSlice, encodeQuestions, encodeAnswer, encodeSlice}
 use Rattle.calls.proofs.Plan.{numbered-plan}
 use Rattle.calls.proofs.Valuation.{numbered-valuation}

@@ -1,5 +1,5 @@
 // What a lent slice holds before a call, and a hash of what it holds after one.
-ghost use Prim.Native.Nat.{_≤_, _<_};
+ghost use Prim.Native.Nat.{_<_};
 
 // What element i of a lent slice holds before a call.
 fn before(i: usize) -> u8 {

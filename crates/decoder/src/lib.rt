@@ -2,8 +2,7 @@
 use answers::Answer;
 use instance::Checked;
 ghost use mathlib.Core.Path.{_≡_};
-ghost use mathlib.Core.List.{[], _∷_};
-ghost use Prim.Native.Nat.{_*_, _≤_};
+ghost use Prim.Native.Nat.{_≤_};
 ghost use lib.ListN.{length, take};
 ghost use Rattle.lists.specs.Slice.{filled};
 ghost use Rattle.answers.specs.Answers.{decide};

@@ -3,7 +3,6 @@ use instance::Checked;
 use instance::Sizes;
 ghost use Prim.Native.Nat.{_*_, _≤_, _<_};
 ghost use lib.ListN.{length};
-ghost use Rattle.instance.specs.Limits.{Limits};
 ghost use Rattle.instance.specs.Accepted.{Accepted};
 ghost use Rattle.formula.specs.Blocks.{steps, cells};
 ghost use Rattle.families.specs.Held.{heldIn, Ready};

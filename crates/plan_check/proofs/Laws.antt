@@ -1,5 +1,5 @@
 -- What the answers of this crate share.
-use mathlib.Core.Path.{_≡_, refl, sym, _∙_, ap, ap₂, subst}
+use mathlib.Core.Path.{_≡_, sym, _∙_, ap, ap₂, subst}
 use mathlib.Core.Logic.{_≢_}
 use mathlib.Core.List.{List, [], _∷_, _++_}
 use mathlib.Core.Bool.{Bool, true, false}
@@ -13,7 +13,7 @@ use Rattle.lists.specs.Loop.{for, unless, all}
 use Rattle.lists.proofs.Tests.{and-iff, eqb-iff}
 use Rattle.lists.proofs.Loops.{for-all}
 use Rattle.answers.specs.declared.Answer.{Answer}
-use Rattle.answers.specs.Answers.{Question, refuse, accept, askEach, decide, clear}
+use Rattle.answers.specs.Answers.{Question, refuse, accept, askEach, decide}
 use Rattle.answers.specs.Fault.{FirstFault}
 use Rattle.answers.proofs.Laws.{numbered, each-all, decide-iff, decide-count, decide-after, decide-front, count-free, asked-all, fault-pass, fault-stop, ask-yes, ask-no}
 use Rattle.answers.proofs.Faults.{fault-ext}

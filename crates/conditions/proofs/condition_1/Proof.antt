@@ -8,18 +8,6 @@ use borrow.Author.Needs.{needs}
 use Rattle.conditions.proofs.condition_1.Statement.{statement}
 use Rattle.conditions.proofs.condition_1.Tie as tie
 
-shared-slice-read-wide : tie.Need-shared-slice-read-wide
-shared-slice-read-wide c = search needs
-
-wide-requires : tie.Need-wide-requires
-wide-requires c κs = search needs
-
-shared-slice-read-wide-2 : tie.Need-shared-slice-read-wide-2
-shared-slice-read-wide-2 c = search needs
-
-wide-requires-2 : tie.Need-wide-requires-2
-wide-requires-2 c κs = search needs
-
 returns : tie.Need-returns
 returns c = keeps-1 _ _ (c .before .before .before .before .before .before .before .before .args .a) _ (sym (c .before .before .before .wide .ensures .0) ∙ c .if1 .taken ∙ c .before .wide2 .ensures .0)
 
@@ -39,10 +27,10 @@ pub condition-1-spec : {M : Type 1} → statement M
 condition-1-spec =
     tie.close
     (tie.spec
-    shared-slice-read-wide
-    wide-requires
-    shared-slice-read-wide-2
-    wide-requires-2
+    (λ c. search needs)
+    (λ c κs. search needs)
+    (λ c. search needs)
+    (λ c κs. search needs)
     returns
     is-edge-requires
     returns-2)

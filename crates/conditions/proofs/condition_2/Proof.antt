@@ -4,15 +4,6 @@ use borrow.Author.Needs.{needs}
 use Rattle.conditions.proofs.condition_2.Statement.{statement}
 use Rattle.conditions.proofs.condition_2.Tie as tie
 
-shared-slice-read-v : tie.Need-shared-slice-read-v
-shared-slice-read-v c = search needs
-
-shared-slice-read-w : tie.Need-shared-slice-read-w
-shared-slice-read-w c = search needs
-
-first-on-requires : tie.Need-first-on-requires
-first-on-requires c κs = search needs
-
 returns : tie.Need-returns
 returns c = enters-2 _ _ (c .before .before .before .before .before .before .args .a) _ (c .before .if1 .taken) (c .first-on .result) (c .first-on .ensures)
 
@@ -22,4 +13,4 @@ returns-2 c = keeps-2 _ _ (c .before .before .before .before .before .args .a) _
 pub condition-2-spec : {M : Type 1} → statement M
 condition-2-spec =
     tie.close
-    (tie.spec shared-slice-read-v shared-slice-read-w first-on-requires returns returns-2)
+    (tie.spec (λ c. search needs) (λ c. search needs) (λ c κs. search needs) returns returns-2)

@@ -5,9 +5,6 @@ use borrow.Author.Needs.{needs}
 use Rattle.conditions.proofs.condition_3.Statement.{statement}
 use Rattle.conditions.proofs.condition_3.Tie as tie
 
-shared-slice-read-w : tie.Need-shared-slice-read-w
-shared-slice-read-w c = search needs
-
 first-on-requires : tie.Need-first-on-requires
 first-on-requires c κs = omega arith
 
@@ -15,4 +12,4 @@ returns : tie.Need-returns
 returns c = shares-3 _ (c .before .before .before .args .a) (c .first-on .result) (c .first-on .ensures)
 
 pub condition-3-spec : {M : Type 1} → statement M
-condition-3-spec = tie.close (tie.spec shared-slice-read-w first-on-requires returns)
+condition-3-spec = tie.close (tie.spec (λ c. search needs) first-on-requires returns)

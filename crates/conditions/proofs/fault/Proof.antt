@@ -26,12 +26,6 @@ passes-requires c κs = (c .before .before .before .before .before .before .pre 
 returns : tie.Need-returns Inv-loop μ-loop
 returns c = fault-at (omega arith) (c .before .before .before .loop .inv .1) (fails (c .before .passes .ensures) (not-true _ (c .if1 .taken)))
 
-add-a : tie.Need-add-a Inv-loop μ-loop
-add-a c = search needs
-
-loop-less : tie.Need-loop-less Inv-loop μ-loop
-loop-less c = search needs
-
 loop-again : tie.Need-loop-again Inv-loop μ-loop
 loop-again c = (omega arith, below-more _ _ (c .before .before .before .loop .inv .1) (holds (c .before .passes .ensures) (not-false _ (c .if1 .left))))
 
@@ -47,7 +41,7 @@ fault-spec =
     loop-holds
     passes-requires
     returns
-    add-a
-    loop-less
+    (λ c. search needs)
+    (λ c. search needs)
     loop-again
     returns-2)

@@ -1,14 +1,10 @@
 -- `conditions::passes` meets its contract: by the number. Assumes nothing.
-use mathlib.Core.Path.{_∙_, ap, sym}
-use mathlib.Core.Bool.{Bool}
+use mathlib.Core.Path.{_∙_, ap}
 use native.Mathlib.Omega.{arith}
-use Prim.Native.Nat.{ℕ}
 use Rattle.instance.specs.declared.Sizes.{Sizes}
-use Rattle.instance.specs.Accepted.{instanceOf}
 use Rattle.instance.proofs.Accepted.{sizes-same}
-use Rattle.plan.specs.Plan.{row, condition, condition2}
+use Rattle.plan.specs.Plan.{row, condition2}
 use Rattle.conditions.proofs.Laws.{condition-last}
-use borrow.Author.Needs.{needs}
 use Rattle.conditions.proofs.passes.Statement.{statement}
 use Rattle.conditions.proofs.passes.Tie as tie
 

@@ -1,5 +1,5 @@
 -- `conditions::step_fault` meets its contract: the two parts of the bytes are the two rows. Assumes nothing.
-use mathlib.Core.Path.{ap, sym}
+use mathlib.Core.Path.{ap}
 use Prim.Native.Nat.{_+_, _*_}
 use native.Mathlib.Omega.{arith}
 use Rattle.instance.specs.declared.Sizes.{Sizes}
@@ -23,20 +23,8 @@ add-next c = omega (arith, known (c .before .before .before))
 add-end : tie.Need-add-end
 add-end c = omega (arith, known (c .before .before .before))
 
-sub-fault : tie.Need-sub-fault
-sub-fault c = search needs
-
-part-fault-start : tie.Need-part-fault-start
-part-fault-start c = search needs
-
 part-fault-end : tie.Need-part-fault-end
 part-fault-end c = omega (arith, known (c .before .before .before))
-
-sub-fault-2 : tie.Need-sub-fault-2
-sub-fault-2 c = search needs
-
-part-fault-start-2 : tie.Need-part-fault-start-2
-part-fault-start-2 c = search needs
 
 part-fault-end-2 : tie.Need-part-fault-end-2
 part-fault-end-2 c = omega (arith, known (c .before .before .before .before))
@@ -62,11 +50,11 @@ step-fault-spec =
     mul-row
     add-next
     add-end
-    sub-fault
-    part-fault-start
+    (λ c. search needs)
+    (λ c. search needs)
     part-fault-end
-    sub-fault-2
-    part-fault-start-2
+    (λ c. search needs)
+    (λ c. search needs)
     part-fault-end-2
     fault-requires
     returns)

@@ -1,7 +1,6 @@
 -- `counts::cells_of` meets its contract: by the number. Assumes nothing.
 use native.Mathlib.Omega.{arith}
 use Rattle.formula.proofs.Blocks.{cells-agents, cells-vertices}
-use borrow.Author.Needs.{needs}
 use Rattle.counts.proofs.cells_of.Statement.{statement}
 use Rattle.counts.proofs.cells_of.Tie as tie
 

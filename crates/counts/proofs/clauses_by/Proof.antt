@@ -7,29 +7,14 @@ use Rattle.counts.proofs.Laws.{products}
 use Rattle.counts.proofs.clauses_by.Statement.{statement}
 use Rattle.counts.proofs.clauses_by.Tie as tie
 
-pair-count-requires : tie.Need-pair-count-requires
-pair-count-requires c κs = search needs
-
-pair-count-requires-2 : tie.Need-pair-count-requires-2
-pair-count-requires-2 c κs = search needs
-
-add-t7 : tie.Need-add-t7
-add-t7 c = search needs
-
 mul-t8 : tie.Need-mul-t8
 mul-t8 c = let p = products (c .before .before .args .s) (c .before .before .pre) in omega arith
-
-add-t9 : tie.Need-add-t9
-add-t9 c = search needs
 
 mul-t10 : tie.Need-mul-t10
 mul-t10 c = let p = products (c .before .before .args .s) (c .before .before .pre) in omega arith
 
 mul-t11 : tie.Need-mul-t11
 mul-t11 c = let p = products (c .before .before .args .s) (c .before .before .pre) in rw (c .before .pair-count .ensures .0) (omega arith)
-
-add-t12 : tie.Need-add-t12
-add-t12 c = search needs
 
 mul-t13 : tie.Need-mul-t13
 mul-t13 c = let p = products (c .before .before .args .s) (c .before .before .pre) in omega arith
@@ -45,9 +30,6 @@ mul-t16 c = let p = products (c .before .before .args .s) (c .before .before .pr
 
 mul-t17 : tie.Need-mul-t17
 mul-t17 c = let p = products (c .before .before .args .s) (c .before .before .pre) in omega arith
-
-sub-t18 : tie.Need-sub-t18
-sub-t18 c = search needs
 
 mul-t19 : tie.Need-mul-t19
 mul-t19 c = let p = products (c .before .before .args .s) (c .before .before .pre) in omega arith
@@ -68,20 +50,20 @@ pub clauses-by-spec : {M : Type 1} → statement M
 clauses-by-spec =
     tie.close
     (tie.spec
-    pair-count-requires
-    pair-count-requires-2
-    add-t7
+    (λ c κs. search needs)
+    (λ c κs. search needs)
+    (λ c. search needs)
     mul-t8
-    add-t9
+    (λ c. search needs)
     mul-t10
     mul-t11
-    add-t12
+    (λ c. search needs)
     mul-t13
     mul-t14
     mul-t15
     mul-t16
     mul-t17
-    sub-t18
+    (λ c. search needs)
     mul-t19
     mul-t20
     returns)

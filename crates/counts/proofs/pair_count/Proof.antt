@@ -10,9 +10,6 @@ use Rattle.counts.proofs.pair_count.Tie as tie
 returns : tie.Need-returns
 returns c = rw (c .if1 .taken) (refl, omega arith)
 
-sub-result : tie.Need-sub-result
-sub-result c = search needs
-
 mul-result : tie.Need-mul-result
 mul-result c = let q : c .before .args .n * (c .before .args .n - 1) ≤ 4032 = mul-le-mul {n₂ = 64} {m₂ = 63} (omega arith) (omega arith) in omega arith
 
@@ -20,4 +17,4 @@ returns-2 : tie.Need-returns-2
 returns-2 c = let q : c .before .args .n * (c .before .args .n - 1) ≤ 4032 = mul-le-mul {n₂ = 64} {m₂ = 63} (omega arith) (omega arith) in (refl, omega arith)
 
 pub pair-count-spec : {M : Type 1} → statement M
-pair-count-spec = tie.close (tie.spec returns sub-result mul-result returns-2)
+pair-count-spec = tie.close (tie.spec returns (λ c. search needs) mul-result returns-2)

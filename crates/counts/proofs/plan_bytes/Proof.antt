@@ -6,9 +6,6 @@ use borrow.Author.Needs.{needs}
 use Rattle.counts.proofs.plan_bytes.Statement.{statement}
 use Rattle.counts.proofs.plan_bytes.Tie as tie
 
-add-result : tie.Need-add-result
-add-result c = search needs
-
 mul-result : tie.Need-mul-result
 mul-result c = let s = c .before .before in omega (arith, products (s .args .s) (s .pre) .rows′)
 
@@ -16,4 +13,4 @@ returns : tie.Need-returns
 returns c = let s = c .before .before in (rw add-one, products (s .args .s) (s .pre) .rows′)
 
 pub plan-bytes-spec : {M : Type 1} → statement M
-plan-bytes-spec = tie.close (tie.spec add-result mul-result returns)
+plan-bytes-spec = tie.close (tie.spec (λ c. search needs) mul-result returns)

@@ -9,9 +9,6 @@ use Rattle.counts.proofs.steps_of.Tie as tie
 returns : tie.Need-returns
 returns c = (steps-ends (c .before .args .s) (c .before .args .which) (c .if1 .taken), omega arith)
 
-add-result : tie.Need-add-result
-add-result c = search needs
-
 returns-2 : tie.Need-returns-2
 returns-2 c =
     let s = c .before .before .before in
@@ -23,4 +20,4 @@ returns-3 c =
     (steps-moves (s .args .s) (s .args .which) (omega arith) (s .pre .1), omega (arith, s .pre .0 .m-most))
 
 pub steps-of-spec : {M : Type 1} → statement M
-steps-of-spec = tie.close (tie.spec returns add-result returns-2 returns-3)
+steps-of-spec = tie.close (tie.spec returns (λ c. search needs) returns-2 returns-3)

@@ -9,9 +9,6 @@ use Rattle.counts.proofs.variable_count.Tie as tie
 mul-result : tie.Need-mul-result
 mul-result c = let s = c .before in omega (arith, products (s .args .s) (s .pre) .places)
 
-add-result : tie.Need-add-result
-add-result c = search needs
-
 mul-result-2 : tie.Need-mul-result-2
 mul-result-2 c = let s = c .before .before in omega (arith, products (s .args .s) (s .pre) .variables)
 
@@ -19,4 +16,4 @@ returns : tie.Need-returns
 returns c = let s = c .before .before in (rw add-one, products (s .args .s) (s .pre) .variables)
 
 pub variable-count-spec : {M : Type 1} → statement M
-variable-count-spec = tie.close (tie.spec mul-result add-result mul-result-2 returns)
+variable-count-spec = tie.close (tie.spec mul-result (λ c. search needs) mul-result-2 returns)

@@ -7,62 +7,23 @@ use Rattle.formula.specs.Counts.{wordCount}
 use Rattle.counts.proofs.word_count.Statement.{statement}
 use Rattle.counts.proofs.word_count.Tie as tie
 
-clauses-by-requires : tie.Need-clauses-by-requires
-clauses-by-requires c κs = search needs
-
-mul-units : tie.Need-mul-units
-mul-units c = search needs
-
-add-result : tie.Need-add-result
-add-result c = search needs
-
-add-result-2 : tie.Need-add-result-2
-add-result-2 c = search needs
-
-mul-result : tie.Need-mul-result
-mul-result c = search needs
-
-add-result-3 : tie.Need-add-result-3
-add-result-3 c = search needs
-
 mul-result-2 : tie.Need-mul-result-2
 mul-result-2 c = let p = products (c .before .before .before .before .before .args .s) (c .before .before .before .before .before .pre) in omega arith
 
 add-result-4 : tie.Need-add-result-4
 add-result-4 c = let p = products (c .before .before .before .before .before .args .s) (c .before .before .before .before .before .pre) in omega arith
 
-mul-result-3 : tie.Need-mul-result-3
-mul-result-3 c = search needs
-
 add-result-5 : tie.Need-add-result-5
 add-result-5 c = let p = products (c .before .before .before .before .before .before .args .s) (c .before .before .before .before .before .before .pre) in omega arith
 
-mul-result-4 : tie.Need-mul-result-4
-mul-result-4 c = search needs
-
 add-result-6 : tie.Need-add-result-6
 add-result-6 c = let p = products (c .before .before .before .before .before .before .before .args .s) (c .before .before .before .before .before .before .before .pre) in omega arith
-
-mul-result-5 : tie.Need-mul-result-5
-mul-result-5 c = search needs
-
-mul-result-6 : tie.Need-mul-result-6
-mul-result-6 c = search needs
-
-mul-result-7 : tie.Need-mul-result-7
-mul-result-7 c = search needs
-
-add-result-7 : tie.Need-add-result-7
-add-result-7 c = search needs
 
 mul-result-8 : tie.Need-mul-result-8
 mul-result-8 c = let p = products (c .before .before .before .before .before .before .before .before .before .before .args .s) (c .before .before .before .before .before .before .before .before .before .before .pre) in omega arith
 
 add-result-8 : tie.Need-add-result-8
 add-result-8 c = let p = products (c .before .before .before .before .before .before .before .before .before .before .args .s) (c .before .before .before .before .before .before .before .before .before .before .pre) in omega arith
-
-mul-result-9 : tie.Need-mul-result-9
-mul-result-9 c = search needs
 
 add-result-9 : tie.Need-add-result-9
 add-result-9 c = let p = products (c .before .before .before .before .before .before .before .before .before .before .before .args .s) (c .before .before .before .before .before .before .before .before .before .before .before .pre) in omega arith
@@ -75,24 +36,24 @@ pub word-count-spec : {M : Type 1} → statement M
 word-count-spec =
     tie.close
     (tie.spec
-    clauses-by-requires
-    mul-units
-    add-result
-    add-result-2
-    mul-result
-    add-result-3
+    (λ c κs. search needs)
+    (λ c. search needs)
+    (λ c. search needs)
+    (λ c. search needs)
+    (λ c. search needs)
+    (λ c. search needs)
     mul-result-2
     add-result-4
-    mul-result-3
+    (λ c. search needs)
     add-result-5
-    mul-result-4
+    (λ c. search needs)
     add-result-6
-    mul-result-5
-    mul-result-6
-    mul-result-7
-    add-result-7
+    (λ c. search needs)
+    (λ c. search needs)
+    (λ c. search needs)
+    (λ c. search needs)
     mul-result-8
     add-result-8
-    mul-result-9
+    (λ c. search needs)
     add-result-9
     returns)

@@ -30,12 +30,6 @@ read-entries-requires c κs = (limits-known _ _ (c .before .before .before .befo
 returns-3 : tie.Need-returns-3
 returns-3 c = (stop-23 (c .before .before .before .before .before .before .before .before .before .before .args .b .now) (c .before .before .before .before .before .before .before .before .before .before .args .c) (c .before .before .before .before .before .before .before .before .before .before .pre) (c .before .before .before .before .before .before .before .before .before .before .args .entries .now) (c .before .before .before .before .before .before .before .before .before .before .args .size) (c .before .before .before .before .before .if1 .left ∙ c .before .before .before .before .before .before .before .variable-count .ensures .0) (omega (arith, c .before .before .before .before .before .before .plan-bytes .ensures .0, c .before .before .before .before .if2 .left)) (c .before .before .before .read-entries .result .wrong) (c .before .before .before .read-entries .ensures .0) (omega (arith, c .before .before .before .before .before .before .before .variable-count .ensures .0, c .if3 .taken)), (c .before .before .before .read-entries .ensures .1 .0, λ e. absurd (let f : ⊥ = omega arith in f)))
 
-sub-clause-fault : tie.Need-sub-clause-fault
-sub-clause-fault c = search needs
-
-part-clause-fault-start : tie.Need-part-clause-fault-start
-part-clause-fault-start c = search needs
-
 part-clause-fault-end : tie.Need-part-clause-fault-end
 part-clause-fault-end c = omega (arith, c .before .before .before .before .before .before .before .plan-bytes .ensures .1, c .before .before .before .before .read-entries .ensures .1 .0)
 
@@ -66,8 +60,8 @@ ask-entries-spec =
     returns-2
     read-entries-requires
     returns-3
-    sub-clause-fault
-    part-clause-fault-start
+    (λ c. search needs)
+    (λ c. search needs)
     part-clause-fault-end
     clause-fault-requires
     clause-count-requires

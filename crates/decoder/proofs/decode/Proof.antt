@@ -1,7 +1,7 @@
 -- `decoder::decode` meets its contract: the instance check decides, or the questions of the entries, or the plan is written. Assumes nothing.
 use mathlib.Core.Path.{_≡_, sym, _∙_, ap}
 use mathlib.Core.List.{List}
-use Prim.Native.Nat.{ℕ, _-_, _≤_}
+use Prim.Native.Nat.{ℕ, _-_}
 use native.Mathlib.Omega.{arith}
 use lib.ListN.{length, take}
 use lib.Seq.{length-take-le}
@@ -16,7 +16,7 @@ use Rattle.formula.proofs.Limits.{rows}
 use Rattle.plan.specs.Plan.{planBytes}
 use Rattle.valuation.specs.Valuation.{namedPlan}
 use Rattle.calls.specs.Calls.{decodeRest, decodeAnswer, decodeSlice}
-use Rattle.decoder.proofs.Laws.{Ready, ready}
+use Rattle.decoder.proofs.Laws.{ready}
 use borrow.Author.Needs.{needs}
 use Rattle.decoder.proofs.decode.Statement.{statement}
 use Rattle.decoder.proofs.decode.Tie as tie
@@ -27,9 +27,6 @@ asks s I = decodeRest I (s .args .entries .now) (length (s .args .plan .now))
 
 abbrev count : Instance → ℕ
 count I = planBytes (I .sizes)
-
-check-instance-requires : tie.Need-check-instance-requires
-check-instance-requires c κs = search needs
 
 returns : tie.Need-returns
 unfolding decodeAnswer decodeSlice
@@ -46,12 +43,6 @@ returns-2 c =
     let e = call-answers (c .before .before .before .before .before .before .before .before .before .before .before .args .b .now) (c .before .before .before .before .before .before .before .before .before .before .before .args .m) (c .before .before .before .before .before .before .before .before .check-instance .result .answer) (c .before .before .before .before .before .before .before .before .check-instance .result .checked) (c .before .before .before .before .before .before .before .before .check-instance .ensures .0) (c .before .before .before .before .before .before .before .before .check-instance .ensures .1) (asks (c .before .before .before .before .before .before .before .before .before .before .before)) count (c .before .before .before .before .before .if1 .left) (c .before .before .before .ask-entries .result .answer) (c .before .before .before .ask-entries .ensures .0) in
     (e, slice-refused _ (c .before .before .before .ask-entries .result .answer) e _ (c .before .before .before .before .before .before .before .before .before .before .before .args .plan .now) (c .if2 .taken))
 
-sub-write-plan : tie.Need-sub-write-plan
-sub-write-plan c = search needs
-
-part-write-plan-start : tie.Need-part-write-plan-start
-part-write-plan-start c = search needs
-
 part-write-plan-end : tie.Need-part-write-plan-end
 part-write-plan-end c =
     let w = passed (c .before .before .before .before .before .before .before .before .before .before .before .before .before .before .args .b .now) (c .before .before .before .before .before .before .before .before .before .before .before .before .before .before .args .m) (c .before .before .before .before .before .before .before .before .before .before .before .check-instance .result .answer) (c .before .before .before .before .before .before .before .before .before .before .before .check-instance .result .checked) (c .before .before .before .before .before .before .before .before .before .before .before .check-instance .ensures .0) (c .before .before .before .before .before .before .before .before .before .before .before .check-instance .ensures .1) (c .before .before .before .before .before .before .before .before .if1 .left) in
@@ -65,9 +56,6 @@ write-plan-requires c κs =
     let y = ready (c .before .before .before .before .before .before .before .before .before .before .before .before .before .before .before .args .b .now) (c .before .before .before .before .before .before .before .before .before .before .before .before .check-instance .result .checked) w (c .before .before .before .before .before .before .before .before .before .before .before .before .before .before .before .args .entries .now) (length (c .before .before .before .before .before .before .before .before .before .before .before .before .before .before .before .args .plan .now)) (sym (ap (λ (a : Answer). a .number) (c .before .before .before .before .before .before .before .ask-entries .ensures .0)) ∙ c .before .before .before .before .if2 .left) in
     let l = length-take-le (c .before .before .before .before .before .before .before .ask-entries .result .answer .second - 0) (c .before .before .before .before .before .before .before .ask-entries .result .places) (omega (arith, d .0, c .before .before .before .before .before .before .before .ask-entries .ensures .1 .0, rows _ (limits-known _ _ w))) in
     omega (arith, l, d .0, y .fits)
-
-same-length : tie.Need-same-length
-same-length c = search needs
 
 returns-3 : tie.Need-returns-3
 unfolding decodeAnswer decodeSlice
@@ -88,13 +76,13 @@ pub decode-spec : {M : Type 1} → statement M
 decode-spec =
     tie.close
     (tie.spec
-    check-instance-requires
+    (λ c κs. search needs)
     returns
     ask-entries-requires
     returns-2
-    sub-write-plan
-    part-write-plan-start
+    (λ c. search needs)
+    (λ c. search needs)
     part-write-plan-end
     write-plan-requires
-    same-length
+    (λ c. search needs)
     returns-3)

@@ -21,18 +21,6 @@ abbrev μ-loop : tie.MeasureT-loop
 loop-holds : tie.Need-loop-holds Inv-loop μ-loop
 loop-holds c = (omega arith, refl, sym (filled-nil _))
 
-shared-slice-read-plan : tie.Need-shared-slice-read-plan Inv-loop μ-loop
-shared-slice-read-plan c = search needs
-
-slice-write-plan : tie.Need-slice-write-plan Inv-loop μ-loop
-slice-write-plan c = search needs
-
-add-i : tie.Need-add-i Inv-loop μ-loop
-add-i c = search needs
-
-loop-less : tie.Need-loop-less Inv-loop μ-loop
-loop-less c = search needs
-
 loop-again : tie.Need-loop-again Inv-loop μ-loop
 loop-again c = (
   omega arith,
@@ -54,10 +42,10 @@ write-plan-spec =
     Inv-loop
     μ-loop
     loop-holds
-    shared-slice-read-plan
-    slice-write-plan
-    add-i
-    loop-less
+    (λ c. search needs)
+    (λ c. search needs)
+    (λ c. search needs)
+    (λ c. search needs)
     loop-again
     same-length
     returns)

@@ -11,33 +11,6 @@ use borrow.Author.Needs.{needs}
 use Rattle.dimacs.proofs.copy_eight.Statement.{statement}
 use Rattle.dimacs.proofs.copy_eight.Tie as tie
 
-shared-slice-read-a : tie.Need-shared-slice-read-a
-shared-slice-read-a c = search needs
-
-shared-slice-read-b : tie.Need-shared-slice-read-b
-shared-slice-read-b c = search needs
-
-shared-slice-read-c : tie.Need-shared-slice-read-c
-shared-slice-read-c c = search needs
-
-shared-slice-read-d : tie.Need-shared-slice-read-d
-shared-slice-read-d c = search needs
-
-shared-slice-read-e : tie.Need-shared-slice-read-e
-shared-slice-read-e c = search needs
-
-shared-slice-read-f : tie.Need-shared-slice-read-f
-shared-slice-read-f c = search needs
-
-shared-slice-read-g : tie.Need-shared-slice-read-g
-shared-slice-read-g c = search needs
-
-shared-slice-read-h : tie.Need-shared-slice-read-h
-shared-slice-read-h c = search needs
-
-slice-write-out : tie.Need-slice-write-out
-slice-write-out c = search needs
-
 slice-write-out-2 : tie.Need-slice-write-out-2
 slice-write-out-2 c = simp length-set (omega arith)
 
@@ -72,15 +45,15 @@ pub copy-eight-spec : {M : Type 1} → statement M
 copy-eight-spec =
     tie.close
     (tie.spec
-    shared-slice-read-a
-    shared-slice-read-b
-    shared-slice-read-c
-    shared-slice-read-d
-    shared-slice-read-e
-    shared-slice-read-f
-    shared-slice-read-g
-    shared-slice-read-h
-    slice-write-out
+    (λ c. search needs)
+    (λ c. search needs)
+    (λ c. search needs)
+    (λ c. search needs)
+    (λ c. search needs)
+    (λ c. search needs)
+    (λ c. search needs)
+    (λ c. search needs)
+    (λ c. search needs)
     slice-write-out-2
     slice-write-out-3
     slice-write-out-4

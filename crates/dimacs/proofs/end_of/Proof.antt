@@ -4,11 +4,8 @@ use borrow.Author.Needs.{needs}
 use Rattle.dimacs.proofs.end_of.Statement.{statement}
 use Rattle.dimacs.proofs.end_of.Tie as tie
 
-returns : tie.Need-returns
-returns c = search needs
-
 returns-2 : tie.Need-returns-2
 returns-2 c = end-space (c .before .args .x) (c .if1 .left)
 
 pub end-of-spec : {M : Type 1} → statement M
-end-of-spec = tie.close (tie.spec returns returns-2)
+end-of-spec = tie.close (tie.spec (λ c. search needs) returns-2)

@@ -6,20 +6,8 @@ use borrow.Author.Needs.{needs}
 use Rattle.dimacs.proofs.put_entry.Statement.{statement}
 use Rattle.dimacs.proofs.put_entry.Tie as tie
 
-end-of-requires : tie.Need-end-of-requires
-end-of-requires c κs = search needs
-
 put-ended-requires : tie.Need-put-ended-requires
 put-ended-requires c κs = omega (arith, length-most 5 (c .before .before .before .args .x) (omega arith))
-
-cast-out : tie.Need-cast-out
-cast-out c = search needs
-
-slice-write-out : tie.Need-slice-write-out
-slice-write-out c = search needs
-
-same-length : tie.Need-same-length
-same-length c = search needs
 
 returns : tie.Need-returns
 returns c =
@@ -29,4 +17,4 @@ returns c =
 pub put-entry-spec : {M : Type 1} → statement M
 put-entry-spec =
     tie.close
-    (tie.spec end-of-requires put-ended-requires cast-out slice-write-out same-length returns)
+    (tie.spec (λ c κs. search needs) put-ended-requires (λ c. search needs) (λ c. search needs) (λ c. search needs) returns)

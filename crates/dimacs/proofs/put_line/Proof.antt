@@ -12,18 +12,6 @@ use borrow.Author.Needs.{needs}
 use Rattle.dimacs.proofs.put_line.Statement.{statement}
 use Rattle.dimacs.proofs.put_line.Tie as tie
 
-put-bytes-requires : tie.Need-put-bytes-requires
-put-bytes-requires c κs = search needs
-
-sub-put-ended : tie.Need-sub-put-ended
-sub-put-ended c = search needs
-
-part-put-ended-start : tie.Need-part-put-ended-start
-part-put-ended-start c = search needs
-
-part-put-ended-end : tie.Need-part-put-ended-end
-part-put-ended-end c = search needs
-
 put-ended-requires : tie.Need-put-ended-requires
 put-ended-requires c κs = simp (length-take, length-drop) (omega (arith, length-any (c .before .before .before .before .before .before .before .args .x) (c .before .before .before .before .before .before .before .fits .x .fits)))
 
@@ -36,17 +24,11 @@ sub-put-ended-2 c = omega (arith, c .before .before .put-ended .ensures .1)
 part-put-ended-start-2 : tie.Need-part-put-ended-start-2
 part-put-ended-start-2 c = omega (arith, c .before .before .put-ended .ensures .1)
 
-part-put-ended-end-2 : tie.Need-part-put-ended-end-2
-part-put-ended-end-2 c = search needs
-
 put-ended-requires-2 : tie.Need-put-ended-requires-2
 put-ended-requires-2 c κs = simp (length-take, length-drop) (omega (arith, length-any (c .before .before .before .before .before .before .before .before .before .before .before .args .y) (c .before .before .before .before .before .before .before .before .before .before .before .fits .y .fits), c .before .before .before .put-ended .ensures .1))
 
 add-result : tie.Need-add-result
 add-result c = omega (arith, c .before .before .before .before .before .before .put-ended .ensures .1, c .before .before .put-ended2 .ensures .1)
-
-same-length : tie.Need-same-length
-same-length c = search needs
 
 returns : tie.Need-returns
 returns c =
@@ -69,16 +51,16 @@ pub put-line-spec : {M : Type 1} → statement M
 put-line-spec =
     tie.close
     (tie.spec
-    put-bytes-requires
-    sub-put-ended
-    part-put-ended-start
-    part-put-ended-end
+    (λ c κs. search needs)
+    (λ c. search needs)
+    (λ c. search needs)
+    (λ c. search needs)
     put-ended-requires
     add-to
     sub-put-ended-2
     part-put-ended-start-2
-    part-put-ended-end-2
+    (λ c. search needs)
     put-ended-requires-2
     add-result
-    same-length
+    (λ c. search needs)
     returns)

@@ -4,19 +4,10 @@ use borrow.Author.Needs.{needs}
 use Rattle.dimacs.proofs.put_refusal.Statement.{statement}
 use Rattle.dimacs.proofs.put_refusal.Tie as tie
 
-slice-aggregate-put-line : tie.Need-slice-aggregate-put-line
-slice-aggregate-put-line c = search needs
-
-put-line-requires : tie.Need-put-line-requires
-put-line-requires c κs = search needs
-
-same-length : tie.Need-same-length
-same-length c = search needs
-
 returns : tie.Need-returns
 unfolding refusalText
 returns c = (c .before .before .put-line .ensures .0, c .before .before .put-line .ensures .1)
 
 pub put-refusal-spec : {M : Type 1} → statement M
 put-refusal-spec =
-    tie.close (tie.spec slice-aggregate-put-line put-line-requires same-length returns)
+    tie.close (tie.spec (λ c. search needs) (λ c κs. search needs) (λ c. search needs) returns)

@@ -8,23 +8,11 @@ use borrow.Author.Needs.{needs}
 use Rattle.dimacs.proofs.put_size.Statement.{statement}
 use Rattle.dimacs.proofs.put_size.Tie as tie
 
-put-known-requires : tie.Need-put-known-requires
-put-known-requires c κs = search needs
-
-same-length : tie.Need-same-length
-same-length c = search needs
-
 returns : tie.Need-returns
 returns c = let b = c .before .before .put-known .ensures in (b, omega (arith, b .0, length-word 9 (c .before .before .before .before .before .before .before .args .x) (omega (arith, c .before .before .before .before .before .before .before .pre .1))))
 
-end-of-requires : tie.Need-end-of-requires
-end-of-requires c κs = search needs
-
 put-ended-requires : tie.Need-put-ended-requires
 put-ended-requires c κs = omega (arith, length-most 9 (c .before .before .before .before .before .args .x) (omega (arith, c .before .before .before .before .before .pre .1)))
-
-same-length-2 : tie.Need-same-length-2
-same-length-2 c = search needs
 
 returns-2 : tie.Need-returns-2
 returns-2 c =
@@ -35,10 +23,10 @@ pub put-size-spec : {M : Type 1} → statement M
 put-size-spec =
     tie.close
     (tie.spec
-    put-known-requires
-    same-length
+    (λ c κs. search needs)
+    (λ c. search needs)
     returns
-    end-of-requires
+    (λ c κs. search needs)
     put-ended-requires
-    same-length-2
+    (λ c. search needs)
     returns-2)

@@ -13,26 +13,14 @@ use borrow.Author.Needs.{needs}
 use Rattle.dimacs.proofs.put_word.Statement.{statement}
 use Rattle.dimacs.proofs.put_word.Tie as tie
 
-size-of-requires : tie.Need-size-of-requires
-size-of-requires c κs = search needs
-
-slice-write-out : tie.Need-slice-write-out
-slice-write-out c = search needs
-
 sub-put-size : tie.Need-sub-put-size
 sub-put-size c = simp length-set (omega arith)
 
 part-put-size-start : tie.Need-part-put-size-start
 part-put-size-start c = simp length-set (omega arith)
 
-part-put-size-end : tie.Need-part-put-size-end
-part-put-size-end c = search needs
-
 put-size-requires : tie.Need-put-size-requires
 put-size-requires c κs = (c .before .before .before .before .before .pre .0, c .before .before .size-of .ensures .1, simp (length-take, length-drop, length-set) (omega (arith, c .before .before .before .before .before .pre .1)))
-
-add-result : tie.Need-add-result
-add-result c = search needs
 
 same-length : tie.Need-same-length
 same-length c = rw (c .before .out .given .1, length-set)
@@ -49,12 +37,6 @@ returns c =
       omega (arith, b .1),
     )
 
-put-size-requires-2 : tie.Need-put-size-requires-2
-put-size-requires-2 c κs = search needs
-
-same-length-2 : tie.Need-same-length-2
-same-length-2 c = search needs
-
 returns-2 : tie.Need-returns-2
 returns-2 c =
     let f = c .before .before .before .before .before .before .before .before .fits .w in
@@ -66,15 +48,15 @@ pub put-word-spec : {M : Type 1} → statement M
 put-word-spec =
     tie.close
     (tie.spec
-    size-of-requires
-    slice-write-out
+    (λ c κs. search needs)
+    (λ c. search needs)
     sub-put-size
     part-put-size-start
-    part-put-size-end
+    (λ c. search needs)
     put-size-requires
-    add-result
+    (λ c. search needs)
     same-length
     returns
-    put-size-requires-2
-    same-length-2
+    (λ c κs. search needs)
+    (λ c. search needs)
     returns-2)

@@ -20,17 +20,8 @@ abbrev μ-loop : tie.MeasureT-loop
 loop-holds : tie.Need-loop-holds Inv-loop μ-loop
 loop-holds c = (omega arith, (omega arith, (below-none _, λ h. absurd (let f : ⊥ = omega arith in f))))
 
-add-middle : tie.Need-add-middle Inv-loop μ-loop
-add-middle c = search needs
-
 comes-before-requires : tie.Need-comes-before-requires Inv-loop μ-loop
 comes-before-requires c κs = (omega (arith, c .before .before .before .pre .long), c .before .before .before .pre .count)
-
-add-from : tie.Need-add-from Inv-loop μ-loop
-add-from c = search needs
-
-loop-less : tie.Need-loop-less Inv-loop μ-loop
-loop-less c = search needs
 
 loop-again : tie.Need-loop-again Inv-loop μ-loop
 loop-again c =
@@ -46,9 +37,6 @@ loop-again c =
         ),
       ),
     )
-
-loop-less-2 : tie.Need-loop-less-2 Inv-loop μ-loop
-loop-less-2 c = search needs
 
 loop-again-2 : tie.Need-loop-again-2 Inv-loop μ-loop
 loop-again-2 c = (omega arith, (omega arith, (c .before .before .before .loop .inv .1 .1 .0, λ h. fails (c .before .comes-before .ensures) (c .if1 .left))))
@@ -66,11 +54,11 @@ first-from-spec =
     Inv-loop
     μ-loop
     loop-holds
-    add-middle
+    (λ c. search needs)
     comes-before-requires
-    add-from
-    loop-less
+    (λ c. search needs)
+    (λ c. search needs)
     loop-again
-    loop-less-2
+    (λ c. search needs)
     loop-again-2
     returns)

@@ -10,35 +10,11 @@ use Rattle.edges.proofs.has_edge.Tie as tie
 
 -- `edges::has_edge` meets its contract. An edge with these ends can only be the one at which the search ended. Assumes nothing.
 
-first-from-requires : tie.Need-first-from-requires
-first-from-requires c κs = search needs
-
 returns : tie.Need-returns
 returns c =
     let s = c .before .before .before in
     let j = c .before .first-from in
     past-all (s .args .b .now) (s .args .e) (s .pre) (s .args .low) (s .args .high) (j .result) (j .ensures) (c .if1 .taken)
-
-add-wide : tie.Need-add-wide
-add-wide c = search needs
-
-shared-slice-read-wide : tie.Need-shared-slice-read-wide
-shared-slice-read-wide c = search needs
-
-wide-requires : tie.Need-wide-requires
-wide-requires c κs = search needs
-
-add-wide-2 : tie.Need-add-wide-2
-add-wide-2 c = search needs
-
-add-wide-3 : tie.Need-add-wide-3
-add-wide-3 c = search needs
-
-shared-slice-read-wide-2 : tie.Need-shared-slice-read-wide-2
-shared-slice-read-wide-2 c = search needs
-
-wide-requires-2 : tie.Need-wide-requires-2
-wide-requires-2 c κs = search needs
 
 returns-2 : tie.Need-returns-2
 returns-2 c =
@@ -58,14 +34,14 @@ pub has-edge-spec : {M : Type 1} → statement M
 has-edge-spec =
     tie.close
     (tie.spec
-    first-from-requires
+    (λ c κs. search needs)
     returns
-    add-wide
-    shared-slice-read-wide
-    wide-requires
-    add-wide-2
-    add-wide-3
-    shared-slice-read-wide-2
-    wide-requires-2
+    (λ c. search needs)
+    (λ c. search needs)
+    (λ c κs. search needs)
+    (λ c. search needs)
+    (λ c. search needs)
+    (λ c. search needs)
+    (λ c κs. search needs)
     returns-2
     returns-3)

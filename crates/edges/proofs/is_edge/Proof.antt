@@ -5,16 +5,10 @@ use Rattle.edges.proofs.Laws.{upward, downward}
 use Rattle.edges.proofs.is_edge.Statement.{statement}
 use Rattle.edges.proofs.is_edge.Tie as tie
 
-has-edge-requires : tie.Need-has-edge-requires
-has-edge-requires c κs = search needs
-
 returns : tie.Need-returns
 returns c =
     let s = c .before .before .before in
     λ m. c .has-edge .ensures ∙ upward (s .args .b .now) (s .args .e) (s .pre) (s .args .v) (s .args .w) m (c .before .if1 .taken)
-
-has-edge-requires-2 : tie.Need-has-edge-requires-2
-has-edge-requires-2 c κs = search needs
 
 returns-2 : tie.Need-returns-2
 returns-2 c =
@@ -22,4 +16,4 @@ returns-2 c =
     λ m. c .has-edge2 .ensures ∙ downward (s .args .b .now) (s .args .e) (s .pre) (s .args .v) (s .args .w) m (c .before .if1 .left)
 
 pub is-edge-spec : {M : Type 1} → statement M
-is-edge-spec = tie.close (tie.spec has-edge-requires returns has-edge-requires-2 returns-2)
+is-edge-spec = tie.close (tie.spec (λ c κs. search needs) returns (λ c κs. search needs) returns-2)

@@ -1,11 +1,8 @@
 -- `encoder::ask_encoding` meets its contract: each question is answered in its order, by the law of that name. Assumes nothing.
-use mathlib.Core.Path.{sym, _∙_, ap, subst}
-use Prim.Native.Nat.{ℕ, _<_, _≤_}
+use mathlib.Core.Path.{sym, _∙_}
 use native.Mathlib.Omega.{arith}
-use Rattle.answers.specs.Answers.{refuse, accept}
 use Rattle.instance.proofs.Accepted.{limits-known}
 use Rattle.encoder.proofs.Questions.{stop-13, stop-16, stop-plan, pass-plan}
-use borrow.Author.Needs.{needs}
 use Rattle.encoder.proofs.ask_encoding.Statement.{statement}
 use Rattle.encoder.proofs.ask_encoding.Tie as tie
 

@@ -1,5 +1,5 @@
 -- `encoder::encode` meets its contract: the instance check decides, or the questions of the plan, or the valuation is written. Assumes nothing.
-use mathlib.Core.Path.{_≡_, sym, _∙_, ap}
+use mathlib.Core.Path.{sym, _∙_, ap}
 use mathlib.Core.List.{List}
 use Prim.Native.Nat.{ℕ}
 use lib.ListN.{length}
@@ -25,9 +25,6 @@ asks s I = encodeRest I (s .args .p .now) (length (s .args .z .now))
 abbrev count : Instance → ℕ
 count I = formula I .variables
 
-check-instance-requires : tie.Need-check-instance-requires
-check-instance-requires c κs = search needs
-
 returns : tie.Need-returns
 unfolding encodeAnswer encodeSlice
 returns c =
@@ -49,9 +46,6 @@ write-valuation-requires c κs =
     let y = ready (c .before .before .before .before .before .before .before .before .before .before .before .before .args .b .now) (c .before .before .before .before .before .before .before .before .before .check-instance .result .checked) w (c .before .before .before .before .before .before .before .before .before .before .before .before .args .p .now) (length (c .before .before .before .before .before .before .before .before .before .before .before .before .args .z .now)) (sym (ap (λ (a : Answer). a .number) (c .before .before .before .before .ask-encoding .ensures)) ∙ c .before .before .if2 .left) in
     (limits-known _ _ w, (y .0, y .1))
 
-same-length : tie.Need-same-length
-same-length c = search needs
-
 returns-3 : tie.Need-returns-3
 unfolding encodeAnswer encodeSlice
 returns-3 c =
@@ -67,10 +61,10 @@ pub encode-spec : {M : Type 1} → statement M
 encode-spec =
     tie.close
     (tie.spec
-    check-instance-requires
+    (λ c κs. search needs)
     returns
     ask-encoding-requires
     returns-2
     write-valuation-requires
-    same-length
+    (λ c. search needs)
     returns-3)

@@ -41,12 +41,6 @@ mul-t13 c = let w = c .before .before .before .before .pre .0 .n-most in omega a
 slice-set-from-z : tie.Need-slice-set-from-z Inv-loop μ-loop
 slice-set-from-z c = let e = c .before .before .before .loop .inv .1 in let r = c .before .before .before .before .pre .1 .2 in omega arith
 
-add-v : tie.Need-add-v Inv-loop μ-loop
-add-v c = search needs
-
-loop-less : tie.Need-loop-less Inv-loop μ-loop
-loop-less c = search needs
-
 loop-again : tie.Need-loop-again Inv-loop μ-loop
 loop-again c =
     let start = c .before .before .before .before in
@@ -77,8 +71,8 @@ write-agent-spec =
     entry-for-requires
     mul-t13
     slice-set-from-z
-    add-v
-    loop-less
+    (λ c. search needs)
+    (λ c. search needs)
     loop-again
     same-length
     returns)

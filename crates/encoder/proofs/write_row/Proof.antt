@@ -48,9 +48,6 @@ add-wide c = omega (arith, place-of c, c .before .loop .inv .1, c .before .befor
 shared-slice-read-wide : tie.Need-shared-slice-read-wide Inv-loop μ-loop
 shared-slice-read-wide c = omega (arith, place-of (c .before), c .before .before .loop .inv .1, c .before .before .before .before .before .pre .1)
 
-wide-requires : tie.Need-wide-requires Inv-loop μ-loop
-wide-requires c κs = search needs
-
 mul-write-agent : tie.Need-mul-write-agent Inv-loop μ-loop
 mul-write-agent c = omega (arith, place-of (c .before .before), c .before .before .before .loop .inv .1, c .before .before .before .before .before .before .pre .1)
 
@@ -67,12 +64,6 @@ write-agent-requires : tie.Need-write-agent-requires Inv-loop μ-loop
 write-agent-requires c κs =
     let start = c .before .before .before .before .before .before .before in
     (start .pre .0, (start .pre .1 .0, c .before .before .before .loop-test .taken, simp (length-take, length-drop) (omega (arith, place-of (c .before .before .before), c .before .before .before .before .loop .inv .1, start .pre .1))))
-
-add-a : tie.Need-add-a Inv-loop μ-loop
-add-a c = search needs
-
-loop-less : tie.Need-loop-less Inv-loop μ-loop
-loop-less c = search needs
 
 loop-again : tie.Need-loop-again Inv-loop μ-loop
 loop-again c =
@@ -105,14 +96,14 @@ write-row-spec =
     mul-at
     add-wide
     shared-slice-read-wide
-    wide-requires
+    (λ c κs. search needs)
     mul-write-agent
     sub-write-agent
     part-write-agent-start
     part-write-agent-end
     write-agent-requires
-    add-a
-    loop-less
+    (λ c. search needs)
+    (λ c. search needs)
     loop-again
     same-length
     returns)

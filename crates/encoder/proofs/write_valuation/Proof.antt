@@ -59,12 +59,6 @@ write-row-requires c κs =
     let start = c .before .before .before .before .before .before in
     (start .pre .0, (omega (arith, c .before .loop-test .taken), start .pre .1 .0, simp (length-take, length-drop) (omega (arith, block (c .before), c .before .before .loop .inv .1, start .pre .1 .1))))
 
-add-t : tie.Need-add-t Inv-loop μ-loop
-add-t c = search needs
-
-loop-less : tie.Need-loop-less Inv-loop μ-loop
-loop-less c = search needs
-
 loop-again : tie.Need-loop-again Inv-loop μ-loop
 loop-again c =
     let start = c .before .before .before .before .before .before .before .before in
@@ -100,8 +94,8 @@ write-valuation-spec =
     part-write-row-start
     part-write-row-end
     write-row-requires
-    add-t
-    loop-less
+    (λ c. search needs)
+    (λ c. search needs)
     loop-again
     same-length
     returns)

@@ -9,36 +9,21 @@ use Rattle.formula_printer.proofs.print_block.Tie as tie
 write-block-requires : tie.Need-write-block-requires
 write-block-requires c κs = let m = block-most (heldIn (c .before .before .before .before .args .s) (c .before .before .before .before .args .starts .now) (c .before .before .before .before .args .goals .now) (c .before .before .before .before .args .table .now)) (c .before .before .before .before .pre .1 .0 .0 .limits) (c .before .before .before .before .args .which) (c .before .before .before .before .args .t) (c .before .before .before .before .args .x) in (c .before .before .before .before .pre .1 .0, (c .before .before .before .before .pre .1 .1, search needs))
 
-sub-print-words : tie.Need-sub-print-words
-sub-print-words c = search needs
-
-part-print-words-start : tie.Need-part-print-words-start
-part-print-words-start c = search needs
-
 part-print-words-end : tie.Need-part-print-words-end
 part-print-words-end c = let m = block-most (heldIn (c .before .before .before .before .before .before .before .args .s) (c .before .before .before .before .before .before .before .args .starts .now) (c .before .before .before .before .before .before .before .args .goals .now) (c .before .before .before .before .before .before .before .args .table .now)) (c .before .before .before .before .before .before .before .pre .1 .0 .0 .limits) (c .before .before .before .before .before .before .before .args .which) (c .before .before .before .before .before .before .before .args .t) (c .before .before .before .before .before .before .before .args .x) in let q = c .before .before .write-block .ensures .0 in search needs
 
 print-words-requires : tie.Need-print-words-requires
 print-words-requires c κs = let m = block-most (heldIn (c .before .before .before .before .before .before .before .before .before .args .s) (c .before .before .before .before .before .before .before .before .before .args .starts .now) (c .before .before .before .before .before .before .before .before .before .args .goals .now) (c .before .before .before .before .before .before .before .before .before .args .table .now)) (c .before .before .before .before .before .before .before .before .before .pre .1 .0 .0 .limits) (c .before .before .before .before .before .before .before .before .before .args .which) (c .before .before .before .before .before .before .before .before .before .args .t) (c .before .before .before .before .before .before .before .before .before .args .x) in let q = c .before .before .before .before .write-block .ensures .0 in (c .before .before .before .before .before .before .before .before .before .pre .0 .1, simp (length-take, length-drop) (search needs))
 
-same-length : tie.Need-same-length
-same-length c = search needs
-
-same-length-2 : tie.Need-same-length-2
-same-length-2 c = search needs
-
-returns : tie.Need-returns
-returns c = search needs
-
 pub print-block-spec : {M : Type 1} → statement M
 print-block-spec =
     tie.close
     (tie.spec
     write-block-requires
-    sub-print-words
-    part-print-words-start
+    (λ c. search needs)
+    (λ c. search needs)
     part-print-words-end
     print-words-requires
-    same-length
-    same-length-2
-    returns)
+    (λ c. search needs)
+    (λ c. search needs)
+    (λ c. search needs))

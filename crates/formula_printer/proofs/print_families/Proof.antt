@@ -14,34 +14,10 @@ Inv-loop words₀ text₀ texts b c table starts goals which₀ words text which
 abbrev μ-loop : tie.MeasureT-loop
 μ-loop words₀ text₀ texts b c table starts goals which₀ words text which = 7 - which
 
-table-of-requires : tie.Need-table-of-requires Inv-loop μ-loop
-table-of-requires c κs = search needs
-
-loop-holds : tie.Need-loop-holds Inv-loop μ-loop
-loop-holds c = search needs
-
-slice-aggregate-print-family : tie.Need-slice-aggregate-print-family Inv-loop μ-loop
-slice-aggregate-print-family c = search needs
-
 print-family-requires : tie.Need-print-family-requires Inv-loop μ-loop
 print-family-requires c κs =
     let w = c .before .before .before .before .before .before .before .before .before .before .before .before .before .pre .1 in
     ((record { words-room = omega (arith, c .before .before .before .before .before .before .loop .inv .1 .0, c .before .before .before .before .before .before .before .before .before .before .before .before .before .pre .0 .0 .words-room); text-room = omega (arith, c .before .before .before .before .before .before .loop .inv .1 .1, c .before .before .before .before .before .before .before .before .before .before .before .before .before .pre .0 .0 .text-room) }, c .before .before .before .before .before .before .before .before .before .before .before .before .before .pre .0 .1), ((record { limits = limits-known _ _ w; starts = starts-inside _ _ w; goals = goals-inside _ _ w }, omega (arith, c .before .before .before .before .before .before .before .before .before .table-of .ensures .0)), c .before .before .before .before .before .loop-test .taken))
-
-add-which : tie.Need-add-which Inv-loop μ-loop
-add-which c = search needs
-
-loop-less : tie.Need-loop-less Inv-loop μ-loop
-loop-less c = search needs
-
-loop-again : tie.Need-loop-again Inv-loop μ-loop
-loop-again c = search needs
-
-same-length : tie.Need-same-length Inv-loop μ-loop
-same-length c = search needs
-
-same-length-2 : tie.Need-same-length-2 Inv-loop μ-loop
-same-length-2 c = search needs
 
 returns : tie.Need-returns Inv-loop μ-loop
 returns c = tt
@@ -52,13 +28,13 @@ print-families-spec =
     (tie.spec
     Inv-loop
     μ-loop
-    table-of-requires
-    loop-holds
-    slice-aggregate-print-family
+    (λ c κs. search needs)
+    (λ c. search needs)
+    (λ c. search needs)
     print-family-requires
-    add-which
-    loop-less
-    loop-again
-    same-length
-    same-length-2
+    (λ c. search needs)
+    (λ c. search needs)
+    (λ c. search needs)
+    (λ c. search needs)
+    (λ c. search needs)
     returns)

@@ -1,9 +1,8 @@
 -- `formula_writer::write_formula` meets its contract: the instance check decides, or the slice is too short, or the words are written. Assumes nothing.
-use mathlib.Core.Path.{_≡_, refl, sym, _∙_, ap}
+use mathlib.Core.Path.{refl, sym, _∙_, ap}
 use mathlib.Core.List.{List}
-use Prim.Native.Nat.{ℕ, _≤_, _<_}
+use Prim.Native.Nat.{ℕ}
 use native.Mathlib.Omega.{arith}
-use lib.IntN.{ℤ}
 use lib.ListN.{length}
 use Rattle.lists.specs.Slice.{filled}
 use Rattle.answers.specs.Answers.{Question, refuse, accept}
@@ -24,9 +23,6 @@ asks s I = writeRest I (length (s .args .f .now))
 abbrev count : Instance → ℕ
 count I = length (words (formula I))
 
-check-instance-requires : tie.Need-check-instance-requires
-check-instance-requires c κs = search needs
-
 returns : tie.Need-returns
 returns c = refused (c .before .before .before .before .before .before .args .b .now) (c .before .before .before .before .before .before .args .m) (c .before .before .before .before .before .before .args .f .now) _ (instance-refuses (c .before .before .before .before .before .before .args .b .now) (c .before .before .before .before .before .before .args .m) (c .before .before .before .before .check-instance .result .answer) (c .before .before .before .before .check-instance .result .checked) (c .before .before .before .before .check-instance .ensures .0) (c .before .before .before .before .check-instance .ensures .1) (asks (c .before .before .before .before .before .before)) count (c .if1 .taken)) (c .if1 .taken)
 
@@ -42,9 +38,6 @@ returns-2 c = rw (c .before .before .word-count .ensures) (refused (c .before .b
 write-words-requires : tie.Need-write-words-requires
 write-words-requires c κs = ((passed (c .before .before .before .before .before .before .before .before .before .before .before .args .b .now) (c .before .before .before .before .before .before .before .before .before .before .before .args .m) (c .before .before .before .before .before .before .before .before .before .check-instance .result .answer) (c .before .before .before .before .before .before .before .before .before .check-instance .result .checked) (c .before .before .before .before .before .before .before .before .before .check-instance .ensures .0) (c .before .before .before .before .before .before .before .before .before .check-instance .ensures .1) (c .before .before .before .before .before .if1 .left)), omega (arith, word-count-of (c .before .before .before .before .before .before .before .before .before .before .before .args .b .now) (c .before .before .before .before .before .before .before .before .before .check-instance .result .checked) (passed (c .before .before .before .before .before .before .before .before .before .before .before .args .b .now) (c .before .before .before .before .before .before .before .before .before .before .before .args .m) (c .before .before .before .before .before .before .before .before .before .check-instance .result .answer) (c .before .before .before .before .before .before .before .before .before .check-instance .result .checked) (c .before .before .before .before .before .before .before .before .before .check-instance .ensures .0) (c .before .before .before .before .before .before .before .before .before .check-instance .ensures .1) (c .before .before .before .before .before .if1 .left)), c .before .before .before .word-count .ensures, c .before .if2 .left))
 
-same-length : tie.Need-same-length
-same-length c = search needs
-
 returns-3 : tie.Need-returns-3
 returns-3 c =
     let same = horizon (c .before .before .before .before .before .before .before .before .before .before .before .before .before .args .b .now) (c .before .before .before .before .before .before .before .before .before .before .before .before .before .args .m) (c .before .before .before .before .before .before .before .before .before .before .before .check-instance .result .answer) (c .before .before .before .before .before .before .before .before .before .before .before .check-instance .result .checked) (c .before .before .before .before .before .before .before .before .before .before .before .check-instance .ensures .0) (c .before .before .before .before .before .before .before .before .before .before .before .check-instance .ensures .1) (c .before .before .before .before .before .before .before .if1 .left) in
@@ -57,11 +50,11 @@ pub write-formula-spec : {M : Type 1} → statement M
 write-formula-spec =
     tie.close
     (tie.spec
-    check-instance-requires
+    (λ c κs. search needs)
     returns
     word-count-requires
     clause-count-requires
     returns-2
     write-words-requires
-    same-length
+    (λ c. search needs)
     returns-3)

@@ -19,15 +19,6 @@ abbrev μ-loop : tie.MeasureT-loop
 loop-holds : tie.Need-loop-holds Inv-loop μ-loop
 loop-holds c = (omega arith, refl)
 
-proper-edge-requires : tie.Need-proper-edge-requires Inv-loop μ-loop
-proper-edge-requires c κs = search needs
-
-add-j : tie.Need-add-j Inv-loop μ-loop
-add-j c = search needs
-
-loop-less : tie.Need-loop-less Inv-loop μ-loop
-loop-less c = search needs
-
 loop-again : tie.Need-loop-again Inv-loop μ-loop
 loop-again c = (omega arith, rw (add-one, c .before .before .loop .inv .1, c .proper-edge .ensures))
 
@@ -40,4 +31,4 @@ returns c =
 pub all-proper-spec : {M : Type 1} → statement M
 all-proper-spec =
     tie.close
-    (tie.spec Inv-loop μ-loop loop-holds proper-edge-requires add-j loop-less loop-again returns)
+    (tie.spec Inv-loop μ-loop loop-holds (λ c κs. search needs) (λ c. search needs) (λ c. search needs) loop-again returns)

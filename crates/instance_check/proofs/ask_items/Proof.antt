@@ -39,32 +39,11 @@ goals-clear c qs =
     vertices-pass (c .before .before .before .before .before .before .before .before .args .b .now) 9 qs (goals-same (c .before .before .before .before .before .before .before .before)) (c .before .vertex-fault2 .ensures) (omega arith)
     ∙ starts-clear (c .before .before) _
 
-all-proper-requires : tie.Need-all-proper-requires
-all-proper-requires c κs = search needs
-
-all-later-requires : tie.Need-all-later-requires
-all-later-requires c κs = search needs
-
 refuse-edge-requires : tie.Need-refuse-edge-requires
 refuse-edge-requires c κs = (omega arith, c .before .before .before .before .pre .0 .e-same, sym (both (c .before)) ∙ not-true _ (c .if1 .taken))
 
 returns : tie.Need-returns
 returns c = c .refuse-edge .ensures _
-
-mul-starts : tie.Need-mul-starts
-mul-starts c = search needs
-
-add-starts : tie.Need-add-starts
-add-starts c = search needs
-
-vertex-fault-requires : tie.Need-vertex-fault-requires
-vertex-fault-requires c κs = search needs
-
-add-refuse : tie.Need-add-refuse
-add-refuse c = search needs
-
-refuse-requires : tie.Need-refuse-requires
-refuse-requires c κs = search needs
 
 returns-2 : tie.Need-returns-2
 returns-2 c =
@@ -72,26 +51,11 @@ returns-2 c =
     ∙ vertices-stop (c .before .before .before .before .before .before .before .args .b .now) 8 _ (starts-same (c .before .before .before .before .before .before .before)) (c .before .before .vertex-fault .ensures) (omega arith)
     ∙ edges-clear (c .before .before .before) _
 
-add-goals : tie.Need-add-goals
-add-goals c = search needs
-
-vertex-fault-requires-2 : tie.Need-vertex-fault-requires-2
-vertex-fault-requires-2 c κs = search needs
-
-add-refuse-2 : tie.Need-add-refuse-2
-add-refuse-2 c = search needs
-
-refuse-requires-2 : tie.Need-refuse-requires-2
-refuse-requires-2 c κs = search needs
-
 returns-3 : tie.Need-returns-3
 returns-3 c =
     c .refuse2 .ensures
     ∙ vertices-stop (c .before .before .before .before .before .before .before .before .before .args .b .now) 9 _ (goals-same (c .before .before .before .before .before .before .before .before .before)) (c .before .before .vertex-fault2 .ensures) (omega arith)
     ∙ starts-clear (c .before .before .before) _
-
-refuse-requires-3 : tie.Need-refuse-requires-3
-refuse-requires-3 c κs = search needs
 
 returns-4 : tie.Need-returns-4
 returns-4 c = c .refuse3 .ensures ∙ horizon-no _ (c .before .if4 .taken) ∙ goals-clear (c .before .before .before) _
@@ -103,21 +67,21 @@ pub ask-items-spec : {M : Type 1} → statement M
 ask-items-spec =
     tie.close
     (tie.spec
-    all-proper-requires
-    all-later-requires
+    (λ c κs. search needs)
+    (λ c κs. search needs)
     refuse-edge-requires
     returns
-    mul-starts
-    add-starts
-    vertex-fault-requires
-    add-refuse
-    refuse-requires
+    (λ c. search needs)
+    (λ c. search needs)
+    (λ c κs. search needs)
+    (λ c. search needs)
+    (λ c κs. search needs)
     returns-2
-    add-goals
-    vertex-fault-requires-2
-    add-refuse-2
-    refuse-requires-2
+    (λ c. search needs)
+    (λ c κs. search needs)
+    (λ c. search needs)
+    (λ c κs. search needs)
     returns-3
-    refuse-requires-3
+    (λ c κs. search needs)
     returns-4
     returns-5)

@@ -23,15 +23,9 @@ agents-fit c = not-false _ (c .if2 .left)
 inside : (c : tie.Else1) → (1 ≤ c .before .before .args .s .n) × (c .before .before .args .s .n ≤ 64)
 inside c = simp (and-iff, leb-iff) at (holds {test = leb 1 (c .before .before .args .s .n) && leb (c .before .before .args .s .n) 64} refl (vertices-fit c))
 
-refuse-requires : tie.Need-refuse-requires
-refuse-requires c κs = search needs
-
 returns : tie.Need-returns
 unfolding decide ask
 returns c = rw (c .refuse .ensures, ← (c .before .before .before .pre .n-same), not-true (leb 1 (c .before .before .before .args .s .n) && leb (c .before .before .before .args .s .n) 64) (c .before .if1 .taken))
-
-refuse-requires-2 : tie.Need-refuse-requires-2
-refuse-requires-2 c κs = search needs
 
 returns-2 : tie.Need-returns-2
 unfolding decide ask
@@ -43,27 +37,9 @@ sub-if3 c = let h = inside (c .before) in omega arith
 mul-if3 : tie.Need-mul-if3
 mul-if3 c = let h = inside (c .before) in let n = c .before .before .before .args .s .n in let q : n * (n - 1) ≤ 4032 = mul-le-mul {n₂ = 64} {m₂ = 63} (h .1) (omega arith) in omega arith
 
-refuse-requires-3 : tie.Need-refuse-requires-3
-refuse-requires-3 c κs = search needs
-
 returns-3 : tie.Need-returns-3
 unfolding decide ask
 returns-3 c = rw (c .refuse3 .ensures, ← (c .before .before .before .before .before .pre .n-same), ← (c .before .before .before .before .before .pre .k-same), ← (c .before .before .before .before .before .pre .e-same), vertices-fit (c .before .before .before), agents-fit (c .before .before), lt-leb _ _ (c .before .if3 .taken))
-
-mul-if4 : tie.Need-mul-if4
-mul-if4 c = search needs
-
-add-if4 : tie.Need-add-if4
-add-if4 c = search needs
-
-mul-if4-2 : tie.Need-mul-if4-2
-mul-if4-2 c = search needs
-
-add-if4-2 : tie.Need-add-if4-2
-add-if4-2 c = search needs
-
-refuse-requires-4 : tie.Need-refuse-requires-4
-refuse-requires-4 c κs = search needs
 
 returns-4 : tie.Need-returns-4
 unfolding decide ask
@@ -77,18 +53,18 @@ pub ask-sizes-spec : {M : Type 1} → statement M
 ask-sizes-spec =
     tie.close
     (tie.spec
-    refuse-requires
+    (λ c κs. search needs)
     returns
-    refuse-requires-2
+    (λ c κs. search needs)
     returns-2
     sub-if3
     mul-if3
-    refuse-requires-3
+    (λ c κs. search needs)
     returns-3
-    mul-if4
-    add-if4
-    mul-if4-2
-    add-if4-2
-    refuse-requires-4
+    (λ c. search needs)
+    (λ c. search needs)
+    (λ c. search needs)
+    (λ c. search needs)
+    (λ c κs. search needs)
     returns-4
     returns-5)

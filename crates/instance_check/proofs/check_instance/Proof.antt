@@ -22,27 +22,12 @@ asked c =
     ∙ ap (λ (m : ℕ). decide (question6 b ∷ question7 b ∷ question8 b ∷ question9 b ∷ question10 m ∷ []) 0) (c .before .before .before .before .sizes-of .ensures .1)
     ∙ sizes-passed b (c .before .before .before .before .before .before .before .args .m) (omega arith) (c .before .before .before .ask-sizes .result) (c .before .before .before .ask-sizes .ensures) (c .before .if2 .left)
 
-refuse-requires : tie.Need-refuse-requires
-refuse-requires c κs = search needs
-
-refused-requires : tie.Need-refused-requires
-refused-requires c κs = search needs
-
 returns : tie.Need-returns
 returns c =
     let b = c .before .before .before .before .args .b .now in
     let m = c .before .before .before .before .args .m in
     is-refused b m (refuse 1 (length b)) (short b m (c .before .before .if1 .taken)) (λ e. omega arith) (c .refused .result)
     (c .refused .ensures .0 ∙ c .before .refuse .ensures, c .refused .ensures .1)
-
-sizes-of-requires : tie.Need-sizes-of-requires
-sizes-of-requires c κs = search needs
-
-ask-sizes-requires : tie.Need-ask-sizes-requires
-ask-sizes-requires c κs = search needs
-
-refused-requires-2 : tie.Need-refused-requires-2
-refused-requires-2 c κs = search needs
 
 returns-2 : tie.Need-returns-2
 returns-2 c =
@@ -53,23 +38,11 @@ returns-2 c =
 ask-items-requires : tie.Need-ask-items-requires
 ask-items-requires c κs = let h = known c in (c .before .before .before .sizes-of .ensures .0, omega arith, omega arith)
 
-refused-requires-3 : tie.Need-refused-requires-3
-refused-requires-3 c κs = search needs
-
 returns-3 : tie.Need-returns-3
 returns-3 c = is-refused (c .before .before .before .before .before .before .before .before .before .before .args .b .now) (c .before .before .before .before .before .before .before .before .before .before .args .m) (c .before .before .before .ask-items .result) (asked (c .before .before .before)) (c .before .if3 .taken) (c .refused3 .result) (c .refused3 .ensures)
 
-mul-at : tie.Need-mul-at
-mul-at c = search needs
-
-add-at : tie.Need-add-at
-add-at c = search needs
-
 for-agents-requires : tie.Need-for-agents-requires
 for-agents-requires c κs = let h = known (c .before .before .before .before) in (omega arith, omega arith)
-
-add-for-agents : tie.Need-add-for-agents
-add-for-agents c = search needs
 
 for-agents-requires-2 : tie.Need-for-agents-requires-2
 for-agents-requires-2 c κs = let h = known (c .before .before .before .before .before) in (omega arith, omega arith)
@@ -84,19 +57,19 @@ pub check-instance-spec : {M : Type 1} → statement M
 check-instance-spec =
     tie.close
     (tie.spec
-    refuse-requires
-    refused-requires
+    (λ c κs. search needs)
+    (λ c κs. search needs)
     returns
-    sizes-of-requires
-    ask-sizes-requires
-    refused-requires-2
+    (λ c κs. search needs)
+    (λ c κs. search needs)
+    (λ c κs. search needs)
     returns-2
     ask-items-requires
-    refused-requires-3
+    (λ c κs. search needs)
     returns-3
-    mul-at
-    add-at
+    (λ c. search needs)
+    (λ c. search needs)
     for-agents-requires
-    add-for-agents
+    (λ c. search needs)
     for-agents-requires-2
     returns-4)

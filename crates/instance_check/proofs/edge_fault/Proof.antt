@@ -19,17 +19,8 @@ abbrev μ-loop : tie.MeasureT-loop
 loop-holds : tie.Need-loop-holds Inv-loop μ-loop
 loop-holds c = (omega arith, below-none _)
 
-proper-edge-requires : tie.Need-proper-edge-requires Inv-loop μ-loop
-proper-edge-requires c κs = search needs
-
 returns : tie.Need-returns Inv-loop μ-loop
 returns c = fault-at (omega arith) (c .before .before .before .loop .inv .1) (fails (c .before .proper-edge .ensures) (not-true _ (c .if1 .taken)))
-
-add-j : tie.Need-add-j Inv-loop μ-loop
-add-j c = search needs
-
-loop-less : tie.Need-loop-less Inv-loop μ-loop
-loop-less c = search needs
 
 loop-again : tie.Need-loop-again Inv-loop μ-loop
 loop-again c = (omega arith, below-more _ _ (c .before .before .before .loop .inv .1) (holds (c .before .proper-edge .ensures) (not-false _ (c .if1 .left))))
@@ -44,9 +35,9 @@ edge-fault-spec =
     Inv-loop
     μ-loop
     loop-holds
-    proper-edge-requires
+    (λ c κs. search needs)
     returns
-    add-j
-    loop-less
+    (λ c. search needs)
+    (λ c. search needs)
     loop-again
     returns-2)

@@ -19,21 +19,6 @@ loop-holds : tie.Need-loop-holds Inv-loop μ-loop
 unfolding filled
 loop-holds c = (omega arith, (refl, refl))
 
-add-row : tie.Need-add-row Inv-loop μ-loop
-add-row c = search needs
-
-shared-slice-read-row : tie.Need-shared-slice-read-row Inv-loop μ-loop
-shared-slice-read-row c = search needs
-
-array-write-row : tie.Need-array-write-row Inv-loop μ-loop
-array-write-row c = search needs
-
-add-a : tie.Need-add-a Inv-loop μ-loop
-add-a c = search needs
-
-loop-less : tie.Need-loop-less Inv-loop μ-loop
-loop-less c = search needs
-
 loop-again : tie.Need-loop-again Inv-loop μ-loop
 loop-again c = (omega arith, (simp length-set (c .before .before .loop .inv .1 .0), filled-more (c .before .before .before .args .b .now) (replicate 16 0) (c .before .before .loop .row) (c .before .before .before .args .offset) (c .before .before .loop .a) (c .before .before .loop .inv .1 .1) (omega arith) (omega arith)))
 
@@ -49,10 +34,10 @@ for-agents-spec =
     Inv-loop
     μ-loop
     loop-holds
-    add-row
-    shared-slice-read-row
-    array-write-row
-    add-a
-    loop-less
+    (λ c. search needs)
+    (λ c. search needs)
+    (λ c. search needs)
+    (λ c. search needs)
+    (λ c. search needs)
     loop-again
     returns)

@@ -19,20 +19,8 @@ abbrev μ-loop : tie.MeasureT-loop
 loop-holds : tie.Need-loop-holds Inv-loop μ-loop
 loop-holds c = (omega arith, below-none _)
 
-add-loop : tie.Need-add-loop Inv-loop μ-loop
-add-loop c = search needs
-
-later-edge-requires : tie.Need-later-edge-requires Inv-loop μ-loop
-later-edge-requires c κs = search needs
-
 returns : tie.Need-returns Inv-loop μ-loop
 returns c = fault-at (omega arith) (c .before .before .before .loop .inv .1) (fails (c .before .later-edge .ensures) (not-true _ (c .if1 .taken)))
-
-add-i : tie.Need-add-i Inv-loop μ-loop
-add-i c = search needs
-
-loop-less : tie.Need-loop-less Inv-loop μ-loop
-loop-less c = search needs
 
 loop-again : tie.Need-loop-again Inv-loop μ-loop
 loop-again c = (omega arith, below-more _ _ (c .before .before .before .loop .inv .1) (holds (c .before .later-edge .ensures) (not-false _ (c .if1 .left))))
@@ -47,10 +35,10 @@ order-fault-spec =
     Inv-loop
     μ-loop
     loop-holds
-    add-loop
-    later-edge-requires
+    (λ c. search needs)
+    (λ c κs. search needs)
     returns
-    add-i
-    loop-less
+    (λ c. search needs)
+    (λ c. search needs)
     loop-again
     returns-2)

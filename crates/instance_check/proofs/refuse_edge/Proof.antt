@@ -9,26 +9,8 @@ use Rattle.instance_check.proofs.Laws.{order-fails}
 use Rattle.instance_check.proofs.refuse_edge.Statement.{statement}
 use Rattle.instance_check.proofs.refuse_edge.Tie as tie
 
-edge-fault-requires : tie.Need-edge-fault-requires
-edge-fault-requires c κs = search needs
-
-add-refuse : tie.Need-add-refuse
-add-refuse c = search needs
-
-refuse-requires : tie.Need-refuse-requires
-refuse-requires c κs = search needs
-
 returns : tie.Need-returns
 returns c = λ later. c .refuse .ensures ∙ sym (fault-stop (c .before .before .edge-fault .ensures) _ _ _ (omega arith))
-
-order-fault-requires : tie.Need-order-fault-requires
-order-fault-requires c κs = search needs
-
-add-refuse-2 : tie.Need-add-refuse-2
-add-refuse-2 c = search needs
-
-refuse-requires-2 : tie.Need-refuse-requires-2
-refuse-requires-2 c κs = search needs
 
 returns-2 : tie.Need-returns-2
 returns-2 c = λ later.
@@ -43,11 +25,11 @@ pub refuse-edge-spec : {M : Type 1} → statement M
 refuse-edge-spec =
     tie.close
     (tie.spec
-    edge-fault-requires
-    add-refuse
-    refuse-requires
+    (λ c κs. search needs)
+    (λ c. search needs)
+    (λ c κs. search needs)
     returns
-    order-fault-requires
-    add-refuse-2
-    refuse-requires-2
+    (λ c κs. search needs)
+    (λ c. search needs)
+    (λ c κs. search needs)
     returns-2)

@@ -27,41 +27,14 @@ test : (c : tie.After-wide2 Inv-loop μ-loop)
     ≡ newVertex (c .before .before .before .before .before .before .before .args .b .now) (λ i. getD (c .before .before .before .before .before .before .before .args .b .now) (c .before .before .before .before .before .before .before .args .offset + i) 0) (c .before .before .before .loop .a)
 test c = seen-test _ (c .before .before .before .loop .a) (c .wide2 .result) (c .before .before .before .loop .seen) (c .wide2 .ensures .0) (c .before .before .before .loop .inv .1 .1 .0) (c .before .before .before .before .before .before .before .args .b .now)
 
-shared-slice-read-wide : tie.Need-shared-slice-read-wide Inv-loop μ-loop
-shared-slice-read-wide c = search needs
-
-wide-requires : tie.Need-wide-requires Inv-loop μ-loop
-wide-requires c κs = search needs
-
 loop-holds : tie.Need-loop-holds Inv-loop μ-loop
 loop-holds c = (omega arith, (refl, (seen-none (λ i. getD (c .before .before .before .args .b .now) (c .before .before .before .args .offset + i) 0), below-none _)))
-
-add-wide : tie.Need-add-wide Inv-loop μ-loop
-add-wide c = search needs
-
-shared-slice-read-wide-2 : tie.Need-shared-slice-read-wide-2 Inv-loop μ-loop
-shared-slice-read-wide-2 c = search needs
-
-wide-requires-2 : tie.Need-wide-requires-2 Inv-loop μ-loop
-wide-requires-2 c κs = search needs
 
 returns : tie.Need-returns Inv-loop μ-loop
 returns c = fault-at (omega arith) (c .before .before .before .before .loop .inv .1 .1 .1) (fails (test (c .before)) (rw (le-ltb (c .before .wide2 .result) (vertices (c .before .before .before .before .before .before .before .before .args .b .now)) (omega arith))))
 
-array-read-if2 : tie.Need-array-read-if2 Inv-loop μ-loop
-array-read-if2 c = search needs
-
 returns-2 : tie.Need-returns-2 Inv-loop μ-loop
 returns-2 c = fault-at (omega arith) (c .before .before .before .before .before .loop .inv .1 .1 .1) (fails (test (c .before .before)) (rw (lt-ltb (c .before .before .wide2 .result) (vertices (c .before .before .before .before .before .before .before .before .before .args .b .now)) (omega arith), c .if2 .taken)))
-
-array-write-seen : tie.Need-array-write-seen Inv-loop μ-loop
-array-write-seen c = search needs
-
-add-a : tie.Need-add-a Inv-loop μ-loop
-add-a c = search needs
-
-loop-less : tie.Need-loop-less Inv-loop μ-loop
-loop-less c = search needs
 
 loop-again : tie.Need-loop-again Inv-loop μ-loop
 loop-again c =
@@ -86,17 +59,17 @@ vertex-fault-spec =
     (tie.spec
     Inv-loop
     μ-loop
-    shared-slice-read-wide
-    wide-requires
+    (λ c. search needs)
+    (λ c κs. search needs)
     loop-holds
-    add-wide
-    shared-slice-read-wide-2
-    wide-requires-2
+    (λ c. search needs)
+    (λ c. search needs)
+    (λ c κs. search needs)
     returns
-    array-read-if2
+    (λ c. search needs)
     returns-2
-    array-write-seen
-    add-a
-    loop-less
+    (λ c. search needs)
+    (λ c. search needs)
+    (λ c. search needs)
     loop-again
     returns-3)

@@ -37,9 +37,6 @@ add-wide c = let i = both-inside (c .before .before .before .before .args .b .no
 shared-slice-read-wide : tie.Need-shared-slice-read-wide Inv-loop μ-loop
 shared-slice-read-wide c = let i = both-inside (c .before .before .before .before .before .args .b .now) (c .before .before .before .before .before .args .c) (c .before .before .before .before .before .pre .0) (c .before .before .loop .j) (omega arith) in omega arith
 
-wide-requires : tie.Need-wide-requires Inv-loop μ-loop
-wide-requires c κs = search needs
-
 add-wide-2 : tie.Need-add-wide-2 Inv-loop μ-loop
 add-wide-2 c = let i = both-inside (c .before .before .before .before .before .before .args .b .now) (c .before .before .before .before .before .before .args .c) (c .before .before .before .before .before .before .pre .0) (c .before .before .before .loop .j) (omega arith) in omega arith
 
@@ -48,9 +45,6 @@ add-wide-3 c = let i = both-inside (c .before .before .before .before .before .b
 
 shared-slice-read-wide-2 : tie.Need-shared-slice-read-wide-2 Inv-loop μ-loop
 shared-slice-read-wide-2 c = let i = both-inside (c .before .before .before .before .before .before .before .args .b .now) (c .before .before .before .before .before .before .before .args .c) (c .before .before .before .before .before .before .before .pre .0) (c .before .before .before .before .loop .j) (omega arith) in omega arith
-
-wide-requires-2 : tie.Need-wide-requires-2 Inv-loop μ-loop
-wide-requires-2 c κs = search needs
 
 mark-requires : tie.Need-mark-requires Inv-loop μ-loop
 mark-requires c κs = let h = ends (c .before) in omega arith
@@ -62,9 +56,6 @@ mark-requires-2 c κs =
 
 add-j : tie.Need-add-j Inv-loop μ-loop
 add-j c = let i = both-inside (c .before .before .before .before .before .before .before .before .before .before .before .before .before .before .before .before .args .b .now) (c .before .before .before .before .before .before .before .before .before .before .before .before .before .before .before .before .args .c) (c .before .before .before .before .before .before .before .before .before .before .before .before .before .before .before .before .pre .0) (c .before .before .before .before .before .before .before .before .before .before .before .before .before .loop .j) (omega arith) in omega arith
-
-loop-less : tie.Need-loop-less Inv-loop μ-loop
-loop-less c = search needs
 
 loop-again : tie.Need-loop-again Inv-loop μ-loop
 loop-again c =
@@ -102,15 +93,15 @@ mark-row-spec =
     loop-holds
     add-wide
     shared-slice-read-wide
-    wide-requires
+    (λ c κs. search needs)
     add-wide-2
     add-wide-3
     shared-slice-read-wide-2
-    wide-requires-2
+    (λ c κs. search needs)
     mark-requires
     mark-requires-2
     add-j
-    loop-less
+    (λ c. search needs)
     loop-again
     same-length
     returns)

@@ -37,9 +37,6 @@ add-wide c = let i = both-inside (c .before .before .before .args .b .now) (c .b
 shared-slice-read-wide : tie.Need-shared-slice-read-wide Inv-loop μ-loop
 shared-slice-read-wide c = let i = both-inside (c .before .before .before .before .args .b .now) (c .before .before .before .before .args .c) (c .before .before .before .before .pre) (c .before .before .loop .j) (omega arith) in omega arith
 
-wide-requires : tie.Need-wide-requires Inv-loop μ-loop
-wide-requires c κs = search needs
-
 add-wide-2 : tie.Need-add-wide-2 Inv-loop μ-loop
 add-wide-2 c = let i = both-inside (c .before .before .before .before .before .args .b .now) (c .before .before .before .before .before .args .c) (c .before .before .before .before .before .pre) (c .before .before .before .loop .j) (omega arith) in omega arith
 
@@ -48,9 +45,6 @@ add-wide-3 c = let i = both-inside (c .before .before .before .before .before .a
 
 shared-slice-read-wide-2 : tie.Need-shared-slice-read-wide-2 Inv-loop μ-loop
 shared-slice-read-wide-2 c = let i = both-inside (c .before .before .before .before .before .before .args .b .now) (c .before .before .before .before .before .before .args .c) (c .before .before .before .before .before .before .pre) (c .before .before .before .before .loop .j) (omega arith) in omega arith
-
-wide-requires-2 : tie.Need-wide-requires-2 Inv-loop μ-loop
-wide-requires-2 c κs = search needs
 
 mul-there : tie.Need-mul-there Inv-loop μ-loop
 mul-there c = let h = ends (c) in omega arith
@@ -72,9 +66,6 @@ array-write-table-2 c = let h = ends (c) in omega arith
 
 add-j : tie.Need-add-j Inv-loop μ-loop
 add-j c = let i = both-inside (c .before .before .before .before .before .before .before .args .b .now) (c .before .before .before .before .before .before .before .args .c) (c .before .before .before .before .before .before .before .pre) (c .before .before .before .before .before .loop .j) (omega arith) in omega arith
-
-loop-less : tie.Need-loop-less Inv-loop μ-loop
-loop-less c = search needs
 
 loop-again : tie.Need-loop-again Inv-loop μ-loop
 loop-again c =
@@ -109,11 +100,11 @@ table-of-spec =
     loop-holds
     add-wide
     shared-slice-read-wide
-    wide-requires
+    (λ c κs. search needs)
     add-wide-2
     add-wide-3
     shared-slice-read-wide-2
-    wide-requires-2
+    (λ c κs. search needs)
     mul-there
     add-there
     mul-back
@@ -121,6 +112,6 @@ table-of-spec =
     array-write-table
     array-write-table-2
     add-j
-    loop-less
+    (λ c. search needs)
     loop-again
     returns)

@@ -1,7 +1,7 @@
 -- `one_clause::clause` meets its contract: the instance check decides, or there is no such clause, or it does not fit, or it is copied. Assumes nothing.
-use mathlib.Core.Path.{_≡_, refl, sym, _∙_, ap}
+use mathlib.Core.Path.{refl, _∙_, ap}
 use mathlib.Core.List.{List}
-use Prim.Native.Nat.{ℕ, _≤_, _<_}
+use Prim.Native.Nat.{ℕ}
 use native.Mathlib.Omega.{arith}
 use lib.IntN.{ℤ}
 use lib.ListN.{length}
@@ -23,9 +23,6 @@ asks s I = clauseRest I (s .args .number) (length (s .args .f .now))
 abbrev count : tie.Start → Instance → ℕ
 count s I = length (clauseWords I (s .args .number))
 
-check-instance-requires : tie.Need-check-instance-requires
-check-instance-requires c κs = search needs
-
 returns : tie.Need-returns
 unfolding clauseAnswer clauseSlice
 returns c =
@@ -41,9 +38,6 @@ returns-2 c =
     let e = call-answers (c .before .before .before .before .before .before .before .before .before .args .b .now) (c .before .before .before .before .before .before .before .before .before .args .m) (c .before .before .before .before .before .before .before .check-instance .result .answer) (c .before .before .before .before .before .before .before .check-instance .result .checked) (c .before .before .before .before .before .before .before .check-instance .ensures .0) (c .before .before .before .before .before .before .before .check-instance .ensures .1) (asks (c .before .before .before .before .before .before .before .before .before)) (count (c .before .before .before .before .before .before .before .before .before)) (c .before .before .before .if1 .left) _ (stop-11 (c .before .before .before .before .before .before .before .before .before .args .b .now) (c .before .before .before .before .before .before .before .check-instance .result .checked) (passed (c .before .before .before .before .before .before .before .before .before .args .b .now) (c .before .before .before .before .before .before .before .before .before .args .m) (c .before .before .before .before .before .before .before .check-instance .result .answer) (c .before .before .before .before .before .before .before .check-instance .result .checked) (c .before .before .before .before .before .before .before .check-instance .ensures .0) (c .before .before .before .before .before .before .before .check-instance .ensures .1) (c .before .before .before .if1 .left)) (c .before .before .before .before .before .before .before .before .before .args .number) (length (c .before .before .before .before .before .before .before .before .before .args .f .now)) (omega (arith, c .before .clause-count .ensures, c .if2 .taken))) in
     rw (c .before .clause-count .ensures) (e, slice-refused _ (refuse 11 _) e _ (c .before .before .before .before .before .before .before .before .before .args .f .now) (λ z. let f : ⊥ = omega arith in f))
 
-slice-aggregate-put-number : tie.Need-slice-aggregate-put-number
-slice-aggregate-put-number c = search needs
-
 put-number-requires : tie.Need-put-number-requires
 put-number-requires c κs =
     let w = (passed (c .before .before .before .before .before .before .before .before .before .before .args .b .now) (c .before .before .before .before .before .before .before .before .before .before .args .m) (c .before .before .before .before .before .before .before .before .check-instance .result .answer) (c .before .before .before .before .before .before .before .before .check-instance .result .checked) (c .before .before .before .before .before .before .before .before .check-instance .ensures .0) (c .before .before .before .before .before .before .before .before .check-instance .ensures .1) (c .before .before .before .before .if1 .left)) in
@@ -55,14 +49,8 @@ returns-3 c =
     let e = call-answers (c .before .before .before .before .before .before .before .before .before .before .before .before .before .args .b .now) (c .before .before .before .before .before .before .before .before .before .before .before .before .before .args .m) (c .before .before .before .before .before .before .before .before .before .before .before .check-instance .result .answer) (c .before .before .before .before .before .before .before .before .before .before .before .check-instance .result .checked) (c .before .before .before .before .before .before .before .before .before .before .before .check-instance .ensures .0) (c .before .before .before .before .before .before .before .before .before .before .before .check-instance .ensures .1) (asks (c .before .before .before .before .before .before .before .before .before .before .before .before .before)) (count (c .before .before .before .before .before .before .before .before .before .before .before .before .before)) (c .before .before .before .before .before .before .before .if1 .left) _ (stop-12 (c .before .before .before .before .before .before .before .before .before .before .before .before .before .args .b .now) (c .before .before .before .before .before .before .before .before .before .before .before .check-instance .result .checked) (passed (c .before .before .before .before .before .before .before .before .before .before .before .before .before .args .b .now) (c .before .before .before .before .before .before .before .before .before .before .before .before .before .args .m) (c .before .before .before .before .before .before .before .before .before .before .before .check-instance .result .answer) (c .before .before .before .before .before .before .before .before .before .before .before .check-instance .result .checked) (c .before .before .before .before .before .before .before .before .before .before .before .check-instance .ensures .0) (c .before .before .before .before .before .before .before .before .before .before .before .check-instance .ensures .1) (c .before .before .before .before .before .before .before .if1 .left)) (c .before .before .before .before .before .before .before .before .before .before .before .before .before .args .number) (length (c .before .before .before .before .before .before .before .before .before .before .before .before .before .args .f .now)) (omega (arith, c .before .before .before .before .before .clause-count .ensures, c .before .before .before .before .if2 .left)) (c .before .before .put-number .result) (c .before .before .put-number .ensures .0) (c .if3 .taken)) in
     (e, slice-refused _ (refuse 12 (c .before .before .put-number .result)) e _ (c .before .before .before .before .before .before .before .before .before .before .before .before .before .args .f .now) (λ z. let f : ⊥ = omega arith in f))
 
-slice-aggregate-copy-words : tie.Need-slice-aggregate-copy-words
-slice-aggregate-copy-words c = search needs
-
 copy-words-requires : tie.Need-copy-words-requires
 copy-words-requires c κs = (fits _ _ _ (c .before .before .before .before .put-number .ensures), c .before .before .if3 .left)
-
-same-length : tie.Need-same-length
-same-length c = search needs
 
 returns-4 : tie.Need-returns-4
 unfolding clauseAnswer clauseSlice
@@ -78,14 +66,14 @@ pub clause-spec : {M : Type 1} → statement M
 clause-spec =
     tie.close
     (tie.spec
-    check-instance-requires
+    (λ c κs. search needs)
     returns
     clause-count-requires
     returns-2
-    slice-aggregate-put-number
+    (λ c. search needs)
     put-number-requires
     returns-3
-    slice-aggregate-copy-words
+    (λ c. search needs)
     copy-words-requires
-    same-length
+    (λ c. search needs)
     returns-4)

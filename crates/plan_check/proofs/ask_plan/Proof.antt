@@ -12,9 +12,6 @@ use Rattle.plan_check.proofs.ask_plan.Tie as tie
 known : (s : tie.Start) → Room (s .args .c .sizes) (s .args .p .now)
 known s = room _ _ (s .pre .0) _ (s .pre .1)
 
-byte-fault-requires : tie.Need-byte-fault-requires
-byte-fault-requires c κs = search needs
-
 returns : tie.Need-returns
 returns c =
     let s = c .before .before .before .before .before in
@@ -32,9 +29,6 @@ returns-2 c =
 
 add-rows : tie.Need-add-rows
 add-rows c = omega (arith, known (c .before .before .before .before .before .before .before .before))
-
-ask-steps-requires : tie.Need-ask-steps-requires
-ask-steps-requires c κs = search needs
 
 returns-3 : tie.Need-returns-3
 returns-3 c =
@@ -75,12 +69,12 @@ pub ask-plan-spec : {M : Type 1} → statement M
 ask-plan-spec =
     tie.close
     (tie.spec
-    byte-fault-requires
+    (λ c κs. search needs)
     returns
     row-fault-requires
     returns-2
     add-rows
-    ask-steps-requires
+    (λ c κs. search needs)
     returns-3
     mul-last
     row-fault-requires-2

@@ -13,20 +13,8 @@ use Rattle.plan_check.proofs.ask_step.Tie as tie
 known : (s : tie.Start) → Rows (s .args .c .sizes) (s .args .p .now) (s .args .t)
 known s = rows _ _ _ (s .pre .1 .0) (s .pre .1 .1)
 
-add-next : tie.Need-add-next
-add-next c = search needs
-
 mul-next : tie.Need-mul-next
 mul-next c = omega (arith, known (c .before .before .before))
-
-step-fault-requires : tie.Need-step-fault-requires
-step-fault-requires c κs = search needs
-
-step-fault-requires-2 : tie.Need-step-fault-requires-2
-step-fault-requires-2 c κs = search needs
-
-step-fault-requires-3 : tie.Need-step-fault-requires-3
-step-fault-requires-3 c κs = search needs
 
 add-t13 : tie.Need-add-t13
 add-t13 c = omega (arith, known (c .before .before .before .before .before .before .before))
@@ -81,11 +69,11 @@ pub ask-step-spec : {M : Type 1} → statement M
 ask-step-spec =
     tie.close
     (tie.spec
-    add-next
+    (λ c. search needs)
     mul-next
-    step-fault-requires
-    step-fault-requires-2
-    step-fault-requires-3
+    (λ c κs. search needs)
+    (λ c κs. search needs)
+    (λ c κs. search needs)
     add-t13
     returns
     add-t14

@@ -22,9 +22,6 @@ abbrev μ-loop : tie.MeasureT-loop
 loop-holds : tie.Need-loop-holds Inv-loop μ-loop
 loop-holds c = (omega arith, tt)
 
-add-loop : tie.Need-add-loop Inv-loop μ-loop
-add-loop c = search needs
-
 ask-step-requires : tie.Need-ask-step-requires Inv-loop μ-loop
 ask-step-requires c κs = (c .before .before .before .before .pre .0, (c .before .before .before .before .pre .1 .0, omega arith))
 
@@ -33,12 +30,6 @@ returns c =
     let s = c .before .before .before .before .before .before .before in
     let l = c .before .before .before .before .loop in
     step-stop (stepQuestions (instanceOf (s .args .b .now) (s .args .c)) (s .args .p .now)) (l .t) (c .before .before .ask-step .result) (c .before .before .ask-step .ensures) (l .inv .1) (s .args .rows - 1) (omega arith) (c .if1 .taken)
-
-add-t : tie.Need-add-t Inv-loop μ-loop
-add-t c = search needs
-
-loop-less : tie.Need-loop-less Inv-loop μ-loop
-loop-less c = search needs
 
 loop-again : tie.Need-loop-again Inv-loop μ-loop
 loop-again c =
@@ -60,10 +51,10 @@ ask-steps-spec =
     Inv-loop
     μ-loop
     loop-holds
-    add-loop
+    (λ c. search needs)
     ask-step-requires
     returns
-    add-t
-    loop-less
+    (λ c. search needs)
+    (λ c. search needs)
     loop-again
     returns-2)

@@ -20,9 +20,6 @@ asks s I = checkRest I (s .args .p .now)
 abbrev count : tie.Start → Instance → ℕ
 count s I = cost (I .sizes) (s .args .p .now)
 
-check-instance-requires : tie.Need-check-instance-requires
-check-instance-requires c κs = search needs
-
 returns : tie.Need-returns
 unfolding checkAnswer
 returns c = instance-refuses (c .before .before .before .before .before .before .args .b .now) (c .before .before .before .before .before .before .args .m) (c .before .before .before .check-instance .result .answer) (c .before .before .before .check-instance .result .checked) (c .before .before .before .check-instance .ensures .0) (c .before .before .before .check-instance .ensures .1) (asks (c .before .before .before .before .before .before)) (count (c .before .before .before .before .before .before)) (c .if1 .taken)
@@ -52,7 +49,7 @@ pub check-plan-spec : {M : Type 1} → statement M
 check-plan-spec =
     tie.close
     (tie.spec
-    check-instance-requires
+    (λ c κs. search needs)
     returns
     plan-bytes-requires
     returns-2

@@ -31,12 +31,6 @@ step-moves-requires c κs = (c .before .before .before .pre, c .loop-test .taken
 add-moves : tie.Need-add-moves Inv-loop μ-loop
 add-moves c = omega (arith, known (c .before))
 
-add-t : tie.Need-add-t Inv-loop μ-loop
-add-t c = search needs
-
-loop-less : tie.Need-loop-less Inv-loop μ-loop
-loop-less c = search needs
-
 loop-again : tie.Need-loop-again Inv-loop μ-loop
 loop-again c =
     let s = c .before .before .before .before in
@@ -60,7 +54,7 @@ plan-cost-spec =
     loop-holds
     step-moves-requires
     add-moves
-    add-t
-    loop-less
+    (λ c. search needs)
+    (λ c. search needs)
     loop-again
     returns)

@@ -48,12 +48,6 @@ shared-slice-read-if1-2 c = omega (arith, known (c .before .before .before .befo
 add-moves : tie.Need-add-moves Inv-loop μ-loop
 add-moves c = omega (arith, known (c .before .before .before .before .before))
 
-add-a : tie.Need-add-a Inv-loop μ-loop
-add-a c = search needs
-
-loop-less : tie.Need-loop-less Inv-loop μ-loop
-loop-less c = search needs
-
 loop-again : tie.Need-loop-again Inv-loop μ-loop
 loop-again c =
     let l = c .before .before .before .before .loop in
@@ -85,7 +79,7 @@ step-moves-spec =
     add-if1-2
     shared-slice-read-if1-2
     add-moves
-    add-a
-    loop-less
+    (λ c. search needs)
+    (λ c. search needs)
     loop-again
     returns)

@@ -56,9 +56,6 @@ add-at c = omega (arith, c .before .before .before .before .before .loop2 .inv .
 add-t : tie.Need-add-t Inv-loop2 μ-loop2 Inv-loop μ-loop
 add-t c = omega (arith, c .before .before .before .before .loop2-test .taken, c .before .before .before .before .before .before .steps-of .ensures .1)
 
-loop2-less : tie.Need-loop2-less Inv-loop2 μ-loop2 Inv-loop μ-loop
-loop2-less c = search needs
-
 loop2-again : tie.Need-loop2-again Inv-loop2 μ-loop2 Inv-loop μ-loop
 loop2-again c = (
   omega (arith, c .before .before .before .before .loop2-test .taken),
@@ -66,12 +63,6 @@ loop2-again c = (
   rw add-one (rw length-append (omega (arith, c .before .before .before .before .before .loop2 .inv .2, c .before .before .before .row-fault .ensures .0 .0))),
   block-passed (c .before .before .before .before .before .before .before .before .before .before .before .before .args .entries .now) (row (heldBy (c .before .before .before .before .before .before .before .before .before .before .before .before .args .b .now) (c .before .before .before .before .before .before .before .before .before .before .before .before .args .c)) (c .before .before .before .before .before .before .before .before .loop .which)) (c .before .before .before .before .before .loop2 .t) (c .before .before .before .row-fault .result .fault) (c .before .before .before .before .before .loop2 .inv .3) (c .before .before .before .row-fault .ensures .1) (omega (arith, c .before .before .before .row-fault .ensures .0 .0, c .before .if1 .left)),
 )
-
-add-which : tie.Need-add-which Inv-loop2 μ-loop2 Inv-loop μ-loop
-add-which c = search needs
-
-loop-less : tie.Need-loop-less Inv-loop2 μ-loop2 Inv-loop μ-loop
-loop-less c = search needs
 
 loop-again : tie.Need-loop-again Inv-loop2 μ-loop2 Inv-loop μ-loop
 loop-again c =
@@ -100,9 +91,9 @@ clause-fault-spec =
     returns
     add-at
     add-t
-    loop2-less
+    (λ c. search needs)
     loop2-again
-    add-which
-    loop-less
+    (λ c. search needs)
+    (λ c. search needs)
     loop-again
     returns-2)

@@ -20,9 +20,6 @@ known s = let l = limits-known (s .args .b .now) (s .args .c) (s .pre .0) in (pr
 room : (s : tie.Start) → (s .args .t * s .args .c .sizes .k + s .args .c .sizes .k ≤ length (s .args .p .now)) × (length (s .args .p .now) ≤ 528)
 room s = let e = s .pre .1 .0 in let h = s .pre .1 .1 in (omega (arith, row-fits (s .args .c .sizes) (s .args .t) (omega arith)), omega (arith, known s .0 .cells))
 
-step-fault-requires : tie.Need-step-fault-requires
-step-fault-requires c κs = search needs
-
 mul-result : tie.Need-mul-result
 mul-result c = omega (arith, known (c .before .before .before .before .before) .0 .F)
 
@@ -42,9 +39,6 @@ add-wide c = omega (arith, room (c .before .before .before .before .before), c .
 shared-slice-read-wide : tie.Need-shared-slice-read-wide
 shared-slice-read-wide c = omega (arith, room (c .before .before .before .before .before .before), c .before .before .step-fault .ensures .within, c .before .if1 .left)
 
-wide-requires : tie.Need-wide-requires
-wide-requires c κs = search needs
-
 add-result : tie.Need-add-result
 add-result c = omega (arith, known (c .before .before .before .before .before .before .before) .0 .F, blocks-fit _ _ (c .before .before .before .before .before .before .before .args .c .sizes .n) (c .before .before .before .step-fault .ensures .within), c .wide .ensures .1)
 
@@ -56,13 +50,13 @@ pub fault-f-spec : {M : Type 1} → statement M
 fault-f-spec =
     tie.close
     (tie.spec
-    step-fault-requires
+    (λ c κs. search needs)
     mul-result
     returns
     mul-result-2
     mul-wide
     add-wide
     shared-slice-read-wide
-    wide-requires
+    (λ c κs. search needs)
     add-result
     returns-2)

@@ -36,9 +36,6 @@ mul-size c = omega (arith, known (c .before .before .before) .rest)
 mul-row : tie.Need-mul-row
 mul-row c = omega (arith, room (c .before .before .before))
 
-step-fault-requires : tie.Need-step-fault-requires
-step-fault-requires c κs = search needs
-
 mul-result : tie.Need-mul-result
 mul-result c = omega (arith, known (c .before .before .before .before .before) .G)
 
@@ -72,14 +69,8 @@ entered : (c : tie.After-first-on) → Enters (c .before .before .before .before
 entered c =
     enters (c .before .before .before .before .before .before .before .args .c .sizes .k) (place (c .before .before .before .before .before .before .before .args .c .sizes) (c .before .before .before .before .before .before .before .args .p .now) (c .before .before .before .before .before .before .before .args .t)) (place (c .before .before .before .before .before .before .before .args .c .sizes) (c .before .before .before .before .before .before .before .args .p .now) (suc (c .before .before .before .before .before .before .before .args .t))) (c .before .before .before .step-fault .result) (fails-2 (c .before .before .before)) (c .before .before .if1 .left) _ (c .first-on .result) (next-row (c .before .before .before .before .before .before .before .args .c .sizes) (c .before .before .before .before .before .before .before .args .p .now) (c .before .before .before .before .before .before .before .args .t) (c .before .before .before .step-fault .result)) (c .first-on .ensures)
 
-other-at-requires : tie.Need-other-at-requires
-other-at-requires c κs = search needs
-
 mul-result-3 : tie.Need-mul-result-3
 mul-result-3 c = omega (arith, blocks-fit (c .other-at .result) (c .before .before .before .before .before .before .before .before .args .c .sizes .k) (c .before .before .before .before .before .before .before .before .args .c .sizes .n) (omega (arith, c .other-at .ensures .2, c .before .first-on .ensures .within)), known (c .before .before .before .before .before .before .before .before) .F)
-
-wide-requires : tie.Need-wide-requires
-wide-requires c κs = search needs
 
 add-result : tie.Need-add-result
 add-result c = omega (arith, blocks-fit (c .before .other-at .result) (c .before .before .before .before .before .before .before .before .before .args .c .sizes .k) (c .before .before .before .before .before .before .before .before .before .args .c .sizes .n) (omega (arith, c .before .other-at .ensures .2, c .before .before .first-on .ensures .within)), known (c .before .before .before .before .before .before .before .before .before) .F, c .wide .ensures .1)
@@ -97,7 +88,7 @@ fault-g-spec =
     sub-size
     mul-size
     mul-row
-    step-fault-requires
+    (λ c κs. search needs)
     mul-result
     returns
     add-w
@@ -105,9 +96,9 @@ fault-g-spec =
     shared-slice-read-w
     first-on-requires
     mul-result-2
-    other-at-requires
+    (λ c κs. search needs)
     mul-result-3
-    wide-requires
+    (λ c κs. search needs)
     add-result
     add-result-2
     returns-2)

@@ -7,20 +7,8 @@ use Rattle.satisfaction.proofs.Steps.{lowest-keep, lowest-new}
 use Rattle.satisfaction.proofs.lower.Statement.{statement}
 use Rattle.satisfaction.proofs.lower.Tie as tie
 
-add-x : tie.Need-add-x
-add-x c = search needs
-
-shared-slice-read-x : tie.Need-shared-slice-read-x
-shared-slice-read-x c = search needs
-
-wide-requires : tie.Need-wide-requires
-wide-requires c κs = search needs
-
 returns : tie.Need-returns
 returns c = λ n f. lowest-keep (c .before .before .before .before .args .a) _ n (c .before .before .before .before .args .low) f (λ i l e. omega (arith, c .before .wide .ensures .0, c .if1 .taken))
-
-first-on-requires : tie.Need-first-on-requires
-first-on-requires c κs = search needs
 
 returns-2 : tie.Need-returns-2
 returns-2 c = λ n f. lowest-new (c .before .before .before .before .before .before .args .a) _ n (c .before .before .before .before .before .before .args .low) f (c .before .first-on .result) (c .before .before .before .wide .result) (c .before .first-on .ensures) (c .if2 .taken) (c .before .before .before .wide .ensures .0) (omega (arith, c .before .before .if1 .left))
@@ -32,10 +20,10 @@ pub lower-spec : {M : Type 1} → statement M
 lower-spec =
     tie.close
     (tie.spec
-    add-x
-    shared-slice-read-x
-    wide-requires
+    (λ c. search needs)
+    (λ c. search needs)
+    (λ c κs. search needs)
     returns
-    first-on-requires
+    (λ c κs. search needs)
     returns-2
     returns-3)

@@ -18,15 +18,6 @@ abbrev μ-loop : tie.MeasureT-loop
 loop-holds : tie.Need-loop-holds Inv-loop μ-loop
 loop-holds c = (omega arith, lowest-none _ _)
 
-lower-requires : tie.Need-lower-requires Inv-loop μ-loop
-lower-requires c κs = search needs
-
-add-a : tie.Need-add-a Inv-loop μ-loop
-add-a c = search needs
-
-loop-less : tie.Need-loop-less Inv-loop μ-loop
-loop-less c = search needs
-
 loop-again : tie.Need-loop-again Inv-loop μ-loop
 loop-again c = (omega arith, c .lower .ensures (c .before .before .before .before .args .n) (c .before .before .loop .inv .1))
 
@@ -36,4 +27,4 @@ returns c = let e : c .before .loop .a ≡ c .before .before .before .args .k = 
 pub lowest-shared-spec : {M : Type 1} → statement M
 lowest-shared-spec =
     tie.close
-    (tie.spec Inv-loop μ-loop loop-holds lower-requires add-a loop-less loop-again returns)
+    (tie.spec Inv-loop μ-loop loop-holds (λ c κs. search needs) (λ c. search needs) (λ c. search needs) loop-again returns)

@@ -10,15 +10,6 @@ use Rattle.satisfaction.proofs.pair_at.Tie as tie
 small : (s : tie.Start) → s .args .v * (2 * s .args .n - s .args .v - 1) ≤ 8192
 small s = mul-le-mul {n₂ = 64} {m₂ = 128} (omega arith) (omega arith)
 
-mul-result : tie.Need-mul-result
-mul-result c = search needs
-
-sub-result : tie.Need-sub-result
-sub-result c = search needs
-
-sub-result-2 : tie.Need-sub-result-2
-sub-result-2 c = search needs
-
 mul-result-2 : tie.Need-mul-result-2
 mul-result-2 c = omega (arith, small c)
 
@@ -30,4 +21,4 @@ returns c = (refl, omega (arith, small c))
 
 pub pair-at-spec : {M : Type 1} → statement M
 pair-at-spec =
-    tie.close (tie.spec mul-result sub-result sub-result-2 mul-result-2 add-result returns)
+    tie.close (tie.spec (λ c. search needs) (λ c. search needs) (λ c. search needs) mul-result-2 add-result returns)

@@ -12,27 +12,12 @@ use Rattle.valuation.specs.Valuation.{sameNumber}
 use Rattle.satisfaction.proofs.passes.Statement.{statement}
 use Rattle.satisfaction.proofs.passes.Tie as tie
 
-mul-e : tie.Need-mul-e
-mul-e c = search needs
-
-shared-slice-copy-out-e : tie.Need-shared-slice-copy-out-e
-shared-slice-copy-out-e c = search needs
-
-add-t6 : tie.Need-add-t6
-add-t6 c = search needs
-
-is-entry-requires : tie.Need-is-entry-requires
-is-entry-requires c κs = search needs
-
 returns : tie.Need-returns
 returns c =
     let es = c .before .before .before .args .entries .now in
     let i = c .before .before .before .args .i in
     let e = toZ-ofZ {w = w32} (sfits-of {z = getD es i (pos 0)} (c .before .before .e .given)) in
     rw (c .before .if1 .taken) (c .is-entry .ensures ∙ ap₂ (λ (z : ℤ) (x : ℕ). sameNumber z (pos x) || sameNumber z (negℤ (pos x))) e (add-one i))
-
-is-negation-requires : tie.Need-is-negation-requires
-is-negation-requires c κs = search needs
 
 returns-2 : tie.Need-returns-2
 returns-2 c =
@@ -45,10 +30,10 @@ pub passes-spec : {M : Type 1} → statement M
 passes-spec =
     tie.close
     (tie.spec
-    mul-e
-    shared-slice-copy-out-e
-    add-t6
-    is-entry-requires
+    (λ c. search needs)
+    (λ c. search needs)
+    (λ c. search needs)
+    (λ c κs. search needs)
     returns
-    is-negation-requires
+    (λ c κs. search needs)
     returns-2)

@@ -1,6 +1,6 @@
 -- `satisfaction::read_entries` meets its contract: before turn i the rows before row i are read, and their entries are right. Assumes nothing.
 use Prim.Native.Nat.{ℕ, suc, _+_, _-_, _*_, _≤_}
-use mathlib.Core.Path.{_≡_, ap}
+use mathlib.Core.Path.{_≡_}
 use native.Mathlib.Omega.{arith}
 use borrow.Author.Needs.{needs}
 use lib.ListN.{length-replicate}
@@ -50,9 +50,6 @@ array-write-places c = omega (arith, known (c .before .before .before .before .b
 add-i : tie.Need-add-i Inv-loop μ-loop
 add-i c = omega (arith, known (c .before .before .before .before .before .before .before) .cells, c .before .before .before .before .before .before .plan-bytes .ensures .0, c .before .before .before .before .loop-test .taken)
 
-loop-less : tie.Need-loop-less Inv-loop μ-loop
-loop-less c = search needs
-
 loop-again : tie.Need-loop-again Inv-loop μ-loop
 loop-again c = (omega (arith, c .before .before .before .before .loop-test .taken), sofar-more (c .before .before .before .before .before .before .before .args .s .n) (c .before .before .before .before .before .before .before .args .entries .now) (c .before .before .before .before .before .loop .places) (c .before .before .before .before .before .loop .i) (c .before .before .before .before .before .loop .inv .1) (c .before .before .before .read-row .result .wrong) (c .before .before .before .read-row .result .place) (c .before .before .before .read-row .ensures) (omega (arith, known (c .before .before .before .before .before .before .before) .cells, c .before .before .before .before .before .before .plan-bytes .ensures .0, c .before .before .before .before .loop-test .taken)) (c .before .if1 .left))
 
@@ -80,7 +77,7 @@ read-entries-spec =
     cast-places
     array-write-places
     add-i
-    loop-less
+    (λ c. search needs)
     loop-again
     mul-t15
     returns-2)

@@ -7,17 +7,8 @@ use Rattle.satisfaction.proofs.Entries as laws
 use Rattle.satisfaction.proofs.read_row.Statement.{statement}
 use Rattle.satisfaction.proofs.read_row.Tie as tie
 
-add-end : tie.Need-add-end
-add-end c = search needs
-
-tally-row-requires : tie.Need-tally-row-requires
-tally-row-requires c κs = search needs
-
 returns : tie.Need-returns
 returns c = laws.came-none (c .before .before .before .args .entries .now) (c .before .before .before .args .base) (c .before .before .before .args .n) (c .before .before .tally-row .result .count) (c .before .before .tally-row .result .sum) (c .before .before .tally-row .ensures) (c .if1 .taken)
-
-cast-v : tie.Need-cast-v
-cast-v c = search needs
 
 add-at : tie.Need-add-at
 add-at c = let o = c .before .before .before .before .before .tally-row .ensures .one (c .before .if2 .taken) in omega (arith, o .0, c .before .before .before .before .before .before .pre)
@@ -31,12 +22,6 @@ returns-2 c = laws.came-one (c .before .before .before .before .before .before .
 returns-3 : tie.Need-returns-3
 returns-3 c = laws.came-wrong (c .before .before .before .before .before .before .before .before .args .entries .now) (c .before .before .before .before .before .before .before .before .args .base) (c .before .before .before .before .before .before .before .before .args .n) (c .before .before .before .before .before .before .before .tally-row .result .count) (c .before .before .before .before .before .before .before .tally-row .result .sum) (c .before .before .before .before .before .before .before .tally-row .ensures) (c .before .before .before .if2 .taken) (fails (c .before .passes .ensures) (c .if3 .left))
 
-stop-from-requires : tie.Need-stop-from-requires
-stop-from-requires c κs = search needs
-
-add-t11 : tie.Need-add-t11
-add-t11 c = search needs
-
 returns-4 : tie.Need-returns-4
 returns-4 c = laws.came-several (c .before .before .before .before .before .before .args .entries .now) (c .before .before .before .before .before .before .args .base) (c .before .before .before .before .before .before .args .n) (c .before .before .before .before .before .tally-row .result .count) (c .before .before .before .before .before .tally-row .result .sum) (c .before .before .before .before .before .tally-row .ensures) (c .before .before .before .if1 .left) (c .before .if2 .left) (c .stop-from .result) (c .stop-from .ensures)
 
@@ -44,14 +29,14 @@ pub read-row-spec : {M : Type 1} → statement M
 read-row-spec =
     tie.close
     (tie.spec
-    add-end
-    tally-row-requires
+    (λ c. search needs)
+    (λ c κs. search needs)
     returns
-    cast-v
+    (λ c. search needs)
     add-at
     passes-requires
     returns-2
     returns-3
-    stop-from-requires
-    add-t11
+    (λ c κs. search needs)
+    (λ c. search needs)
     returns-4)

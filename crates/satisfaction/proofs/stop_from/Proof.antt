@@ -26,17 +26,8 @@ abbrev μ-loop : tie.MeasureT-loop
 loop-holds : tie.Need-loop-holds Inv-loop μ-loop
 loop-holds c = (omega arith, omega arith, λ j h l. absurd (let f : ⊥ = omega arith in f))
 
-passes-requires : tie.Need-passes-requires Inv-loop μ-loop
-passes-requires c κs = search needs
-
 returns : tie.Need-returns Inv-loop μ-loop
 returns c = stop-at (passed (c .before .before .before .before .args .entries .now) (c .before .before .before .before .args .both)) (c .before .before .before .before .args .low) (c .before .before .before .before .args .end) (c .before .before .before .loop .i) (c .before .before .before .loop .inv .2) (c .before .before .before .loop .inv .0) (c .before .before .loop-test .taken) (fails (c .before .passes .ensures) (not-true _ (c .if1 .taken)))
-
-add-i : tie.Need-add-i Inv-loop μ-loop
-add-i c = search needs
-
-loop-less : tie.Need-loop-less Inv-loop μ-loop
-loop-less c = search needs
 
 loop-again : tie.Need-loop-again Inv-loop μ-loop
 loop-again c = (omega arith, omega arith, stop-more (passed (c .before .before .before .before .args .entries .now) (c .before .before .before .before .args .both)) (c .before .before .before .before .args .low) (c .before .before .before .before .args .end) (c .before .before .before .loop .i) (c .before .before .before .loop .inv .2) (holds (c .before .passes .ensures) (not-false _ (c .if1 .left))))
@@ -51,9 +42,9 @@ stop-from-spec =
     Inv-loop
     μ-loop
     loop-holds
-    passes-requires
+    (λ c κs. search needs)
     returns
-    add-i
-    loop-less
+    (λ c. search needs)
+    (λ c. search needs)
     loop-again
     returns-2)

@@ -44,9 +44,6 @@ mul-i-2 c = omega (arith, room c)
 array-read-wide : tie.Need-array-read-wide Inv-loop μ-loop
 array-read-wide c = omega (arith, c .before .before .pre .1 .1 .1, c .before .before .pre .0 .k-most, c .loop-test .taken)
 
-wide-requires : tie.Need-wide-requires Inv-loop μ-loop
-wide-requires c κs = search needs
-
 add-i-2 : tie.Need-add-i-2 Inv-loop μ-loop
 add-i-2 c = omega (arith, room (c .before), c .wide .ensures)
 
@@ -59,12 +56,6 @@ told c = c .passes .ensures ∙ ap (λ (v : ℕ). denies (c .before .before .bef
 
 returns : tie.Need-returns Inv-loop μ-loop
 returns c = units-fault (c .before .before .before .before .before .args .s) (c .before .before .before .before .before .args .entries .now) (c .before .before .before .before .before .pre .1 .0) (c .before .before .before .before .before .args .t) (λ a. getD (c .before .before .before .before .before .args .t4) a 0) (c .before .before .before .before .loop .a) (c .before .before .before .before .before .pre .1 .1 .0) (c .before .before .before .before .before .pre .1 .1 .2) (fault-at (c .before .before .before .loop-test .taken) (c .before .before .before .before .loop .inv .1) (λ h. (simp not-iff at h) (holds (told (c .before)) (c .if1 .taken))))
-
-add-a : tie.Need-add-a Inv-loop μ-loop
-add-a c = search needs
-
-loop-less : tie.Need-loop-less Inv-loop μ-loop
-loop-less c = search needs
 
 loop-again : tie.Need-loop-again Inv-loop μ-loop
 loop-again c = (omega arith, below-more _ _ (c .before .before .before .before .loop .inv .1) (simp not-iff (fails (told (c .before)) (c .if1 .left))))
@@ -83,11 +74,11 @@ unit-fault-spec =
     add-i
     mul-i-2
     array-read-wide
-    wide-requires
+    (λ c κs. search needs)
     add-i-2
     passes-requires
     returns
-    add-a
-    loop-less
+    (λ c. search needs)
+    (λ c. search needs)
     loop-again
     returns-2)

@@ -8,17 +8,11 @@ use borrow.Author.Needs.{needs}
 use Rattle.variables.proofs.is_entry.Statement.{statement}
 use Rattle.variables.proofs.is_entry.Tie as tie
 
-literal-of-requires : tie.Need-literal-of-requires
-literal-of-requires c κs = search needs
-
 returns : tie.Need-returns
 returns c =
     let start = c .before .before in
     let e : start .args .entry ≡ pos (start .args .x .0) = same (start .fits .entry) (pos-fits (start .pre)) (c .if1 .taken ∙ ap (ofZ w32) (c .before .literal-of .ensures)) in
     rw (same-true (start .args .entry) (pos (start .args .x .0)) e)
-
-negation-of-requires : tie.Need-negation-of-requires
-negation-of-requires c κs = search needs
 
 returns-2 : tie.Need-returns-2
 returns-2 c =
@@ -27,4 +21,4 @@ returns-2 c =
     (bits-same (start .args .entry) (negℤ (pos (start .args .x .0))) (start .fits .entry) (neg-fits _ (start .pre)))
 
 pub is-entry-spec : {M : Type 1} → statement M
-is-entry-spec = tie.close (tie.spec literal-of-requires returns negation-of-requires returns-2)
+is-entry-spec = tie.close (tie.spec (λ c κs. search needs) returns (λ c κs. search needs) returns-2)

@@ -5,13 +5,10 @@ use borrow.Author.Needs.{needs}
 use Rattle.variables.proofs.is_negation.Statement.{statement}
 use Rattle.variables.proofs.is_negation.Tie as tie
 
-negation-of-requires : tie.Need-negation-of-requires
-negation-of-requires c κs = search needs
-
 returns : tie.Need-returns
 returns c =
     let start = c .before in
     rw (c .negation-of .ensures) (bits-same (start .args .entry) (negℤ (pos (start .args .x .0))) (start .fits .entry) (neg-fits _ (start .pre)))
 
 pub is-negation-spec : {M : Type 1} → statement M
-is-negation-spec = tie.close (tie.spec negation-of-requires returns)
+is-negation-spec = tie.close (tie.spec (λ c κs. search needs) returns)

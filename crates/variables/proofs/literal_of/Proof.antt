@@ -7,11 +7,8 @@ use borrow.Author.Needs.{needs}
 use Rattle.variables.proofs.literal_of.Statement.{statement}
 use Rattle.variables.proofs.literal_of.Tie as tie
 
-cast-result : tie.Need-cast-result
-cast-result c = search needs
-
 returns : tie.Need-returns
 returns c = toZ-pos w32 {n = c .before .args .x .0} (omega arith)
 
 pub literal-of-spec : {M : Type 1} → statement M
-literal-of-spec = tie.close (tie.spec cast-result returns)
+literal-of-spec = tie.close (tie.spec (λ c. search needs) returns)

@@ -6,9 +6,6 @@ use borrow.Author.Needs.{needs}
 use Rattle.variables.proofs.negation_of.Statement.{statement}
 use Rattle.variables.proofs.negation_of.Tie as tie
 
-cast-result : tie.Need-cast-result
-cast-result c = search needs
-
 sub-result : tie.Need-sub-result
 sub-result c =
     let start = c .before in
@@ -20,4 +17,4 @@ returns c =
     rw (neg-is _ (start .pre)) (toZ-ofZ (neg-fits _ (start .pre)))
 
 pub negation-of-spec : {M : Type 1} → statement M
-negation-of-spec = tie.close (tie.spec cast-result sub-result returns)
+negation-of-spec = tie.close (tie.spec (λ c. search needs) sub-result returns)

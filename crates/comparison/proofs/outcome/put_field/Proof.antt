@@ -10,26 +10,11 @@ use Rattle.comparison.proofs.outcome.put_field.Tie as tie
 short : (c : tie.After-put-number) → c .put-number .result ≤ 20
 short c = let n = c .put-number in omega (arith, n .ensures .0, filled-inside _ _ _ (n .ensures .1) (n .kept .0), length-take 20 (drop 0 (c .before .before .before .args .out .now)))
 
-sub-put-number : tie.Need-sub-put-number
-sub-put-number c = search needs
-
-part-put-number-start : tie.Need-part-put-number-start
-part-put-number-start c = search needs
-
-part-put-number-end : tie.Need-part-put-number-end
-part-put-number-end c = search needs
-
-put-number-requires : tie.Need-put-number-requires
-put-number-requires c κs = search needs
-
 put-byte-requires : tie.Need-put-byte-requires
 put-byte-requires c κs = let h = short (c .before .before .before) in search needs
 
 add-result : tie.Need-add-result
 add-result c = let h = short (c .before .before .before .before .before .before) in search needs
-
-same-length : tie.Need-same-length
-same-length c = search needs
 
 returns : tie.Need-returns
 returns c = let h = short (c .before .before .before .before .before .before) in search needs
@@ -38,11 +23,11 @@ pub put-field-spec : {M : Type 1} → statement M
 put-field-spec =
     tie.close
     (tie.spec
-    sub-put-number
-    part-put-number-start
-    part-put-number-end
-    put-number-requires
+    (λ c. search needs)
+    (λ c. search needs)
+    (λ c. search needs)
+    (λ c κs. search needs)
     put-byte-requires
     add-result
-    same-length
+    (λ c. search needs)
     returns)
