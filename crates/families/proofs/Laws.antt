@@ -60,16 +60,3 @@ module _ (s : Sizes) (t : ℕ) where
   agents-fit w v x ht hv e =
       let q : k * n ≤ 1024 = mul-le-mul {n₂ = 16} {m₂ = 64} (w .k-most) (w .n-most) in
       omega (arith, bounds s t 0 w ht (w .k-least), w .n-most)
-
--- ---- the last family, by what a `match` leaves to its last arm
-abbrev pub Others : ℕ → Type 0
-Others j = (((((Unit {0} × (j ≡ 0 → ⊥)) × (j ≡ 1 → ⊥)) × (j ≡ 2 → ⊥)) × (j ≡ 3 → ⊥)) × (j ≡ 4 → ⊥)) × (j ≡ 5 → ⊥)
-
-pub last : (j : ℕ) → j < 7 → Others j → j ≡ 6
-last j l o = six (three (o .0 .0 .0 .0 .0 .1) (o .0 .0 .0 .0 .1) (o .0 .0 .0 .1)) (o .0 .0 .1) (o .0 .1) (o .1)
-  where
-    three : (j ≡ 0 → ⊥) → (j ≡ 1 → ⊥) → (j ≡ 2 → ⊥) → 3 ≤ j
-    three p q r = omega arith
-
-    six : 3 ≤ j → (j ≡ 3 → ⊥) → (j ≡ 4 → ⊥) → (j ≡ 5 → ⊥) → j ≡ 6
-    six h p q r = omega arith

@@ -108,3 +108,7 @@ module _ (g h : Given) (e : Same g h) where
   pub family-same : (j : ℕ) → family g j ≡ family h j
   unfolding again
   family-same j = family-again j ∙ ap (λ (s : Sizes). family (record { sizes = s; start = h .start; goal = h .goal; near = h .near }) j) (e .sizes)
+
+-- the last family, by what a `match` leaves to its last arm
+pub last : (j : ℕ) → j < 7 → (((((Unit {0} × (j ≢ 0)) × (j ≢ 1)) × (j ≢ 2)) × (j ≢ 3)) × (j ≢ 4)) × (j ≢ 5) → j ≡ 6
+last j l o = omega (arith, o .1, o .0 .1, o .0 .0 .1, o .0 .0 .0 .1, o .0 .0 .0 .0 .1, o .0 .0 .0 .0 .0 .1)

@@ -4,7 +4,6 @@ use mathlib.Core.List.{List, [], _∷_}
 use mathlib.Core.Bool.{Bool}
 use Prim.Native.Nat.{ℕ, zero, suc, _*_, _-_, _/_, _%_, _≤_, _<_}
 use native.Mathlib.Nat.{div-add-mod'}
-use native.Mathlib.Omega.{arith}
 use lib.ListN.{length, getD}
 use lib.IntN.{ℤ}
 use Rattle.lists.specs.Loop.{for, when}
@@ -60,7 +59,3 @@ block-length g (suc (suc (suc (suc zero)))) t x l = two-length (g .sizes .k) (λ
 block-length g (suc (suc (suc (suc (suc zero))))) t x l = for1-length (g .sizes .n) (λ v. onward (g .sizes) (g .near v) t x v)
 block-length g (suc (suc (suc (suc (suc (suc zero)))))) t x l = others-size (g .sizes) t x l
 block-length g (suc (suc (suc (suc (suc (suc (suc j))))))) t x l = refl
-
--- the last family, by what a `match` leaves to its last arm
-pub last : (j : ℕ) → j < 7 → (((((Unit {0} × (j ≡ 0 → ⊥)) × (j ≡ 1 → ⊥)) × (j ≡ 2 → ⊥)) × (j ≡ 3 → ⊥)) × (j ≡ 4 → ⊥)) × (j ≡ 5 → ⊥) → j ≡ 6
-last j l o = omega (arith, o .1, o .0 .1, o .0 .0 .1, o .0 .0 .0 .1, o .0 .0 .0 .0 .1, o .0 .0 .0 .0 .0 .1)

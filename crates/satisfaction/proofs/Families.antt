@@ -30,13 +30,6 @@ use Rattle.satisfaction.specs.Rows.{Fault, Read, row, Before}
 use Rattle.satisfaction.proofs.Laws.{for-stop, fault-all}
 use Rattle.satisfaction.proofs.Truth.{length-D, length-E, length-F, length-G}
 
--- the last of the seven
-past-two : (f : ℕ) → f ≢ 0 → f ≢ 1 → f ≢ 2 → 3 ≤ f
-past-two f p q r = omega arith
-
-pub last-family : (f : ℕ) → f < 7 → f ≢ 0 → f ≢ 1 → f ≢ 2 → f ≢ 3 → f ≢ 4 → f ≢ 5 → f ≡ 6
-last-family f l p q r x y z = let h = past-two f p q r in omega arith
-
 -- the lengths of the rows
 module _ (g : Given) (t : ℕ) where
   open Given g using (sizes)

@@ -8,7 +8,8 @@ use Rattle.lists.specs.Loop.{each}
 use Rattle.formula.specs.Formula.{line, somewhere}
 use Rattle.formula.specs.Blocks.{Given, steps, cells, block}
 use Rattle.families.specs.Held.{heldIn}
-use Rattle.families.proofs.Laws.{one, one-room, last}
+use Rattle.formula.proofs.Blocks.{last}
+use Rattle.families.proofs.Laws.{one, one-room}
 use Rattle.families.proofs.write_block.Statement.{statement}
 use Rattle.families.proofs.write_block.Tie as tie
 

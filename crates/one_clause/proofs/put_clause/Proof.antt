@@ -4,7 +4,7 @@ use native.Mathlib.Omega.{arith}
 use borrow.Author.Needs.{needs}
 use Rattle.instance.proofs.Accepted.{limits-known, starts-inside, goals-inside}
 use Rattle.formula.specs.Blocks.{steps, cells, block}
-use Rattle.one_clause.proofs.Clauses.{last}
+use Rattle.formula.proofs.Blocks.{last}
 use Rattle.one_clause.proofs.put_clause.Statement.{statement}
 use Rattle.one_clause.proofs.put_clause.Tie as tie
 

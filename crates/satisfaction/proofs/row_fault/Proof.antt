@@ -8,8 +8,9 @@ use Rattle.formula.specs.Blocks.{steps, cells, block, heldBy}
 use Rattle.instance.specs.Limits.{Limits}
 use Rattle.instance.proofs.Accepted.{limits-known, starts-length, goals-length, starts-inside, goals-inside}
 use Rattle.satisfaction.specs.Rows.{row}
+use Rattle.formula.proofs.Blocks.{last}
 use Rattle.satisfaction.proofs.Bounds.{Products, products}
-use Rattle.satisfaction.proofs.Families.{last-family, size-A, size-B, size-C, size-D, size-E, size-F, size-G, places, apart}
+use Rattle.satisfaction.proofs.Families.{size-A, size-B, size-C, size-D, size-E, size-F, size-G, places, apart}
 use Rattle.satisfaction.proofs.Truth.{units}
 use Rattle.satisfaction.proofs.row_fault.Statement.{statement}
 use Rattle.satisfaction.proofs.row_fault.Tie as tie
@@ -69,7 +70,7 @@ mul-t26 c = omega (arith, known (c .before .before .before .before) .G)
 fault-g-requires : tie.Need-fault-g-requires
 unfolding steps
 fault-g-requires c κs =
-    let e : c .before .before .before .before .args .which ≡ 6 = (let x = c .match .rest in last-family (c .before .before .before .before .args .which) (c .before .before .before .before .pre .1 .1 .0) (x .0 .0 .0 .0 .0 .1) (x .0 .0 .0 .0 .1) (x .0 .0 .0 .1) (x .0 .0 .1) (x .0 .1) (x .1)) in
+    let e : c .before .before .before .before .args .which ≡ 6 = last (c .before .before .before .before .args .which) (c .before .before .before .before .pre .1 .1 .0) (c .match .rest) in
     let h : c .before .before .before .before .args .t < c .before .before .before .before .args .c .sizes .m = rw e at (c .before .before .before .before .pre .1 .1 .1) in
     (c .before .before .before .before .pre .0, ((c .before .before .before .before .pre .1 .0 .size, h), apart (heldBy (c .before .before .before .before .args .b .now) (c .before .before .before .before .args .c)) (c .before .before .before .before .args .entries .now) (c .before .before .before .before .args .p .now) (c .before .before .before .before .pre .1 .0) (c .before .before .before .before .args .which) (omega arith) (c .before .before .before .before .pre .1 .1 .2) (c .before .before .before .before .args .t) (omega arith)))
 
@@ -100,7 +101,7 @@ returns-6 c = rw (c .before .match .keys6) ((size-F (heldBy (c .before .before .
 returns-7 : tie.Need-returns-7
 unfolding row block cells
 returns-7 c =
-    let e : c .before .before .before .before .before .args .which ≡ 6 = (let x = c .before .match .rest in last-family (c .before .before .before .before .before .args .which) (c .before .before .before .before .before .pre .1 .1 .0) (x .0 .0 .0 .0 .0 .1) (x .0 .0 .0 .0 .1) (x .0 .0 .0 .1) (x .0 .0 .1) (x .0 .1) (x .1)) in
+    let e : c .before .before .before .before .before .args .which ≡ 6 = last (c .before .before .before .before .before .args .which) (c .before .before .before .before .before .pre .1 .1 .0) (c .before .match .rest) in
     rw e ((size-G (heldBy (c .before .before .before .before .before .args .b .now) (c .before .before .before .before .before .args .c)) (c .before .before .before .before .before .args .t), omega (arith, known (c .before .before .before .before .before) .G)), c .fault-g .ensures (c .before .before .before .before .before .args .entries .now) (c .before .before .before .before .before .pre .1 .0 .valid) (places (heldBy (c .before .before .before .before .before .args .b .now) (c .before .before .before .before .before .args .c)) (c .before .before .before .before .before .args .entries .now) (c .before .before .before .before .before .args .p .now) (c .before .before .before .before .before .pre .1 .0) (c .before .before .before .before .before .args .which) (omega arith) (c .before .before .before .before .before .pre .1 .1 .2)))
 
 pub row-fault-spec : {M : Type 1} → statement M

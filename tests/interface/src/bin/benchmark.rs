@@ -241,55 +241,29 @@ fn encoder(table: &mut Table, input: &Input) {
     table.row("encoder", input, times, None, "");
 }
 
-/// The slowest clause of ours against our instance check.
-struct Slowest {
-    name: &'static str,
-    family: char,
-    clause: f64,
-    check: f64,
-}
-
 /// The middle and the last clause of each family, summed; the row has no target.
-fn clause(table: &mut Table, input: &Input) -> Slowest {
+fn clause(table: &mut Table, input: &Input) {
     let (instance, m) = (&input.instance[..], input.m);
     let counts = Parts::of(instance).clause_counts(m as usize);
-    let total: u64 = counts.iter().sum();
-    let mut slowest = Slowest {
-        name: input.name,
-        family: 'A',
-        clause: 0.0,
-        check: 1.0,
-    };
     let mut sums = [0.0; 3];
     let mut from = 0;
-    for (family, count) in ('A'..).zip(counts).filter(|pair| pair.1 > 0) {
+    for count in counts.into_iter().filter(|&count| count > 0) {
         for number in [from + count / 2, from + count - 1] {
             let mut words = [1; 66];
             agree(&words, |form, words| {
                 ONE_CLAUSES[form](instance, m, number, words)
             });
-            // The fourth is ours, refused by 11: the instance check and no clause.
-            let [ours, best, independent, check] = times(|form| {
-                let number = black_box(if form == 3 { total } else { number });
-                let form = ONE_CLAUSES[form % 3];
-                black_box(form(black_box(instance), m, number, &mut words));
+            let times: [f64; 3] = times(|form| {
+                let call = ONE_CLAUSES[form];
+                black_box(call(black_box(instance), m, black_box(number), &mut words));
             });
-            for (sum, time) in sums.iter_mut().zip([ours, best, independent]) {
+            for (sum, time) in sums.iter_mut().zip(times) {
                 *sum += time;
-            }
-            if ours / check > slowest.clause / slowest.check {
-                slowest = Slowest {
-                    family,
-                    clause: ours,
-                    check,
-                    ..slowest
-                };
             }
         }
         from += count;
     }
     table.row("one clause", input, sums, None, "  two of each family");
-    slowest
 }
 
 fn program(table: &mut Table, input: &Input, programs: &[PathBuf; 3], file: &Path) {
@@ -341,30 +315,8 @@ fn main() {
         program(&mut table, input, &programs, &file);
     }
     let _ = std::fs::remove_file(&file);
-    let slowest: Vec<Slowest> = inputs
-        .iter()
-        .map(|input| clause(&mut table, input))
-        .collect();
-
-    println!(
-        "\n{:<14} {:<8} {:>9} {:>9} {:>6} {:>6}",
-        "one clause", "instance", "ours", "our check", "ratio", "target"
-    );
-    for Slowest {
-        name,
-        family,
-        clause,
-        check,
-    } in slowest
-    {
-        let (target, verdict) = table.judge(clause / check, Some(2.0));
-        println!(
-            "{:<14} {name:<8} {:>9} {:>9} {:>6.2} {target:>6} {verdict}",
-            format!("slowest: {family}"),
-            time(clause),
-            time(check),
-            clause / check
-        );
+    for input in &inputs {
+        clause(&mut table, input);
     }
     match table.missed {
         0 => println!("\nall targets met"),
