@@ -82,13 +82,15 @@ pub fn compare_calls(cases: usize) -> usize {
 
         let Written { second: words, .. } = independent::write_formula(instance, m, &mut []);
         let lent = vec![7; some_length(&mut g, words.min(1 << 18) as usize)];
-        let number = same(
-            &lent,
-            |words| super::write_formula(instance, m, words),
-            |words| independent::write_formula(instance, m, words),
-        )
-        .number;
-        hits[0][number as usize] += 1;
+        for form in [super::write_formula, super::write_formula_straight] {
+            let number = same(
+                &lent,
+                |words| form(instance, m, words),
+                |words| independent::write_formula(instance, m, words),
+            )
+            .number;
+            hits[0][number as usize] += 1;
+        }
 
         // A clause of one family, or a number most likely beyond all of them.
         let counts = case.parts.clause_counts(case.m);

@@ -3,8 +3,22 @@
 use super::instance::{refuse, Instance};
 use independent::{Answer, Written};
 
+/// Fills the parts of the seven families.
+type Fill = fn(&Instance, [&mut [i32]; 7]);
+
 pub fn write_formula(instance: &[u8], horizon: u64, words: &mut [i32]) -> Written {
-    let written = Instance::read(instance, horizon).and_then(|instance| write(&instance, words));
+    written(instance, horizon, words, fill)
+}
+
+/// The second form: straight loops.
+pub fn write_formula_straight(instance: &[u8], horizon: u64, words: &mut [i32]) -> Written {
+    written(instance, horizon, words, super::straight::fill)
+}
+
+#[inline(always)]
+fn written(instance: &[u8], horizon: u64, words: &mut [i32], fill: Fill) -> Written {
+    let written =
+        Instance::read(instance, horizon).and_then(|instance| write(&instance, words, fill));
     let (number, second, clauses) = match written {
         Ok((count, clauses)) => (0, count as u64, clauses as u64),
         Err(refusal) => (refusal.number, refusal.second, 0),
@@ -17,7 +31,8 @@ pub fn write_formula(instance: &[u8], horizon: u64, words: &mut [i32]) -> Writte
 }
 
 /// Gives the word count and the clause count.
-fn write(instance: &Instance, words: &mut [i32]) -> Result<(usize, usize), Answer> {
+#[inline(always)]
+fn write(instance: &Instance, words: &mut [i32], fill: Fill) -> Result<(usize, usize), Answer> {
     let (n, k, m) = (instance.n, instance.k, instance.m);
     let counts @ [.., d, e, f, g] = instance.clause_counts();
     let lengths = [
@@ -39,122 +54,102 @@ fn write(instance: &Instance, words: &mut [i32]) -> Result<(usize, usize), Answe
         rest = after;
         part
     });
-    write_ends(n, 0, instance.starts, parts[0]);
-    write_ends(n, m * k, instance.goals, parts[1]);
-    write_c(n, parts[2]);
-    write_d(n, parts[3]);
-    write_e(n, k, parts[4]);
-    write_f(instance, parts[5]);
-    write_g(n, k, parts[6]);
+    fill(instance, parts);
     Ok((needed, counts.iter().sum()))
 }
 
-// Row t·k + a is agent a at time t; its variables begin at 1 + row·n.
+/// The families, each block but the first as the one before moved up.
+fn fill(instance: &Instance, parts: [&mut [i32]; 7]) {
+    let (n, k, m) = (instance.n, instance.k, instance.m);
+    // C, D and F have a block for each row, E and G for each time.
+    let [a, b, c, d, e, f, g] = parts;
+    write_ends(n, 0, instance.starts, a);
+    write_ends(n, m * k, instance.goals, b);
+    write_blocks(c, instance.rows(), n, |block| write_c(n, block));
+    write_blocks(d, instance.rows(), n, |block| write_d(n, block));
+    write_blocks(e, m + 1, k * n, |block| write_e(n, k, block));
+    write_blocks(f, m * k, n, |block| write_f(instance, block));
+    write_blocks(g, m, k * n, |block| write_g(n, k, block));
+}
 
-/// Families A and B: one vertex in each row from `row` on.
-fn write_ends(n: usize, row: usize, vertices: &[u8], part: &mut [i32]) {
+/// Families A and B: one vertex in each row from `row` on. Row t·k + a is agent a at time t.
+pub fn write_ends(n: usize, row: usize, vertices: &[u8], part: &mut [i32]) {
     for (row, (clause, &v)) in (row..).zip(part.chunks_exact_mut(2).zip(vertices)) {
         clause.copy_from_slice(&[(1 + row * n) as i32 + i32::from(v), 0]);
     }
 }
 
-fn write_c(n: usize, part: &mut [i32]) {
-    let mut first = 1;
-    for clause in part.chunks_exact_mut(n + 1) {
-        for (word, v) in clause.iter_mut().zip(first..) {
-            *word = v;
-        }
-        clause[n] = 0;
-        first += n as i32;
-    }
-}
-
-fn write_d(n: usize, part: &mut [i32]) {
-    if n == 1 {
+/// Writes the first of `count` blocks, and each later one as the block before with its variables `up` higher, which the
+/// compiler does for several words at once.
+fn write_blocks(part: &mut [i32], count: usize, up: usize, write: impl FnOnce(&mut [i32])) {
+    if part.is_empty() {
         return;
     }
-    let mut first = 1;
-    for mut block in part.chunks_exact_mut(3 * (n * (n - 1) / 2)) {
-        for v in 1..n {
-            let (group, after) = block.split_at_mut(3 * (n - v));
-            for (clause, w) in group.chunks_exact_mut(3).zip(first + 1..) {
-                clause.copy_from_slice(&[-first, -w, 0]);
-            }
-            first += 1;
-            block = after;
+    let up = up as i32;
+    let length = part.len() / count;
+    let (mut before, mut rest) = part.split_at_mut(length);
+    write(before);
+    while !rest.is_empty() {
+        let (block, after) = rest.split_at_mut(length);
+        for (word, &earlier) in block.iter_mut().zip(&*before) {
+            *word = earlier + up * i32::from(earlier > 0) - up * i32::from(earlier < 0);
         }
-        first += 1;
+        (before, rest) = (block, after);
     }
 }
 
-fn write_e(n: usize, k: usize, part: &mut [i32]) {
-    if k == 1 {
-        return;
+// The first block of each family.
+
+fn write_c(n: usize, block: &mut [i32]) {
+    for (word, v) in block.iter_mut().zip(1..) {
+        *word = v;
     }
-    let mut first = 1;
-    for step in part.chunks_exact_mut(n * 3 * (k * (k - 1) / 2)) {
-        for (mut block, v) in step.chunks_exact_mut(3 * (k * (k - 1) / 2)).zip(first..) {
-            for a in 1..k {
-                let (group, after) = block.split_at_mut(3 * (k - a));
-                let x = v + ((a - 1) * n) as i32;
-                for (clause, b) in group.chunks_exact_mut(3).zip(1..) {
-                    clause.copy_from_slice(&[-x, -(x + b * n as i32), 0]);
-                }
-                block = after;
-            }
+    block[n] = 0;
+}
+
+fn write_d(n: usize, mut block: &mut [i32]) {
+    for v in 1..n {
+        let (group, after) = block.split_at_mut(3 * (n - v));
+        for (clause, w) in group.chunks_exact_mut(3).zip(v + 1..) {
+            clause.copy_from_slice(&[-(v as i32), -(w as i32), 0]);
         }
-        first += (k * n) as i32;
+        block = after;
     }
 }
 
-fn write_f(instance: &Instance, part: &mut [i32]) {
-    let (n, k) = (instance.n, instance.k);
-    let words = &instance.neighbours()[..n];
-    let mut near = Vec::with_capacity(2 * instance.low.len());
-    let mut ends = [0; 64];
-    for (word, end) in words.iter().zip(&mut ends) {
-        let mut word = *word;
-        while word != 0 {
-            near.push(word.trailing_zeros() as i32);
-            word &= word - 1;
-        }
-        *end = near.len();
-    }
-    let mut first = 1;
-    for block in part.chunks_exact_mut(3 * n + near.len()) {
-        let next = first + (k * n) as i32;
-        let (mut from, mut block) = (0, block);
-        for (v, &end) in (0..).zip(&ends[..n]) {
-            let near = &near[from..end];
-            let (clause, after) = block.split_at_mut(3 + near.len());
-            clause[0] = -(first + v);
-            clause[1] = next + v;
-            for (word, w) in clause[2..].iter_mut().zip(near) {
-                *word = next + w;
+fn write_e(n: usize, k: usize, block: &mut [i32]) {
+    let mut clauses = block.chunks_exact_mut(3);
+    for v in 1..=n {
+        for a in 0..k {
+            for (b, clause) in (a + 1..k).zip(&mut clauses) {
+                clause.copy_from_slice(&[-((a * n + v) as i32), -((b * n + v) as i32), 0]);
             }
-            clause[2 + near.len()] = 0;
-            (from, block) = (end, after);
         }
-        first += n as i32;
     }
 }
 
-fn write_g(n: usize, k: usize, part: &mut [i32]) {
-    if k == 1 {
-        return;
+fn write_f(instance: &Instance, block: &mut [i32]) {
+    let mut words = block.iter_mut();
+    let up = (instance.k * instance.n) as i32;
+    for (v, mut near) in (1..).zip(instance.neighbours()).take(instance.n) {
+        let mut put = |word| words.next().map(|place| *place = word);
+        put(-v);
+        put(up + v);
+        while near != 0 {
+            put(up + 1 + near.trailing_zeros() as i32);
+            near &= near - 1;
+        }
+        put(0);
     }
-    let mut first = 1;
-    for step in part.chunks_exact_mut(3 * k * (k - 1) * n) {
-        for (a, rows) in step.chunks_exact_mut(3 * (k - 1) * n).enumerate() {
-            let next = first + ((k + a) * n) as i32;
-            let others = (0..k).filter(|&b| b != a);
-            for (row, b) in rows.chunks_exact_mut(3 * n).zip(others) {
-                let here = first + (b * n) as i32;
-                for (clause, v) in row.chunks_exact_mut(3).zip(0..) {
-                    clause.copy_from_slice(&[-(here + v), -(next + v), 0]);
-                }
+}
+
+fn write_g(n: usize, k: usize, block: &mut [i32]) {
+    let mut clauses = block.chunks_exact_mut(3);
+    for a in 0..k {
+        for b in (0..k).filter(|&b| b != a) {
+            for (v, clause) in (1..=n).zip(&mut clauses) {
+                clause.copy_from_slice(&[-((b * n + v) as i32), -(((k + a) * n + v) as i32), 0]);
             }
         }
-        first += (k * n) as i32;
     }
 }

@@ -6,10 +6,11 @@ mod clause;
 mod formula;
 mod instance;
 mod plan;
+mod straight;
 mod valuation;
 
 pub use clause::clause;
-pub use formula::write_formula;
+pub use formula::{write_formula, write_formula_straight};
 pub use plan::check_plan;
 pub use valuation::{decode, encode};
 
