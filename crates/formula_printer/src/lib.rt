@@ -86,7 +86,8 @@ fn print_families(words: &mut [i32], text: &mut [u8], texts: &[u8], b: &[u8], c:
     requires { ⌜ Block (now words) (now text) × Texts (now texts) ⌝ }
     requires { ⌜ Accepted (now b) c ⌝ }
 {
-    let table = neighbours::table_of(b, c);
+    let mut table = [0u8; 4096];
+    neighbours::mark_table(&mut table, b, c);
     let starts = c.starts;
     let goals = c.goals;
     for which in 0..7usize {

@@ -1,5 +1,5 @@
 -- A slice that is filled from its start.
-use mathlib.Core.Path.{_≡_, refl, sym, _∙_, ap}
+use mathlib.Core.Path.{_≡_, refl, sym, _∙_, ap, ap₂}
 use mathlib.Core.Logic.{⊎-elim}
 use mathlib.Core.List.{List, [], _∷_, _++_, append-nil, append-assoc}
 use Prim.Native.Nat.{ℕ, zero, suc, _+_, _-_, _≤_, _<_}
@@ -7,7 +7,7 @@ use native.Mathlib.Nat.{zero-add, le-refl, eq-or-lt-of-le, le-of-suc-le-suc}
 use native.Mathlib.Numerals.{add-one}
 use native.Mathlib.Omega.{arith}
 use borrow.Rule.Slice.PartMut.{putMid}
-use lib.ListN.{length, take, drop, set, length-set, length-append, length-drop, drop-of-length-le}
+use lib.ListN.{length, take, drop, set, length-set, length-append, length-take, length-drop, drop-of-length-le, take-append-drop}
 use lib.Seq.{drop-cons, set-at, take-at, drop-at, drop-drop, take-all, sets, sets-eq, take-append-seam}
 use lib.Arith.{le-zero}
 use Rattle.lists.specs.Loop.{for, each}
@@ -38,6 +38,10 @@ module _ {A : Type 0} where
   unfolding filled
   filled-set out s n x d e h = rw (e, drop-cons s n d h, set-at out _ _ x n e, append-assoc, length-append, e, add-one)
 
+  filled-same : (n : ℕ) (f : List A) → length (take n f) ≡ n → filled (take n f) f ≡ f
+  unfolding filled
+  filled-same n f e = rw e (take-append-drop n f)
+
   -- more, written to the part of the slice that starts after out: what comes back from a call on `&mut f[n..]` that left ys there
   pub filled-part : (f s out more ys : List A) (n : ℕ) → f ≡ filled out s → length out ≡ n → n ≤ length s
       → ys ≡ filled more (take (length f - n) (drop n f)) → putMid n (length f - n) f ys ≡ filled (out ++ more) s
@@ -48,6 +52,27 @@ module _ {A : Type 0} where
       let el : length f ≡ length s = ap length ef ∙ filled-length out s (omega arith) in
       let h : length (drop n s) ≤ length f - n = simp length-drop (omega arith) in
       rw (ey, p, q, take-all _ _ h, drop-of-length-le _ h, append-nil, append-assoc, length-append, e, drop-drop)
+
+  -- what a call on `&mut f[n..]` left there, and answered r, together with what stands before it
+  pub filled-behind : (f more ys : List A) (n : ℕ) {r : ℕ} → n ≤ length f → Wrote more (take (length f - n) (drop n f)) ys r
+      → Wrote (take n f ++ more) f (putMid n (length f - n) f ys) (n + r)
+  filled-behind f more ys n {r} h o =
+      let e : length (take n f) ≡ n = simp length-take (omega arith) in
+      (
+        simp length-append (rw (e, o .0)),
+        filled-part f f (take n f) more ys n (sym (filled-same n f e)) e h (o .1),
+      )
+
+  -- more than was written before, from the start on
+  filled-over : (out more s : List A) → filled (out ++ more) (filled out s) ≡ filled (out ++ more) s
+  unfolding filled
+  filled-over out more s =
+      ap (λ (k : List A). (out ++ more) ++ k)
+      (ap (λ (k : ℕ). drop k (out ++ drop (length out) s)) (length-append out more)
+      ∙ sym (drop-drop (length more) (length out) (out ++ drop (length out) s))
+      ∙ ap (drop (length more)) (drop-at out _ (length out) refl)
+      ∙ drop-drop (length more) (length out) s
+      ∙ ap (λ (k : ℕ). drop k s) (sym (length-append out more)))
 
   -- ---- a loop whose turn i writes g i behind what the turns before it wrote, at an offset that it keeps
   module _ (g : ℕ → List A) where
@@ -97,6 +122,10 @@ module _ {A : Type 0} {g : ℕ → List A} {n : ℕ} {s : List A} where
     pub filling-room : i < n → length (g i) ≤ length f - at
     filling-room l = omega (arith, for-room g l, w .room, w .here, w .same)
 
+    -- so it fits into the whole slice
+    pub filling-space : i < n → at + length (g i) ≤ length f
+    filling-space l = omega (arith, filling-room l, w .fits, w .same)
+
     -- the turn: a call on `&mut f[at..]` left ys there and answered r
     pub filling-next : i < n → {ys : List A} {r : ℕ} → Wrote (g i) (take (length f - at) (drop at f)) ys r
         → Filling g n s (i + 1) (at + r) (putMid at (length f - at) f ys)
@@ -104,6 +133,26 @@ module _ {A : Type 0} {g : ℕ → List A} {n : ℕ} {s : List A} where
         let e : putMid at (length f - at) f ys ≡ filled (for (i + 1) g) s = for-turn g f s ys i at (w .slice) (w .here) (w .fits) (o .1) in
         let q : at + r ≡ length (for (i + 1) g) = for-next g i at r (w .here) (o .0) in
         let fit : at + r ≤ length s = omega (arith, for-room g l, w .room, w .here, o .0) in
+        record {
+          within = omega arith;
+          room = w .room;
+          fits = fit;
+          same = ap length e ∙ filled-length (for (i + 1) g) s (omega arith);
+          here = q;
+          slice = e;
+        }
+
+    -- the turn: a call on the whole slice left f′ there, with all that was written before it, and answered r
+    pub filling-on : i < n → {f′ : List A} {r : ℕ} → Wrote (take at f ++ g i) f f′ r → Filling g n s (i + 1) r f′
+    filling-on l {f′} {r} o =
+        let p : take at f ≡ for i g = ap₂ take (w .here) (w .slice) ∙ take-filled (for i g) s in
+        let q : r ≡ length (for (i + 1) g) = rw add-one (o .0 ∙ ap (λ (k : List A). length (k ++ g i)) p) in
+        let e : f′ ≡ filled (for (i + 1) g) s =
+        rw add-one
+        (o .1
+        ∙ ap₂ (λ (k j : List A). filled (k ++ g i) j) p (w .slice)
+        ∙ filled-over (for i g) (g i) s) in
+        let fit : r ≤ length s = omega (arith, for-room g l, w .room, for-next g i (length (for i g)) (length (g i)) refl refl) in
         record {
           within = omega arith;
           room = w .room;

@@ -45,14 +45,14 @@ pub fn row_of(b: &[u8], c: Checked, v: usize) -> [u8; 64]
     row
 }
 
-// The neighbours of every vertex, 64 bytes for each.
-pub fn table_of(b: &[u8], c: Checked) -> [u8; 4096]
+// Marks the neighbours of every vertex in a table of zeros, 64 bytes for each.
+pub fn mark_table(table: &mut [u8], b: &[u8], c: Checked)
     requires { ⌜ Accepted (now b) c ⌝ }
-    ensures { λ r. ⌜ length r ≡ 4096 ⌝ }
-    ensures { λ r. ⌜ ((v w : ℕ) → v < c .sizes .n → w < c .sizes .n → eqb (getD r (64 * v + w) 0) 1 ≡ adjacent (instanceOf (now (b .entry)) c) v w) ⌝ }
+    requires { ⌜ now table ≡ replicate 4096 0 ⌝ }
+    ensures { λ _. ⌜ length (now (table .exit)) ≡ 4096 ⌝ }
+    ensures { λ _. ⌜ ((v w : ℕ) → v < c .sizes .n → w < c .sizes .n → eqb (getD (now (table .exit)) (64 * v + w) 0) 1 ≡ adjacent (instanceOf (now (b .entry)) c) v w) ⌝ }
 {
     let e = c.sizes.e;
-    let mut table = [0u8; 4096];
     for j in 0..e {
         let low = numbers::wide(b[4 + j]);
         let high = numbers::wide(b[4 + e + j]);
@@ -61,5 +61,4 @@ pub fn table_of(b: &[u8], c: Checked) -> [u8; 4096]
         table[there] = 1;
         table[back] = 1;
     }
-    table
 }

@@ -1,56 +1,85 @@
--- `formula_writer::write_families` meets its contract. The invariant: each turn has written its family behind those before it. Assumes nothing.
-use Prim.Native.Nat.{_-_}
+-- `formula_writer::write_families` meets its contract: each call writes its family behind those before it. Assumes nothing.
+use mathlib.Core.List.{List}
+use Prim.Native.Nat.{ℕ}
 use native.Mathlib.Omega.{arith}
 use borrow.Author.Needs.{needs}
-use lib.ListN.{length-take, length-drop}
+use lib.IntN.{ℤ}
 use Rattle.lists.specs.Loop.{each}
-use Rattle.lists.proofs.Slices.{Filling, each-filling, filling-room, filling-next, each-filled}
+use Rattle.lists.proofs.Slices.{Filling, each-filling, filling-space, filling-on, each-filled}
 use Rattle.formula.specs.Formula.{line}
 use Rattle.formula.specs.Blocks.{Given, family}
 use Rattle.families.specs.Held.{heldIn}
 use Rattle.formula_writer.proofs.write_families.Statement.{statement}
 use Rattle.formula_writer.proofs.write_families.Tie as tie
 
-abbrev Inv-loop : tie.InvT-loop
-Inv-loop f₀ s starts goals table at₀ which₀ f at which = Filling (λ j. each line (family (heldIn s starts goals table) j)) 7 f₀ which at f
-
-abbrev μ-loop : tie.MeasureT-loop
-μ-loop f₀ s starts goals table at₀ which₀ f at which = 7 - which
-
-abbrev given : tie.Start Inv-loop μ-loop → Given
+abbrev given : tie.Start → Given
 given s = heldIn (s .args .s) (s .args .starts .now) (s .args .goals .now) (s .args .table .now)
 
-loop-holds : tie.Need-loop-holds Inv-loop μ-loop
-loop-holds c = each-filling line (family (given (c .before))) (c .before .pre .1)
+-- before the call of family i the slice has the words of the families below it, and they end at `at`
+abbrev Before : tie.Start → ℕ → ℕ → List ℤ → Type 0
+Before s i at f = Filling (λ j. each line (family (given s) j)) 7 (s .args .f .now) i at f
 
-write-family-requires : tie.Need-write-family-requires Inv-loop μ-loop
-write-family-requires c κs =
-    simp (length-take, length-drop) (let r = filling-room (c .before .before .loop .inv) (omega arith) in (c .before .before .before .before .pre .0, (omega arith, search needs)))
+before0 : (s : tie.Start) → Before s 0 0 (s .args .f .now)
+before0 s = each-filling line (family (given s)) (s .pre .1)
 
-loop-again : tie.Need-loop-again Inv-loop μ-loop
-loop-again c = filling-next (c .before .before .before .before .loop .inv) (omega arith) (c .before .write-family .ensures)
+before1 : (c : tie.After-write-next) → Before (c .before .before .before) 1 (c .write-next .result) (c .write-next .last .0)
+before1 c = filling-on (before0 (c .before .before .before)) (omega arith) (c .write-next .ensures)
 
-add-at : tie.Need-add-at Inv-loop μ-loop
-add-at c = let q = loop-again c .fits in omega arith
+before2 : (c : tie.After-write-next2) → Before (c .before .before .before .before .before .before) 2 (c .write-next2 .result) (c .write-next2 .last .0)
+before2 c = filling-on (before1 (c .before .before .before)) (omega arith) (c .write-next2 .ensures)
 
-returns : tie.Need-returns Inv-loop μ-loop
-returns c = each-filled line (family (given (c .before .before .before))) (c .before .loop .inv) (omega arith)
+before3 : (c : tie.After-write-next3) → Before (c .before .before .before .before .before .before .before .before .before) 3 (c .write-next3 .result) (c .write-next3 .last .0)
+before3 c = filling-on (before2 (c .before .before .before)) (omega arith) (c .write-next3 .ensures)
+
+before4 : (c : tie.After-write-next4) → Before (c .before .before .before .before .before .before .before .before .before .before .before .before) 4 (c .write-next4 .result) (c .write-next4 .last .0)
+before4 c = filling-on (before3 (c .before .before .before)) (omega arith) (c .write-next4 .ensures)
+
+before5 : (c : tie.After-write-next5) → Before (c .before .before .before .before .before .before .before .before .before .before .before .before .before .before .before) 5 (c .write-next5 .result) (c .write-next5 .last .0)
+before5 c = filling-on (before4 (c .before .before .before)) (omega arith) (c .write-next5 .ensures)
+
+before6 : (c : tie.After-write-next6) → Before (c .before .before .before .before .before .before .before .before .before .before .before .before .before .before .before .before .before .before) 6 (c .write-next6 .result) (c .write-next6 .last .0)
+before6 c = filling-on (before5 (c .before .before .before)) (omega arith) (c .write-next6 .ensures)
+
+before7 : (c : tie.After-write-next7) → Before (c .before .before .before .before .before .before .before .before .before .before .before .before .before .before .before .before .before .before .before .before .before) 7 (c .write-next7 .result) (c .write-next7 .last .0)
+before7 c = filling-on (before6 (c .before .before .before)) (omega arith) (c .write-next7 .ensures)
+
+write-next-requires : tie.Need-write-next-requires
+write-next-requires c κs = (c .before .before .pre .0, (omega arith, filling-space (before0 (c .before .before)) (omega arith)))
+
+write-next-requires-2 : tie.Need-write-next-requires-2
+write-next-requires-2 c κs = (c .before .before .before .before .before .pre .0, (omega arith, filling-space (before1 (c .before .before)) (omega arith)))
+
+write-next-requires-3 : tie.Need-write-next-requires-3
+write-next-requires-3 c κs = (c .before .before .before .before .before .before .before .before .pre .0, (omega arith, filling-space (before2 (c .before .before)) (omega arith)))
+
+write-next-requires-4 : tie.Need-write-next-requires-4
+write-next-requires-4 c κs = (c .before .before .before .before .before .before .before .before .before .before .before .pre .0, (omega arith, filling-space (before3 (c .before .before)) (omega arith)))
+
+write-next-requires-5 : tie.Need-write-next-requires-5
+write-next-requires-5 c κs = (c .before .before .before .before .before .before .before .before .before .before .before .before .before .before .pre .0, (omega arith, filling-space (before4 (c .before .before)) (omega arith)))
+
+write-next-requires-6 : tie.Need-write-next-requires-6
+write-next-requires-6 c κs = (c .before .before .before .before .before .before .before .before .before .before .before .before .before .before .before .before .before .pre .0, (omega arith, filling-space (before5 (c .before .before)) (omega arith)))
+
+write-next-requires-7 : tie.Need-write-next-requires-7
+write-next-requires-7 c κs = (c .before .before .before .before .before .before .before .before .before .before .before .before .before .before .before .before .before .before .before .before .pre .0, (omega arith, filling-space (before6 (c .before .before)) (omega arith)))
+
+same-length : tie.Need-same-length
+same-length c = before7 (c .before) .same
+
+returns : tie.Need-returns
+returns c = each-filled line (family (given (c .before .before .before .before .before .before .before .before .before .before .before .before .before .before .before .before .before .before .before .before .before .before))) (before7 (c .before)) (omega arith)
 
 pub write-families-spec : {M : Type 1} → statement M
 write-families-spec =
     tie.close
     (tie.spec
-    Inv-loop
-    μ-loop
-    loop-holds
-    (λ c. search needs)
-    (λ c. search needs)
-    (λ c. search needs)
-    (λ c. search needs)
-    write-family-requires
-    add-at
-    (λ c. search needs)
-    (λ c. search needs)
-    loop-again
-    (λ c. c .before .loop .inv .same)
+    write-next-requires
+    write-next-requires-2
+    write-next-requires-3
+    write-next-requires-4
+    write-next-requires-5
+    write-next-requires-6
+    write-next-requires-7
+    same-length
     returns)
