@@ -11,67 +11,46 @@ ghost use Rattle.valuation.specs.Valuation.{namedPlan};
 ghost use Rattle.instance.specs.Accepted.{Accepted, instanceOf};
 ghost use Rattle.calls.specs.Calls.{decodeRest, decodeAnswer, decodeSlice};
 
-// An answer, and the plan where it is an acceptance.
-pub struct Decoded {
-    pub answer: Answer,
-    pub places: [u8; 528],
-}
-
-// Questions 14, 15, 23 and 24, for a plan slice of the given size.
-fn ask_entries(b: &[u8], c: Checked, entries: &[i32], size: usize) -> Decoded
+// Questions 14, 15, 23 and 24, for a plan slice of the given size. Where they are passed, the plan stands first in `places`.
+fn ask_entries(places: &mut [u8], b: &[u8], c: Checked, entries: &[i32], size: usize) -> Answer
     requires { ⌜ Accepted (now b) c ⌝ }
-    ensures { λ r. ⌜ r .answer ≡ decide (decodeRest (instanceOf (now (b .entry)) c) (now (entries .entry)) size) (planBytes (instanceOf (now (b .entry)) c .sizes)) ⌝ }
-    ensures { λ r. ⌜ (length (r .places) ≡ 528) × (r .answer .number ≡ 0 → (r .answer .second ≡ planBytes (c .sizes)) × (take (planBytes (c .sizes)) (r .places) ≡ namedPlan (c .sizes) (now (entries .entry)))) ⌝ }
+    requires { ⌜ length (now places) ≡ 528 ⌝ }
+    ensures { λ r. ⌜ r ≡ decide (decodeRest (instanceOf (now (b .entry)) c) (now (entries .entry)) size) (planBytes (instanceOf (now (b .entry)) c .sizes)) ⌝ }
+    ensures { λ r. ⌜ (length (now (places .exit)) ≡ 528) × (r .number ≡ 0 → (r .second ≡ planBytes (c .sizes)) × (take (planBytes (c .sizes)) (now (places .exit)) ≡ namedPlan (c .sizes) (now (entries .entry)))) ⌝ }
 {
     let s = c.sizes;
     let count = counts::variable_count(s);
     let bytes = counts::plan_bytes(s);
     let len = entries.len();
     if len != count {
-        return Decoded {
-            answer: Answer {
-                number: 14,
-                second: len,
-            },
-            places: [0u8; 528],
+        return Answer {
+            number: 14,
+            second: len,
         };
     }
     if size < bytes {
-        return Decoded {
-            answer: Answer {
-                number: 15,
-                second: bytes,
-            },
-            places: [0u8; 528],
+        return Answer {
+            number: 15,
+            second: bytes,
         };
     }
-    let reading = satisfaction::read_entries(entries, s);
-    let places = reading.places;
-    if reading.wrong < count {
-        return Decoded {
-            answer: Answer {
-                number: 23,
-                second: reading.wrong,
-            },
-            places,
+    let wrong = satisfaction::read_entries(places, entries, s);
+    if wrong < count {
+        return Answer {
+            number: 23,
+            second: wrong,
         };
     }
     let f = satisfaction::clause_fault(b, c, entries, &places[0..bytes]);
     if f < counts::clause_count(s) {
-        return Decoded {
-            answer: Answer {
-                number: 24,
-                second: f,
-            },
-            places,
+        return Answer {
+            number: 24,
+            second: f,
         };
     }
-    Decoded {
-        answer: Answer {
-            number: 0,
-            second: bytes,
-        },
-        places,
+    Answer {
+        number: 0,
+        second: bytes,
     }
 }
 
@@ -96,12 +75,11 @@ pub fn decode(b: &[u8], m: usize, entries: &[i32], plan: &mut [u8]) -> Answer
         return refusal;
     }
     let c = inspection.checked;
-    let decoded = ask_entries(b, c, entries, plan.len());
-    let answer = decoded.answer;
+    let mut places = [0u8; 528];
+    let answer = ask_entries(&mut places, b, c, entries, plan.len());
     if answer.number != 0 {
         return answer;
     }
-    let places = decoded.places;
     let bytes = answer.second;
     write_plan(plan, &places[0..bytes]);
     answer

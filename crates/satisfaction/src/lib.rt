@@ -32,12 +32,6 @@ pub struct Row {
     pub place: usize,
 }
 
-// What all of them say: the first wrong one, or their number; and of each time and agent the vertex as above.
-pub struct Reading {
-    pub wrong: usize,
-    pub places: [u8; 528],
-}
-
 // Of some clauses: their number, and the place of the first without a true literal, or their number again.
 pub struct Part {
     pub size: usize,
@@ -50,17 +44,25 @@ pub struct Tally {
     pub sum: u32,
 }
 
+// Is entry v from `base` on its variable's negative?
+fn denied(entries: &[i32], base: usize, v: usize) -> bool
+    requires { ⌜ (base + v < length (now entries)) × (base + v < highest) ⌝ }
+    ensures { λ r. ⌜ r ≡ denies (now (entries .entry)) (base + v) ⌝ }
+{
+    let e = entries[base + v];
+    variables::is_negation(e, Variable(base + 1), v)
+}
+
 // Is entry i its variable's negative or, where that is asked too, its variable?
 fn passes(entries: &[i32], i: usize, both: bool) -> bool
     requires { ⌜ (i < length (now entries)) × (i < highest) ⌝ }
     ensures { λ r. ⌜ r ≡ ((both && says (now (entries .entry)) i) || denies (now (entries .entry)) i) ⌝ }
 {
-    let e = entries[i];
-    let x = Variable(i + 1);
     if both {
-        return variables::is_entry(e, x);
+        let e = entries[i];
+        return variables::is_entry(e, Variable(i + 1));
     }
-    variables::is_negation(e, x)
+    denied(entries, 0, i)
 }
 
 // The n entries from `base` on. The loop has one way out, so that the compiler may take several entries at once.
@@ -71,7 +73,7 @@ fn tally_row(entries: &[i32], base: usize, n: usize) -> Tally
     let mut count: u32 = 0;
     let mut sum: u32 = 0;
     for v in 0..n {
-        if !passes(entries, base + v, false) {
+        if !denied(entries, base, v) {
             count += 1;
             sum += v as u32;
         }
@@ -127,32 +129,26 @@ fn read_row(entries: &[i32], base: usize, n: usize) -> Row
     }
 }
 
-// All entries, one time and agent after another.
-pub fn read_entries(entries: &[i32], s: Sizes) -> Reading
+// All entries, one time and agent after another: the first wrong one, or their number. `places` is left with the vertex of each time and
+// agent, as in `Row`, where no entry is wrong.
+pub fn read_entries(places: &mut [u8], entries: &[i32], s: Sizes) -> usize
     requires { ⌜ Limits s ⌝ }
-    requires { ⌜ length (now entries) ≡ variableCount s ⌝ }
-    ensures { λ r. ⌜ FirstFault (variableCount s) (rightEntry (now (entries .entry))) (r .wrong) ⌝ }
-    ensures { λ r. ⌜ length (r .places) ≡ 528 ⌝ }
-    ensures { λ r. ⌜ (variableCount s ≤ r .wrong → Read s (now (entries .entry)) (take (planBytes s) (r .places))) ⌝ }
+    requires { ⌜ (length (now entries) ≡ variableCount s) × (length (now places) ≡ 528) ⌝ }
+    ensures { λ r. ⌜ FirstFault (variableCount s) (rightEntry (now (entries .entry))) r ⌝ }
+    ensures { λ _. ⌜ length (now (places .exit)) ≡ 528 ⌝ }
+    ensures { λ r. ⌜ (variableCount s ≤ r → Read s (now (entries .entry)) (take (planBytes s) (now (places .exit)))) ⌝ }
 {
     let n = s.n;
     let cells = counts::plan_bytes(s);
-    let mut places = [0u8; 528];
     for i in 0..cells {
         let base = i * n;
         let r = read_row(entries, base, n);
         if r.wrong < base + n {
-            return Reading {
-                wrong: r.wrong,
-                places,
-            };
+            return r.wrong;
         }
         places[i] = r.place as u8;
     }
-    Reading {
-        wrong: cells * n,
-        places,
-    }
+    cells * n
 }
 
 // Families A and B: the first agent that is not at its vertex of the array at time t, or k.

@@ -1,5 +1,5 @@
 -- Bounds of X's number; signed numbers as they are stored; a comparison of two of them.
-use mathlib.Core.Path.{_≡_, refl, sym, _∙_, ap}
+use mathlib.Core.Path.{_≡_, refl, sym, _∙_, ap, ap₂}
 use Prim.Native.Nat.{ℕ, zero, suc, _+_, _*_, _≤_, _<_}
 use mathlib.Core.Logic.{by-cases}
 use native.Mathlib.Nat.{mul-le-mul}
@@ -8,7 +8,7 @@ use native.Mathlib.Omega.{arith}
 use mathlib.Core.Bool.{true, false}
 use borrow.Author.Tests.{eq-eqb, ne-eqb}
 use lib.Dec.{lit<, eqb}
-use lib.IntN.{ℤ, pos, negsuc, negℤ, _-ℤ_, +ℤ-idl}
+use lib.IntN.{ℤ, pos, negsuc, negℤ, _-ℤ_, +ℤ-idl, negℤ-+ℤ}
 use mir.Syntax.{w32}
 use mir.Val.{SFits, toZ, ofZ}
 use mir.Facts.{toZ-pos, toZ-ofZ}
@@ -37,6 +37,11 @@ neg-fits (suc n) h = record { sfits = omega arith }
 
 pub neg-is : (x : ℕ) → x ≤ highest → pos 0 -ℤ toZ w32 x ≡ negℤ (pos x)
 neg-is x h = ap (λ (z : ℤ). pos 0 -ℤ z) (toZ-pos w32 {n = x} (omega arith)) ∙ +ℤ-idl (negℤ (pos x))
+
+-- a negative as it is stored, less a number
+pub neg-less : (z : ℤ) (x y : ℕ) → SFits w32 z → z ≡ negℤ (pos x) → x + y ≤ highest → toZ w32 (ofZ w32 z) -ℤ toZ w32 y ≡ negℤ (pos (x + y))
+neg-less z x y f e h =
+    ap₂ (λ (a b : ℤ). a -ℤ b) (toZ-ofZ f ∙ e) (toZ-pos w32 {n = y} (omega arith)) ∙ sym (negℤ-+ℤ (pos x) (pos y))
 
 -- what a test of two stored numbers says of the numbers
 pub same : {a b : ℤ} → SFits w32 a → SFits w32 b → ofZ w32 a ≡ ofZ w32 b → a ≡ b

@@ -2,7 +2,7 @@
 use instance::Sizes;
 ghost use mathlib.Core.Path.{_≡_};
 ghost use mathlib.Core.Bool.{_||_};
-ghost use Prim.Native.Nat.{suc, _≤_, _<_};
+ghost use Prim.Native.Nat.{suc, _+_, _≤_, _<_};
 ghost use lib.IntN.{pos, negℤ};
 ghost use Rattle.formula.specs.Variables.{index, highest};
 ghost use Rattle.instance.specs.Limits.{Limits};
@@ -41,6 +41,15 @@ pub fn negation_of(x: Variable) -> i32
     -(x.0 as i32)
 }
 
+// The literal that says the negation of the variable `by` after x. A loop over `by` stays in 32 bits, so that the compiler may take
+// several at once.
+pub fn negation_after(x: Variable, by: usize) -> i32
+    requires { ⌜ x .0 + by ≤ highest ⌝ }
+    ensures { λ r. ⌜ r ≡ negℤ (pos (x .0 + by)) ⌝ }
+{
+    negation_of(x) - by as i32
+}
+
 // Does an entry say the variable? Any entry is compared, the lowest number too.
 pub fn is_literal(entry: i32, x: Variable) -> bool
     requires { ⌜ x .0 ≤ highest ⌝ }
@@ -49,12 +58,12 @@ pub fn is_literal(entry: i32, x: Variable) -> bool
     entry == literal_of(x)
 }
 
-// Does an entry say the variable's negation?
-pub fn is_negation(entry: i32, x: Variable) -> bool
-    requires { ⌜ x .0 ≤ highest ⌝ }
-    ensures { λ r. ⌜ r ≡ sameNumber entry (negℤ (pos (x .0))) ⌝ }
+// Does an entry say the negation of the variable `by` after x?
+pub fn is_negation(entry: i32, x: Variable, by: usize) -> bool
+    requires { ⌜ x .0 + by ≤ highest ⌝ }
+    ensures { λ r. ⌜ r ≡ sameNumber entry (negℤ (pos (x .0 + by))) ⌝ }
 {
-    let negation = negation_of(x);
+    let negation = negation_after(x, by);
     entry == negation
 }
 

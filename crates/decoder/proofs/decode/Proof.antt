@@ -1,5 +1,5 @@
 -- `decoder::decode` meets its contract: the instance check decides, or the questions of the entries, or the plan is written. Assumes nothing.
-use mathlib.Core.Path.{_≡_, sym, _∙_, ap}
+use mathlib.Core.Path.{_≡_, refl, sym, _∙_, ap}
 use mathlib.Core.List.{List}
 use Prim.Native.Nat.{ℕ, _-_}
 use native.Mathlib.Omega.{arith}
@@ -35,41 +35,41 @@ returns c =
     (e, slice-refused _ (c .before .before .before .check-instance .result .answer) e _ (c .before .before .before .before .before .before .args .plan .now) (c .if1 .taken))
 
 ask-entries-requires : tie.Need-ask-entries-requires
-ask-entries-requires c κs = passed (c .before .before .before .before .before .before .before .args .b .now) (c .before .before .before .before .before .before .before .args .m) (c .before .before .before .before .check-instance .result .answer) (c .before .before .before .before .check-instance .result .checked) (c .before .before .before .before .check-instance .ensures .0) (c .before .before .before .before .check-instance .ensures .1) (c .before .if1 .left)
+ask-entries-requires c κs = (passed (c .before .before .before .before .before .before .before .before .args .b .now) (c .before .before .before .before .before .before .before .before .args .m) (c .before .before .before .before .before .check-instance .result .answer) (c .before .before .before .before .before .check-instance .result .checked) (c .before .before .before .before .before .check-instance .ensures .0) (c .before .before .before .before .before .check-instance .ensures .1) (c .before .before .if1 .left), refl)
 
 returns-2 : tie.Need-returns-2
 unfolding decodeAnswer decodeSlice
 returns-2 c =
-    let e = call-answers (c .before .before .before .before .before .before .before .before .before .before .before .args .b .now) (c .before .before .before .before .before .before .before .before .before .before .before .args .m) (c .before .before .before .before .before .before .before .before .check-instance .result .answer) (c .before .before .before .before .before .before .before .before .check-instance .result .checked) (c .before .before .before .before .before .before .before .before .check-instance .ensures .0) (c .before .before .before .before .before .before .before .before .check-instance .ensures .1) (asks (c .before .before .before .before .before .before .before .before .before .before .before)) count (c .before .before .before .before .before .if1 .left) (c .before .before .before .ask-entries .result .answer) (c .before .before .before .ask-entries .ensures .0) in
-    (e, slice-refused _ (c .before .before .before .ask-entries .result .answer) e _ (c .before .before .before .before .before .before .before .before .before .before .before .args .plan .now) (c .if2 .taken))
+    let e = call-answers (c .before .before .before .before .before .before .before .before .before .before .before .before .args .b .now) (c .before .before .before .before .before .before .before .before .before .before .before .before .args .m) (c .before .before .before .before .before .before .before .before .before .check-instance .result .answer) (c .before .before .before .before .before .before .before .before .before .check-instance .result .checked) (c .before .before .before .before .before .before .before .before .before .check-instance .ensures .0) (c .before .before .before .before .before .before .before .before .before .check-instance .ensures .1) (asks (c .before .before .before .before .before .before .before .before .before .before .before .before)) count (c .before .before .before .before .before .before .if1 .left) (c .before .before .before .ask-entries .result) (c .before .before .before .ask-entries .ensures .0) in
+    (e, slice-refused _ (c .before .before .before .ask-entries .result) e _ (c .before .before .before .before .before .before .before .before .before .before .before .before .args .plan .now) (c .if2 .taken))
 
 part-write-plan-end : tie.Need-part-write-plan-end
 part-write-plan-end c =
     let w = passed (c .before .before .before .before .before .before .before .before .before .before .before .before .before .before .args .b .now) (c .before .before .before .before .before .before .before .before .before .before .before .before .before .before .args .m) (c .before .before .before .before .before .before .before .before .before .before .before .check-instance .result .answer) (c .before .before .before .before .before .before .before .before .before .before .before .check-instance .result .checked) (c .before .before .before .before .before .before .before .before .before .before .before .check-instance .ensures .0) (c .before .before .before .before .before .before .before .before .before .before .before .check-instance .ensures .1) (c .before .before .before .before .before .before .before .before .if1 .left) in
-    let d = c .before .before .before .before .before .before .ask-entries .ensures .1 .1 (c .before .before .before .if2 .left) in
-    omega (arith, d .0, c .before .before .before .before .before .before .ask-entries .ensures .1 .0, rows _ (limits-known _ _ w))
+    let d = c .before .before .before .before .before .ask-entries .ensures .1 .1 (c .before .before .if2 .left) in
+    omega (arith, d .0, c .before .before .before .before .before .ask-entries .ensures .1 .0, rows _ (limits-known _ _ w))
 
 write-plan-requires : tie.Need-write-plan-requires
 write-plan-requires c κs =
     let w = passed (c .before .before .before .before .before .before .before .before .before .before .before .before .before .before .before .args .b .now) (c .before .before .before .before .before .before .before .before .before .before .before .before .before .before .before .args .m) (c .before .before .before .before .before .before .before .before .before .before .before .before .check-instance .result .answer) (c .before .before .before .before .before .before .before .before .before .before .before .before .check-instance .result .checked) (c .before .before .before .before .before .before .before .before .before .before .before .before .check-instance .ensures .0) (c .before .before .before .before .before .before .before .before .before .before .before .before .check-instance .ensures .1) (c .before .before .before .before .before .before .before .before .before .if1 .left) in
-    let d = c .before .before .before .before .before .before .before .ask-entries .ensures .1 .1 (c .before .before .before .before .if2 .left) in
-    let y = ready (c .before .before .before .before .before .before .before .before .before .before .before .before .before .before .before .args .b .now) (c .before .before .before .before .before .before .before .before .before .before .before .before .check-instance .result .checked) w (c .before .before .before .before .before .before .before .before .before .before .before .before .before .before .before .args .entries .now) (length (c .before .before .before .before .before .before .before .before .before .before .before .before .before .before .before .args .plan .now)) (sym (ap (λ (a : Answer). a .number) (c .before .before .before .before .before .before .before .ask-entries .ensures .0)) ∙ c .before .before .before .before .if2 .left) in
-    let l = length-take-le (c .before .before .before .before .before .before .before .ask-entries .result .answer .second - 0) (c .before .before .before .before .before .before .before .ask-entries .result .places) (omega (arith, d .0, c .before .before .before .before .before .before .before .ask-entries .ensures .1 .0, rows _ (limits-known _ _ w))) in
+    let d = c .before .before .before .before .before .before .ask-entries .ensures .1 .1 (c .before .before .before .if2 .left) in
+    let y = ready (c .before .before .before .before .before .before .before .before .before .before .before .before .before .before .before .args .b .now) (c .before .before .before .before .before .before .before .before .before .before .before .before .check-instance .result .checked) w (c .before .before .before .before .before .before .before .before .before .before .before .before .before .before .before .args .entries .now) (length (c .before .before .before .before .before .before .before .before .before .before .before .before .before .before .before .args .plan .now)) (sym (ap (λ (a : Answer). a .number) (c .before .before .before .before .before .before .ask-entries .ensures .0)) ∙ c .before .before .before .if2 .left) in
+    let l = length-take-le (c .before .before .before .before .before .before .ask-entries .result .second - 0) (c .before .before .before .before .before .before .ask-entries .last .0) (omega (arith, d .0, c .before .before .before .before .before .before .ask-entries .ensures .1 .0, rows _ (limits-known _ _ w))) in
     omega (arith, l, d .0, y .fits)
 
 returns-3 : tie.Need-returns-3
 unfolding decodeAnswer decodeSlice
 returns-3 c =
     let w = passed (c .before .before .before .before .before .before .before .before .before .before .before .before .before .before .before .before .before .before .args .b .now) (c .before .before .before .before .before .before .before .before .before .before .before .before .before .before .before .before .before .before .args .m) (c .before .before .before .before .before .before .before .before .before .before .before .before .before .before .before .check-instance .result .answer) (c .before .before .before .before .before .before .before .before .before .before .before .before .before .before .before .check-instance .result .checked) (c .before .before .before .before .before .before .before .before .before .before .before .before .before .before .before .check-instance .ensures .0) (c .before .before .before .before .before .before .before .before .before .before .before .before .before .before .before .check-instance .ensures .1) (c .before .before .before .before .before .before .before .before .before .before .before .before .if1 .left) in
-    let d = c .before .before .before .before .before .before .before .before .before .before .ask-entries .ensures .1 .1 (c .before .before .before .before .before .before .before .if2 .left) in
-    let e = call-answers (c .before .before .before .before .before .before .before .before .before .before .before .before .before .before .before .before .before .before .args .b .now) (c .before .before .before .before .before .before .before .before .before .before .before .before .before .before .before .before .before .before .args .m) (c .before .before .before .before .before .before .before .before .before .before .before .before .before .before .before .check-instance .result .answer) (c .before .before .before .before .before .before .before .before .before .before .before .before .before .before .before .check-instance .result .checked) (c .before .before .before .before .before .before .before .before .before .before .before .before .before .before .before .check-instance .ensures .0) (c .before .before .before .before .before .before .before .before .before .before .before .before .before .before .before .check-instance .ensures .1) (asks (c .before .before .before .before .before .before .before .before .before .before .before .before .before .before .before .before .before .before)) count (c .before .before .before .before .before .before .before .before .before .before .before .before .if1 .left) (c .before .before .before .before .before .before .before .before .before .before .ask-entries .result .answer) (c .before .before .before .before .before .before .before .before .before .before .ask-entries .ensures .0) in
+    let d = c .before .before .before .before .before .before .before .before .before .ask-entries .ensures .1 .1 (c .before .before .before .before .before .before .if2 .left) in
+    let e = call-answers (c .before .before .before .before .before .before .before .before .before .before .before .before .before .before .before .before .before .before .args .b .now) (c .before .before .before .before .before .before .before .before .before .before .before .before .before .before .before .before .before .before .args .m) (c .before .before .before .before .before .before .before .before .before .before .before .before .before .before .before .check-instance .result .answer) (c .before .before .before .before .before .before .before .before .before .before .before .before .before .before .before .check-instance .result .checked) (c .before .before .before .before .before .before .before .before .before .before .before .before .before .before .before .check-instance .ensures .0) (c .before .before .before .before .before .before .before .before .before .before .before .before .before .before .before .check-instance .ensures .1) (asks (c .before .before .before .before .before .before .before .before .before .before .before .before .before .before .before .before .before .before)) count (c .before .before .before .before .before .before .before .before .before .before .before .before .if1 .left) (c .before .before .before .before .before .before .before .before .before .ask-entries .result) (c .before .before .before .before .before .before .before .before .before .ask-entries .ensures .0) in
     let same = sizes-same _ _ w ∙ ap (λ (J : Instance). J .sizes) (horizon (c .before .before .before .before .before .before .before .before .before .before .before .before .before .before .before .before .before .before .args .b .now) (c .before .before .before .before .before .before .before .before .before .before .before .before .before .before .before .before .before .before .args .m) (c .before .before .before .before .before .before .before .before .before .before .before .before .before .before .before .check-instance .result .answer) (c .before .before .before .before .before .before .before .before .before .before .before .before .before .before .before .check-instance .result .checked) (c .before .before .before .before .before .before .before .before .before .before .before .before .before .before .before .check-instance .ensures .0) (c .before .before .before .before .before .before .before .before .before .before .before .before .before .before .before .check-instance .ensures .1) (c .before .before .before .before .before .before .before .before .before .before .before .before .if1 .left)) in
-    let n : c .before .before .before .before .before .before .before .before .before .before .ask-entries .result .answer .second - 0 ≡ planBytes (c .before .before .before .before .before .before .before .before .before .before .before .before .before .before .before .check-instance .result .checked .sizes) = omega (arith, d .0) in (
+    let n : c .before .before .before .before .before .before .before .before .before .ask-entries .result .second - 0 ≡ planBytes (c .before .before .before .before .before .before .before .before .before .before .before .before .before .before .before .check-instance .result .checked .sizes) = omega (arith, d .0) in (
       e,
-      c .before .before .write-plan .ensures ∙ ap (λ (x : ℕ). filled (take x (c .before .before .before .before .before .before .before .before .before .before .ask-entries .result .places)) (c .before .before .before .before .before .before .before .before .before .before .before .before .before .before .before .before .before .before .args .plan .now)) n
+      c .before .before .write-plan .ensures ∙ ap (λ (x : ℕ). filled (take x (c .before .before .before .before .before .before .before .before .before .ask-entries .last .0)) (c .before .before .before .before .before .before .before .before .before .before .before .before .before .before .before .before .before .before .args .plan .now)) n
           ∙ ap (λ (l : List ℕ). filled l (c .before .before .before .before .before .before .before .before .before .before .before .before .before .before .before .before .before .before .args .plan .now)) (d .1)
           ∙ ap (λ (s : Sizes). filled (namedPlan s (c .before .before .before .before .before .before .before .before .before .before .before .before .before .before .before .before .before .before .args .entries .now)) (c .before .before .before .before .before .before .before .before .before .before .before .before .before .before .before .before .before .before .args .plan .now)) same
-          ∙ slice-filled _ (c .before .before .before .before .before .before .before .before .before .before .ask-entries .result .answer) e _ (c .before .before .before .before .before .before .before .before .before .before .before .before .before .before .before .before .before .before .args .plan .now) (c .before .before .before .before .before .before .before .if2 .left),
+          ∙ slice-filled _ (c .before .before .before .before .before .before .before .before .before .ask-entries .result) e _ (c .before .before .before .before .before .before .before .before .before .before .before .before .before .before .before .before .before .before .args .plan .now) (c .before .before .before .before .before .before .if2 .left),
     )
 
 pub decode-spec : {M : Type 1} → statement M
@@ -78,6 +78,7 @@ decode-spec =
     (tie.spec
     (λ c κs. search needs)
     returns
+    (λ c. search needs)
     ask-entries-requires
     returns-2
     (λ c. search needs)

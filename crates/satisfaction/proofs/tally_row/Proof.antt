@@ -37,11 +37,11 @@ loop-again c =
     ⊎-elim
     (λ w.
     let o : Tallied t (l .v + 1) (c .if1 .count) (c .if1 .sum) =
-    rw (w .1, w .2) (tallied-fail t (l .v) (l .count) (l .sum) (l .inv .3) (fails (c .before .passes .ensures) (not-true _ (w .0 .taken)))) in
+    rw (w .1, w .2) (tallied-fail t (l .v) (l .count) (l .sum) (l .inv .3) (fails (c .before .denied .ensures) (not-true _ (w .0 .taken)))) in
     (omega arith, omega (arith, w .1, l .inv .1), omega (arith, w .2, l .inv .2, l .inv .0, c .before .before .before .before .pre), o))
     (λ w.
     let o : Tallied t (l .v + 1) (c .if1 .count) (c .if1 .sum) =
-    rw (w .1, w .2) (tallied-pass t (l .v) (l .count) (l .sum) (l .inv .3) (holds (c .before .passes .ensures) (not-false _ (w .0 .left)))) in
+    rw (w .1, w .2) (tallied-pass t (l .v) (l .count) (l .sum) (l .inv .3) (holds (c .before .denied .ensures) (not-false _ (w .0 .left)))) in
     (omega arith, omega (arith, w .1, l .inv .1), omega (arith, w .2, l .inv .2), o))
     (c .if1 .came)
 
@@ -55,7 +55,6 @@ tally-row-spec =
     Inv-loop
     μ-loop
     loop-holds
-    (λ c. search needs)
     (λ c κs. search needs)
     add-count
     cast-sum
