@@ -1,19 +1,26 @@
 -- A slice that is filled by a loop: one element a turn, or one block of c elements a turn.
 use mathlib.Core.Path.{_≡_, sym, _∙_, ap, ap₂}
 use mathlib.Core.List.{List, [], _∷_}
-use Prim.Native.Nat.{ℕ, suc, _+_, _*_, _-_, _≤_, _<_}
+use mathlib.Core.Logic.{by-cases}
+use mathlib.Core.Bool.{Bool, cond}
+use Prim.Native.Nat.{ℕ, zero, suc, _+_, _*_, _-_, _≤_, _<_}
 use native.Mathlib.Nat.{mul-comm, mul-left-comm, suc-mul, mul-le-mul, mul-le-mul-right}
 use native.Mathlib.Numerals.{add-one}
 use native.Mathlib.Omega.{arith}
 use borrow.Rule.Slice.PartMut.{putMid}
+use native.Mathlib.Decide.{ℕ-discrete}
+use borrow.Author.Tests.{eq-eqb, ne-eqb}
+use lib.Dec.{eqb}
 use lib.ListN.{length, take, drop, set}
+use lib.Seq.{set-set, set-comm}
 use Rattle.lists.specs.Loop.{for}
 use Rattle.lists.specs.Slice.{filled}
 use Rattle.lists.proofs.Slices.{filled-set, filled-part}
-use Rattle.lists.proofs.Loops.{for-length}
+use Rattle.lists.proofs.Loops.{for-length, for-ext}
 use Rattle.lists.proofs.Blocks.{for1-length, place-lt}
 use Rattle.instance.specs.declared.Sizes.{Sizes}
-use Rattle.formula.specs.Variables.{variableCount}
+use Rattle.formula.specs.Variables.{index, highest, variableCount}
+use Rattle.variables.proofs.Laws.{bounds}
 use Rattle.instance.specs.Limits.{Limits}
 use Rattle.formula.proofs.Limits.{variables-most}
 
@@ -25,11 +32,50 @@ module _ {A : Type 0} where
       ∙ filled-set (for v λ u. f u ∷ []) l v (f v) (f v) (for1-length v f) h
       ∙ ap (λ (j : ℕ). filled (for j λ u. f u ∷ []) l) (sym (add-one v))
 
+  filled-last : (f : ℕ → A) (n : ℕ) (l : List A) → n < length l
+      → filled (for (suc n) λ v. f v ∷ []) l ≡ set (filled (for n λ v. f v ∷ []) l) n (f n)
+  filled-last f n l h = sym (filled-set (for n λ v. f v ∷ []) l n (f n) (f n) (for1-length n f) h)
+
+  -- where p is not among those below n, no element differs
+  pub filled-none : (f g : ℕ → A) (p n : ℕ) (l : List A) → n ≤ p
+      → filled (for n λ v. f v ∷ []) l ≡ filled (for n λ v. cond (eqb p v) (g v) (f v) ∷ []) l
+  filled-none f g p n l h =
+      ap (λ (out : List A). filled out l)
+      (for-ext n _ _ (λ v b. ap (λ (t : Bool). cond t (g v) (f v) ∷ []) (sym (ne-eqb p v (λ e. let x : ⊥ = omega arith in x)))))
+
+  -- where it is, one store makes the difference
+  pub filled-but : (f g : ℕ → A) (p n : ℕ) (l : List A) → n ≤ length l → p < n
+      → set (filled (for n λ v. f v ∷ []) l) p (g p) ≡ filled (for n λ v. cond (eqb p v) (g v) (f v) ∷ []) l
+  filled-but f g p zero l h b = absurd (let x : ⊥ = omega arith in x)
+  filled-but f g p (suc n) l h b =
+      let r : ℕ → A = λ v. cond (eqb p v) (g v) (f v) in
+      ap (λ (y : List A). set y p (g p)) (filled-last f n l (omega arith))
+      ∙ by-cases (ℕ-discrete p n)
+      (λ e.
+      ap (λ (q : ℕ). set (set (filled (for n λ v. f v ∷ []) l) n (f n)) q (g q)) e
+      ∙ set-set (filled (for n λ v. f v ∷ []) l) n (f n) (g n)
+      ∙ ap (λ (y : List A). set y n (g n)) (filled-none f g p n l (omega arith))
+      ∙ ap (λ (t : Bool). set (filled (for n λ v. r v ∷ []) l) n (cond t (g n) (f n))) (sym (eq-eqb p n e)))
+      (λ d.
+      sym (set-comm (filled (for n λ v. f v ∷ []) l) p n (g p) (f n) d)
+      ∙ ap (λ (y : List A). set y n (f n)) (filled-but f g p n l (omega arith) (omega arith))
+      ∙ ap (λ (t : Bool). set (filled (for n λ v. r v ∷ []) l) n (cond t (g n) (f n))) (sym (ne-eqb p n d)))
+      ∙ sym (filled-last r n l (omega arith))
+
   pub filled-block : (g : ℕ → List A) (c i : ℕ) → ((j : ℕ) → j < i → length (g j) ≡ c) → (f l ys : List A) → f ≡ filled (for i g) l → i * c ≤ length l
       → ys ≡ filled (g i) (take (length f - i * c) (drop (i * c) f)) → putMid (i * c) (length f - i * c) f ys ≡ filled (for (i + 1) g) l
   filled-block g c i h f l ys ef hn ey =
       filled-part f l (for i g) (g i) ys (i * c) ef (for-length i c g h) hn ey
       ∙ ap (λ (j : ℕ). filled (for j g) l) (sym (add-one i))
+
+-- the variables of one agent and time are a run
+pub run : (s : Sizes) (t a v : ℕ) → suc (index s t a 0) + v ≡ suc (index s t a v)
+unfolding index
+run s t a v = omega arith
+
+pub run-fits : (s : Sizes) (t a v : ℕ) → Limits s → t ≤ s .m → a < s .k → v < s .n → suc (index s t a 0) + v ≤ highest
+unfolding index
+run-fits s t a v w ht ha hv = omega (arith, bounds s t a w ht ha .cells, w .n-most)
 
 -- where agent a of row t stands in the plan, and the block of its entries in the row
 pub record Room (s : Sizes) (t a : ℕ) : Type 0 where

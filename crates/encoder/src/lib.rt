@@ -4,7 +4,6 @@ use instance::Checked;
 use instance::Sizes;
 use variables::Agent;
 use variables::Step;
-use variables::Variable;
 use variables::Vertex;
 ghost use mathlib.Core.Path.{_≡_};
 ghost use mathlib.Core.Bool.{cond};
@@ -12,10 +11,9 @@ ghost use mathlib.Core.List.{[], _∷_};
 ghost use Prim.Native.Nat.{_*_, _+_, _≤_, _<_};
 ghost use lib.ListN.{length};
 ghost use lib.Dec.{eqb};
-ghost use lib.IntN.{pos, negℤ};
 ghost use Rattle.lists.specs.Loop.{for};
 ghost use Rattle.lists.specs.Slice.{filled};
-ghost use Rattle.formula.specs.Variables.{X, ¬X, variableCount, highest};
+ghost use Rattle.formula.specs.Variables.{X, ¬X, variableCount};
 ghost use Rattle.formula.specs.Formula.{formula};
 ghost use Rattle.instance.specs.Limits.{Limits};
 ghost use Rattle.answers.specs.Answers.{decide};
@@ -24,18 +22,7 @@ ghost use Rattle.valuation.specs.Valuation.{entryFor, planValuation};
 ghost use Rattle.instance.specs.Accepted.{Accepted, instanceOf};
 ghost use Rattle.calls.specs.Calls.{encodeRest, encodeAnswer, encodeSlice};
 
-// A variable's entry: the variable where it is true, else its negative.
-fn entry_for(x: Variable, holds: bool) -> i32
-    requires { ⌜ x .0 ≤ highest ⌝ }
-    ensures { λ r. ⌜ r ≡ cond holds (pos (x .0)) (negℤ (pos (x .0))) ⌝ }
-{
-    if holds {
-        return variables::literal_of(x);
-    }
-    variables::negation_of(x)
-}
-
-// The entries of agent a at time t, where it is at the given vertex.
+// The entries of agent a at time t, where it is at the given vertex: the negatives of all, then the one that is true.
 fn write_agent(z: &mut [i32], s: Sizes, t: Step, a: Agent, at: Vertex)
     requires { ⌜ Limits s ⌝ }
     requires { ⌜ (t .0 ≤ s .m) × (a .0 < s .k) × (s .n ≤ length (now z)) ⌝ }
@@ -43,9 +30,12 @@ fn write_agent(z: &mut [i32], s: Sizes, t: Step, a: Agent, at: Vertex)
 {
     let n = s.n;
     let place = at.0;
+    let first = variables::variable_of(s, t, a, Vertex(0));
     for v in 0..n {
-        let x = variables::variable_of(s, t, a, Vertex(v));
-        z[v] = entry_for(x, place == v);
+        z[v] = variables::negation_after(first, v);
+    }
+    if place < n {
+        z[place] = variables::literal_of(variables::variable_of(s, t, a, at));
     }
 }
 

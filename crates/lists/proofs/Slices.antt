@@ -57,8 +57,7 @@ module _ {A : Type 0} where
   pub filled-behind : (f more ys : List A) (n : ℕ) {r : ℕ} → n ≤ length f → Wrote more (take (length f - n) (drop n f)) ys r
       → Wrote (take n f ++ more) f (putMid n (length f - n) f ys) (n + r)
   filled-behind f more ys n {r} h o =
-      let e : length (take n f) ≡ n = simp length-take (omega arith) in
-      (
+      let e : length (take n f) ≡ n = simp length-take (omega arith) in (
         simp length-append (rw (e, o .0)),
         filled-part f f (take n f) more ys n (sym (filled-same n f e)) e h (o .1),
       )
