@@ -12,7 +12,7 @@ use Rattle.answers.specs.Answers.{clear}
 use Rattle.answers.proofs.Laws.{numbered, clear-iff, each-all, each-nil, decide-iff, decide-after, ask-nil, ask-all}
 use Rattle.instance.specs.declared.Sizes.{Sizes}
 use Rattle.instance.specs.Instance.{Instance, instance}
-use Rattle.plan.specs.Plan.{condition1, condition2, condition3, place}
+use Rattle.plan.specs.Plan.{condition1, condition2, condition3, planRow}
 use Rattle.plan.specs.Passing.{Passes}
 use Rattle.plan.proofs.Steps.{apart-any, crosses-iff}
 use Rattle.calls.specs.Questions.{question13}
@@ -40,7 +40,7 @@ module _ (I : Instance) (p : List ℕ) where
   pub clear-plan : T (all clear (question13 I p ∷ planQuestions I p)) ↔ Passes I p
   unfolding planQuestions condition1 condition2 condition3
   clear-plan =
-      let P : ℕ → ℕ → ℕ = place sizes p in
+      let P : ℕ → ℕ → ℕ = planRow sizes p in
       simp (and-iff, all-append clear (for m (stepQuestions I p)), for-all, clear-iff, each-nil, ask-nil, or-imp, not-iff, eqb-iff, ltb-iff, every-iff) (
         (λ h. record {
           size = h .0;

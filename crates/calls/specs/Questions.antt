@@ -8,7 +8,7 @@ use Rattle.answers.specs.Answers.{Question, ask, askEach, refuse}
 use Rattle.instance.specs.declared.Sizes.{Sizes}
 use Rattle.instance.specs.Instance.{Instance, adjacent}
 use Rattle.formula.specs.Formula.{Formula}
-use Rattle.plan.specs.Plan.{planBytes, cell, place, condition1, condition2, condition3}
+use Rattle.plan.specs.Plan.{planBytes, planIndex, planRow, condition1, condition2, condition3}
 use Rattle.valuation.specs.Valuation.{rightEntry, satisfied?}
 
 -- Of a formula f: is the clause number below the clause count?
@@ -46,23 +46,23 @@ module _ (I : Instance) (p : List ℕ) where
 
   -- Is row 0 the starts?
   abbrev pub question18 : Question
-  question18 = askEach k (λ a. eqb (place sizes p 0 a) (start a)) λ a. refuse 18 (cell sizes 0 a)
+  question18 = askEach k (λ a. eqb (planRow sizes p 0 a) (start a)) λ a. refuse 18 (planIndex sizes 0 a)
 
   -- Does step t obey condition 1?
   abbrev pub question19 : ℕ → Question
-  question19 t = askEach k (condition1 (adjacent I) (place sizes p t) (place sizes p (suc t))) λ a. refuse 19 (cell sizes (suc t) a)
+  question19 t = askEach k (condition1 (adjacent I) (planRow sizes p t) (planRow sizes p (suc t))) λ a. refuse 19 (planIndex sizes (suc t) a)
 
   -- Condition 2?
   abbrev pub question20 : ℕ → Question
-  question20 t = askEach k (condition2 sizes (place sizes p t) (place sizes p (suc t))) λ a. refuse 20 (cell sizes (suc t) a)
+  question20 t = askEach k (condition2 sizes (planRow sizes p t) (planRow sizes p (suc t))) λ a. refuse 20 (planIndex sizes (suc t) a)
 
   -- Condition 3?
   abbrev pub question21 : ℕ → Question
-  question21 t = askEach k (condition3 (place sizes p (suc t))) λ a. refuse 21 (cell sizes (suc t) a)
+  question21 t = askEach k (condition3 (planRow sizes p (suc t))) λ a. refuse 21 (planIndex sizes (suc t) a)
 
   -- Is row m the goals?
   abbrev pub question22 : Question
-  question22 = askEach k (λ a. eqb (place sizes p m a) (goal a)) λ a. refuse 22 (cell sizes m a)
+  question22 = askEach k (λ a. eqb (planRow sizes p m a) (goal a)) λ a. refuse 22 (planIndex sizes m a)
 
 -- of a formula f and a list of entries
 module _ (f : Formula) (entries : List ℤ) where

@@ -19,7 +19,7 @@ use Rattle.instance.specs.declared.Sizes.{Sizes}
 use Rattle.instance.specs.Instance.{Instance, instance, Endpoints}
 use Rattle.formula.specs.Variables.{X, variableCount}
 use Rattle.formula.specs.Formula.{clauses, Formula, formula}
-use Rattle.plan.specs.Plan.{place}
+use Rattle.plan.specs.Plan.{planRow}
 use Rattle.plan.specs.Passing.{Passes}
 use Rattle.valuation.specs.Valuation.{true?, named, namedPlan, planValuation}
 use Rattle.valuation.specs.Satisfying.{Valuation, Names}
@@ -44,17 +44,17 @@ module _ (I : Instance) where
   open Sizes sizes using (n, k, m)
 
   plan-ext : (p q : List ℕ) → length p ≡ suc m * k → length q ≡ suc m * k
-      → ((t a : ℕ) → t < suc m → a < k → place sizes p t a ≡ place sizes q t a) → p ≡ q
+      → ((t a : ℕ) → t < suc m → a < k → planRow sizes p t a ≡ planRow sizes q t a) → p ≡ q
   plan-ext p q lp lq e =
       ext-getD 0 p q (lp ∙ sym lq)
       (λ i l.
       let (t, a, x, y, s) = place-split (suc m) (k) i (subst (λ (z : ℕ). i < z) lp l) in
       rw s (e t a x y))
 
-  inside-at : (p : List ℕ) → Passes I p → (t a : ℕ) → t < suc m → a < k → place sizes p t a < n
+  inside-at : (p : List ℕ) → Passes I p → (t a : ℕ) → t < suc m → a < k → planRow sizes p t a < n
   inside-at p w t a x y = w .inside (t * k + a) (place-lt (suc m) (k) t a x y)
 
-  names : (es : List ℤ) (p : List ℕ) → length p ≡ suc m * k → Places sizes (true? es) (place sizes p) → Names sizes es p
+  names : (es : List ℤ) (p : List ℕ) → length p ≡ suc m * k → Places sizes (true? es) (planRow sizes p) → Names sizes es p
   names es p l c =
       record {
         size = l;
@@ -66,14 +66,14 @@ module _ (I : Instance) where
   pub names-unique : (es : List ℤ) (p q : List ℕ) → Names sizes es p → Names sizes es q → p ≡ q
   names-unique es p q a b =
       plan-ext p q (a .size) (b .size)
-      (λ t c x y. b .chosen t c (place sizes p t c) x y (a .inside t c x y) .0 (a .chosen t c (place sizes p t c) x y (a .inside t c x y) .1 refl))
+      (λ t c x y. b .chosen t c (planRow sizes p t c) x y (a .inside t c x y) .0 (a .chosen t c (planRow sizes p t c) x y (a .inside t c x y) .1 refl))
 
   -- the plan that a satisfying valuation names
   module _ (es : List ℤ) (w : Valuation (variableCount sizes) es) (h : Sat (true? es) (clauses I)) where
-    pub named-at-places : Places sizes (true? es) (place sizes (namedPlan sizes es))
+    pub named-at-places : Places sizes (true? es) (planRow sizes (namedPlan sizes es))
     named-at-places =
         let (c, d) = sat-CD I (true? es) h in
-        places-cong sizes (true? es) (named sizes es) (place sizes (namedPlan sizes es)) (named-places I es w c d) (λ t a x y. sym (named-at sizes es t a x y))
+        places-cong sizes (true? es) (named sizes es) (planRow sizes (namedPlan sizes es)) (named-places I es w c d) (λ t a x y. sym (named-at sizes es t a x y))
 
     pub named-passes : Endpoints I → Passes I (namedPlan sizes es)
     named-passes s =
@@ -82,7 +82,7 @@ module _ (I : Instance) where
           inside = λ i l.
               let (t, a, x, y, e) = place-split (suc m) (k) i l in
               rw e (named-at-places .inside t a x y);
-          leads = satisfies-iff I s (place sizes (namedPlan sizes es)) (true? es) named-at-places .0 h;
+          leads = satisfies-iff I s (planRow sizes (namedPlan sizes es)) (true? es) named-at-places .0 h;
         }
 
   -- two satisfying valuations that name one plan are equal
@@ -104,11 +104,11 @@ module _ (I : Instance) where
 
   -- the valuation of a passing plan
   module _ (p : List ℕ) (w : Passes I p) where
-    pub written-names : Places sizes (true? (planValuation sizes p)) (place sizes p)
+    pub written-names : Places sizes (true? (planValuation sizes p)) (planRow sizes p)
     written-names = written-places sizes p (inside-at p w)
 
     pub written-sat : Endpoints I → Sat (true? (planValuation sizes p)) (clauses I)
-    written-sat s = satisfies-iff I s (place sizes p) (true? (planValuation sizes p)) written-names .1 (w .leads)
+    written-sat s = satisfies-iff I s (planRow sizes p) (true? (planValuation sizes p)) written-names .1 (w .leads)
 
     pub round-trip : Endpoints I → namedPlan sizes (planValuation sizes p) ≡ p
     round-trip s =
@@ -164,8 +164,8 @@ module _ (b : List ℕ) (m : ℕ) (ok : T (all clear (instanceQuestions b m))) w
             let (w, h) = decode-iff es (length s) l .0 e in
             let (w′, h′) = decode-iff fs (length s′) l′ .0 e′ in
             let np : namedPlan (I .sizes) fs ≡ namedPlan (I .sizes) es = sym (sym (handed es s e) ∙ q ∙ handed fs s′ e′) in
-            same-valuation I es fs w w′ (place (I .sizes) (namedPlan (I .sizes) es)) (named-at-places I es w h)
-            (subst (λ (p : List ℕ). Places (I .sizes) (true? fs) (place (I .sizes) p)) np (named-at-places I fs w′ h′));
+            same-valuation I es fs w w′ (planRow (I .sizes) (namedPlan (I .sizes) es)) (named-at-places I es w h)
+            (subst (λ (p : List ℕ). Places (I .sizes) (true? fs) (planRow (I .sizes) p)) np (named-at-places I fs w′ h′));
         encoder = λ p z l. Iff·trans (encode-iff p (length z) l) (Iff·symm (check-iff b m ok p));
         encoded = λ p z l e.
             let w = encode-iff p (length z) l .0 e in

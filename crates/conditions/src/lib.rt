@@ -9,7 +9,7 @@ ghost use lib.Dec.{eqb};
 ghost use Rattle.answers.specs.Fault.{FirstFault};
 ghost use Rattle.instance.specs.Instance.{adjacent};
 ghost use Rattle.instance.specs.Accepted.{Accepted, instanceOf};
-ghost use Rattle.plan.specs.Plan.{row, planBytes, place, condition, condition1, condition2, condition3};
+ghost use Rattle.plan.specs.Plan.{row, planBytes, planRow, condition, condition1, condition2, condition3};
 
 // The first of `count` agents, whose bytes stand from an offset on, that stands on x, or `count`.
 pub fn first_on(p: &[u8], from: usize, count: usize, x: u8) -> usize
@@ -94,7 +94,7 @@ pub fn fault(b: &[u8], c: Checked, which: usize, here: &[u8], next: &[u8]) -> us
 pub fn step_fault(b: &[u8], c: Checked, which: usize, p: &[u8], t: usize) -> usize
     requires { ⌜ Accepted (now b) c ⌝ }
     requires { ⌜ (length (now p) ≡ planBytes (c .sizes)) × (t < c .sizes .m) ⌝ }
-    ensures { λ r. ⌜ FirstFault (c .sizes .k) (condition (instanceOf (now (b .entry)) c) which (place (c .sizes) (now (p .entry)) t) (place (c .sizes) (now (p .entry)) (suc t))) r ⌝ }
+    ensures { λ r. ⌜ FirstFault (c .sizes .k) (condition (instanceOf (now (b .entry)) c) which (planRow (c .sizes) (now (p .entry)) t) (planRow (c .sizes) (now (p .entry)) (suc t))) r ⌝ }
 {
     let s = c.sizes;
     let k = s.k;

@@ -4,7 +4,7 @@ use instance::Sizes;
 ghost use mathlib.Core.Path.{_≡_};
 ghost use Prim.Native.Nat.{_*_, _-_, _/_, _≤_, _<_};
 ghost use Rattle.formula.specs.Variables.{variableCount};
-ghost use Rattle.formula.specs.Blocks.{steps, cells};
+ghost use Rattle.formula.specs.Blocks.{times, blocksAt};
 ghost use Rattle.plan.specs.Plan.{planBytes};
 ghost use Rattle.formula.specs.Counts.{clausesBy, clauseCount, wordCount};
 ghost use Rattle.lists.specs.Loop.{pairs};
@@ -38,10 +38,10 @@ pub fn variable_count(s: Sizes) -> usize
 }
 
 // How many times t a family has, A 0 to G 6.
-pub fn steps_of(s: Sizes, which: usize) -> usize
+pub fn times_of(s: Sizes, which: usize) -> usize
     requires { ⌜ Limits s ⌝ }
     requires { ⌜ which < 7 ⌝ }
-    ensures { λ r. ⌜ (r ≡ steps s which) × (r ≤ 33) ⌝ }
+    ensures { λ r. ⌜ (r ≡ times s which) × (r ≤ 33) ⌝ }
 {
     if which < 2 {
         return 1;
@@ -53,10 +53,10 @@ pub fn steps_of(s: Sizes, which: usize) -> usize
 }
 
 // How many blocks it has for each: of an agent, or in E of a vertex.
-pub fn cells_of(s: Sizes, which: usize) -> usize
+pub fn blocks_at(s: Sizes, which: usize) -> usize
     requires { ⌜ Limits s ⌝ }
     requires { ⌜ which < 7 ⌝ }
-    ensures { λ r. ⌜ (r ≡ cells s which) × (r ≤ 64) ⌝ }
+    ensures { λ r. ⌜ (r ≡ blocksAt s which) × (r ≤ 64) ⌝ }
 {
     if which == 4 {
         return s.n;

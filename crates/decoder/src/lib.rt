@@ -11,12 +11,12 @@ ghost use Rattle.valuation.specs.Valuation.{namedPlan};
 ghost use Rattle.instance.specs.Accepted.{Accepted, instanceOf};
 ghost use Rattle.calls.specs.Calls.{decodeRest, decodeAnswer, decodeSlice};
 
-// Questions 14, 15, 23 and 24, for a plan slice of the given size. Where they are passed, the plan stands first in `places`.
-fn ask_entries(places: &mut [u8], b: &[u8], c: Checked, entries: &[i32], size: usize) -> Answer
+// Questions 14, 15, 23 and 24, for a plan slice of the given size. Where they are passed, the plan stands first in `vertices`.
+fn ask_entries(vertices: &mut [u8], b: &[u8], c: Checked, entries: &[i32], size: usize) -> Answer
     requires { ⌜ Accepted (now b) c ⌝ }
-    requires { ⌜ length (now places) ≡ 528 ⌝ }
+    requires { ⌜ length (now vertices) ≡ 528 ⌝ }
     ensures { λ r. ⌜ r ≡ decide (decodeRest (instanceOf (now (b .entry)) c) (now (entries .entry)) size) (planBytes (instanceOf (now (b .entry)) c .sizes)) ⌝ }
-    ensures { λ r. ⌜ (length (now (places .exit)) ≡ 528) × (r .number ≡ 0 → (r .second ≡ planBytes (c .sizes)) × (take (planBytes (c .sizes)) (now (places .exit)) ≡ namedPlan (c .sizes) (now (entries .entry)))) ⌝ }
+    ensures { λ r. ⌜ (length (now (vertices .exit)) ≡ 528) × (r .number ≡ 0 → (r .second ≡ planBytes (c .sizes)) × (take (planBytes (c .sizes)) (now (vertices .exit)) ≡ namedPlan (c .sizes) (now (entries .entry)))) ⌝ }
 {
     let s = c.sizes;
     let count = counts::variable_count(s);
@@ -34,14 +34,14 @@ fn ask_entries(places: &mut [u8], b: &[u8], c: Checked, entries: &[i32], size: u
             second: bytes,
         };
     }
-    let wrong = satisfaction::read_entries(places, entries, s);
+    let wrong = satisfaction::read_entries(vertices, entries, s);
     if wrong < count {
         return Answer {
             number: 23,
             second: wrong,
         };
     }
-    let f = satisfaction::clause_fault(b, c, entries, &places[0..bytes]);
+    let f = satisfaction::clause_fault(b, c, entries, &vertices[0..bytes]);
     if f < counts::clause_count(s) {
         return Answer {
             number: 24,
@@ -75,12 +75,12 @@ pub fn decode(b: &[u8], m: usize, entries: &[i32], plan: &mut [u8]) -> Answer
         return refusal;
     }
     let c = inspection.checked;
-    let mut places = [0u8; 528];
-    let answer = ask_entries(&mut places, b, c, entries, plan.len());
+    let mut vertices = [0u8; 528];
+    let answer = ask_entries(&mut vertices, b, c, entries, plan.len());
     if answer.number != 0 {
         return answer;
     }
     let bytes = answer.second;
-    write_plan(plan, &places[0..bytes]);
+    write_plan(plan, &vertices[0..bytes]);
     answer
 }

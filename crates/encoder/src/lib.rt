@@ -29,13 +29,13 @@ fn write_agent(z: &mut [i32], s: Sizes, t: Step, a: Agent, at: Vertex)
     ensures { λ _. ⌜ now (z .exit) ≡ filled (for (s .n) λ v. cond (eqb (at .0) v) (X s (t .0) (a .0) v) (¬X s (t .0) (a .0) v) ∷ []) (now (z .entry)) ⌝ }
 {
     let n = s.n;
-    let place = at.0;
+    let vertex = at.0;
     let first = variables::variable_of(s, t, a, Vertex(0));
     for v in 0..n {
         z[v] = variables::negation_after(first, v);
     }
-    if place < n {
-        z[place] = variables::literal_of(variables::variable_of(s, t, a, at));
+    if vertex < n {
+        z[vertex] = variables::literal_of(variables::variable_of(s, t, a, at));
     }
 }
 
@@ -50,8 +50,8 @@ fn write_row(z: &mut [i32], s: Sizes, p: &[u8], t: Step)
     let row = t.0 * k;
     for a in 0..k {
         let at = a * n;
-        let place = Vertex(numbers::wide(p[row + a]));
-        write_agent(&mut z[at..], s, t, Agent(a), place);
+        let vertex = Vertex(numbers::wide(p[row + a]));
+        write_agent(&mut z[at..], s, t, Agent(a), vertex);
     }
 }
 

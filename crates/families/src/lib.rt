@@ -13,7 +13,7 @@ ghost use Rattle.lists.specs.Loop.{for, each};
 ghost use Rattle.lists.specs.Slice.{Wrote};
 ghost use Rattle.formula.specs.Variables.{X, highest};
 ghost use Rattle.formula.specs.Formula.{line, noTwo, blockD, blockE, blockF, blockG};
-ghost use Rattle.formula.specs.Blocks.{steps, cells, block, family};
+ghost use Rattle.formula.specs.Blocks.{times, blocksAt, block, family};
 ghost use Rattle.instance.specs.Limits.{Limits};
 ghost use Rattle.clauses.specs.Lines.{marked};
 ghost use Rattle.families.specs.Held.{heldIn, Ready};
@@ -179,7 +179,7 @@ pub fn write_block(
     x: usize,
 ) -> usize
     requires { ⌜ Ready (heldIn s (now starts) (now goals) (now table)) × (4096 ≤ length (now table)) ⌝ }
-    requires { ⌜ (which < 7) × (t < steps s which) × (x < cells s which) ⌝ }
+    requires { ⌜ (which < 7) × (t < times s which) × (x < blocksAt s which) ⌝ }
     requires { ⌜ length (each line (block (heldIn s (now starts) (now goals) (now table)) which t x)) ≤ length (now f) ⌝ }
     ensures { λ r. ⌜ Wrote (each line (block (heldIn s (now (starts .entry)) (now (goals .entry)) (now (table .entry))) which t x)) (now (f .entry)) (now (f .exit)) r ⌝ }
 {
@@ -205,11 +205,11 @@ fn write_step(
     t: usize,
 ) -> usize
     requires { ⌜ Ready (heldIn s (now starts) (now goals) (now table)) × (4096 ≤ length (now table)) ⌝ }
-    requires { ⌜ (which < 7) × (t < steps s which) ⌝ }
-    requires { ⌜ length (each line (for (cells s which) (block (heldIn s (now starts) (now goals) (now table)) which t))) ≤ length (now f) ⌝ }
-    ensures { λ r. ⌜ Wrote (each line (for (cells s which) (block (heldIn s (now (starts .entry)) (now (goals .entry)) (now (table .entry))) which t))) (now (f .entry)) (now (f .exit)) r ⌝ }
+    requires { ⌜ (which < 7) × (t < times s which) ⌝ }
+    requires { ⌜ length (each line (for (blocksAt s which) (block (heldIn s (now starts) (now goals) (now table)) which t))) ≤ length (now f) ⌝ }
+    ensures { λ r. ⌜ Wrote (each line (for (blocksAt s which) (block (heldIn s (now (starts .entry)) (now (goals .entry)) (now (table .entry))) which t))) (now (f .entry)) (now (f .exit)) r ⌝ }
 {
-    let end = counts::cells_of(s, which);
+    let end = counts::blocks_at(s, which);
     let mut at: usize = 0;
     for x in 0..end {
         at += write_block(&mut f[at..], s, starts, goals, table, which, t, x);
@@ -231,7 +231,7 @@ pub fn write_family(
     requires { ⌜ length (each line (family (heldIn s (now starts) (now goals) (now table)) which)) ≤ length (now f) ⌝ }
     ensures { λ r. ⌜ Wrote (each line (family (heldIn s (now (starts .entry)) (now (goals .entry)) (now (table .entry))) which)) (now (f .entry)) (now (f .exit)) r ⌝ }
 {
-    let end = counts::steps_of(s, which);
+    let end = counts::times_of(s, which);
     let mut at: usize = 0;
     for t in 0..end {
         at += write_step(&mut f[at..], s, starts, goals, table, which, t);

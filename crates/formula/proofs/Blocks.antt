@@ -14,10 +14,10 @@ use Rattle.instance.specs.declared.Sizes.{Sizes}
 use Rattle.instance.specs.Instance.{Instance}
 use Rattle.formula.specs.Variables.{X, ¬X}
 use Rattle.formula.specs.Formula.{Clause, A, B, C, D, E, F, G, clauses}
-use Rattle.formula.specs.Blocks.{Given, given, family, steps, cells, block}
+use Rattle.formula.specs.Blocks.{Given, given, family, times, blocksAt, block}
 
-pub family-blocks : (g : Given) (j : ℕ) → family g j ≡ for (steps (g .sizes) j) λ t. for (cells (g .sizes) j) (block g j t)
-unfolding family block steps cells A B C D E F G
+pub family-blocks : (g : Given) (j : ℕ) → family g j ≡ for (times (g .sizes) j) λ t. for (blocksAt (g .sizes) j) (block g j t)
+unfolding family block times blocksAt A B C D E F G
 family-blocks g zero = refl
 family-blocks g (suc zero) = refl
 family-blocks g (suc (suc zero)) = refl
@@ -29,47 +29,47 @@ family-blocks g (suc (suc (suc (suc (suc (suc (suc j))))))) = refl
 
 -- with one number for t and x
 pub family-flat : (g : Given) (j : ℕ)
-    → family g j ≡ for (steps (g .sizes) j * cells (g .sizes) j) λ i. block g j (i / cells (g .sizes) j) (i % cells (g .sizes) j)
-family-flat g j = family-blocks g j ∙ for-flat (steps (g .sizes) j) (cells (g .sizes) j) (block g j)
+    → family g j ≡ for (times (g .sizes) j * blocksAt (g .sizes) j) λ i. block g j (i / blocksAt (g .sizes) j) (i % blocksAt (g .sizes) j)
+family-flat g j = family-blocks g j ∙ for-flat (times (g .sizes) j) (blocksAt (g .sizes) j) (block g j)
 
 -- the counts by number
 module _ (s : Sizes) where
   open Sizes s using (n, k, m)
 
-  pub steps-ends : (j : ℕ) → j < 2 → 1 ≡ steps s j
-  unfolding steps
-  steps-ends zero l = refl
-  steps-ends (suc zero) l = refl
-  steps-ends (suc (suc j)) l = absurd (let f : ⊥ = omega arith in f)
+  pub times-ends : (j : ℕ) → j < 2 → 1 ≡ times s j
+  unfolding times
+  times-ends zero l = refl
+  times-ends (suc zero) l = refl
+  times-ends (suc (suc j)) l = absurd (let f : ⊥ = omega arith in f)
 
-  pub steps-times : (j : ℕ) → 2 ≤ j → j < 5 → suc m ≡ steps s j
-  unfolding steps
-  steps-times zero h l = absurd (let f : ⊥ = omega arith in f)
-  steps-times (suc zero) h l = absurd (let f : ⊥ = omega arith in f)
-  steps-times (suc (suc zero)) h l = refl
-  steps-times (suc (suc (suc zero))) h l = refl
-  steps-times (suc (suc (suc (suc zero)))) h l = refl
-  steps-times (suc (suc (suc (suc (suc j))))) h l = absurd (let f : ⊥ = omega arith in f)
+  pub times-rows : (j : ℕ) → 2 ≤ j → j < 5 → suc m ≡ times s j
+  unfolding times
+  times-rows zero h l = absurd (let f : ⊥ = omega arith in f)
+  times-rows (suc zero) h l = absurd (let f : ⊥ = omega arith in f)
+  times-rows (suc (suc zero)) h l = refl
+  times-rows (suc (suc (suc zero))) h l = refl
+  times-rows (suc (suc (suc (suc zero)))) h l = refl
+  times-rows (suc (suc (suc (suc (suc j))))) h l = absurd (let f : ⊥ = omega arith in f)
 
-  pub steps-moves : (j : ℕ) → 5 ≤ j → j < 7 → m ≡ steps s j
-  unfolding steps
-  steps-moves j h l =
-      by-cases (ℕ-discrete j 5) (λ e. ap (steps s) (sym e)) (λ d. let e : j ≡ 6 = omega arith in ap (steps s) (sym e))
+  pub times-steps : (j : ℕ) → 5 ≤ j → j < 7 → m ≡ times s j
+  unfolding times
+  times-steps j h l =
+      by-cases (ℕ-discrete j 5) (λ e. ap (times s) (sym e)) (λ d. let e : j ≡ 6 = omega arith in ap (times s) (sym e))
 
-  pub cells-agents : (j : ℕ) → j < 7 → j ≢ 4 → k ≡ cells s j
-  unfolding cells
-  cells-agents zero l d = refl
-  cells-agents (suc zero) l d = refl
-  cells-agents (suc (suc zero)) l d = refl
-  cells-agents (suc (suc (suc zero))) l d = refl
-  cells-agents (suc (suc (suc (suc zero)))) l d = absurd (d refl)
-  cells-agents (suc (suc (suc (suc (suc zero))))) l d = refl
-  cells-agents (suc (suc (suc (suc (suc (suc zero)))))) l d = refl
-  cells-agents (suc (suc (suc (suc (suc (suc (suc j))))))) l d = absurd (let f : ⊥ = omega arith in f)
+  pub blocks-agents : (j : ℕ) → j < 7 → j ≢ 4 → k ≡ blocksAt s j
+  unfolding blocksAt
+  blocks-agents zero l d = refl
+  blocks-agents (suc zero) l d = refl
+  blocks-agents (suc (suc zero)) l d = refl
+  blocks-agents (suc (suc (suc zero))) l d = refl
+  blocks-agents (suc (suc (suc (suc zero)))) l d = absurd (d refl)
+  blocks-agents (suc (suc (suc (suc (suc zero))))) l d = refl
+  blocks-agents (suc (suc (suc (suc (suc (suc zero)))))) l d = refl
+  blocks-agents (suc (suc (suc (suc (suc (suc (suc j))))))) l d = absurd (let f : ⊥ = omega arith in f)
 
-  pub cells-vertices : (j : ℕ) → j ≡ 4 → n ≡ cells s j
-  unfolding cells
-  cells-vertices j e = ap (cells s) (sym e)
+  pub blocks-vertices : (j : ℕ) → j ≡ 4 → n ≡ blocksAt s j
+  unfolding blocksAt
+  blocks-vertices j e = ap (blocksAt s) (sym e)
 
 pub clauses-families : (I : Instance) → clauses I ≡ for 7 (family (given I))
 unfolding clauses family

@@ -14,7 +14,7 @@ use Rattle.lists.proofs.Sums.{above-length, above-getD, others-length, others-b
 use Rattle.instance.specs.declared.Sizes.{Sizes}
 use Rattle.formula.specs.Variables.{Literal, ¬X}
 use Rattle.formula.specs.Formula.{Clause, noTwo, blockG}
-use Rattle.formula.specs.Blocks.{Given, family, steps, cells, block}
+use Rattle.formula.specs.Blocks.{Given, family, times, blocksAt, block}
 use Rattle.formula.proofs.Blocks.{family-flat}
 
 -- D and E: the pair v < w stands behind the pairs that begin below v
@@ -54,16 +54,16 @@ module _ (s : Sizes) (t a : ℕ) (q : a < s .k) where
       ∙ for1-getD n (λ v. ¬X s t (suc a + (o - a)) v ∷ ¬X s (suc t) a v ∷ []) [] v l))
 
 -- a family whose blocks have `each` clauses: place p of block i
-module _ (g : Given) (j each : ℕ) (len : (t x : ℕ) → x < cells (g .sizes) j → length (block g j t x) ≡ each) where
+module _ (g : Given) (j each : ℕ) (len : (t x : ℕ) → x < blocksAt (g .sizes) j → length (block g j t x) ≡ each) where
   abbrev blocks : ℕ
-  blocks = steps (g .sizes) j * cells (g .sizes) j
+  blocks = times (g .sizes) j * blocksAt (g .sizes) j
 
-  same : (i : ℕ) → i < blocks → length (block g j (i / cells (g .sizes) j) (i % cells (g .sizes) j)) ≡ each
-  same i l = len _ _ (cell-at (steps (g .sizes) j) (cells (g .sizes) j) i l .1 .1)
+  same : (i : ℕ) → i < blocks → length (block g j (i / blocksAt (g .sizes) j) (i % blocksAt (g .sizes) j)) ≡ each
+  same i l = len _ _ (cell-at (times (g .sizes) j) (blocksAt (g .sizes) j) i l .1 .1)
 
   pub family-length : length (family g j) ≡ blocks * each
   family-length = ap length (family-flat g j) ∙ for-length blocks each _ same
 
   pub family-getD : (i p : ℕ) → i < blocks → p < each
-      → getD (family g j) (i * each + p) [] ≡ getD (block g j (i / cells (g .sizes) j) (i % cells (g .sizes) j)) p []
+      → getD (family g j) (i * each + p) [] ≡ getD (block g j (i / blocksAt (g .sizes) j) (i % blocksAt (g .sizes) j)) p []
   family-getD i p h l = ap (λ (c : List Clause). getD c (i * each + p) []) (family-flat g j) ∙ for-getD blocks each _ [] same i p h l

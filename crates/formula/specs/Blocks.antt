@@ -32,11 +32,11 @@ heldBy b c = held c (adjacent (instanceOf b c))
 module _ (s : Sizes) where
   open Sizes s using (n, k, m)
 
-  unfoldable pub steps : ℕ → ℕ
-  steps j = getD (1 ∷ 1 ∷ suc m ∷ suc m ∷ suc m ∷ m ∷ m ∷ []) j 0
+  unfoldable pub times : ℕ → ℕ
+  times j = getD (1 ∷ 1 ∷ suc m ∷ suc m ∷ suc m ∷ m ∷ m ∷ []) j 0
 
-  unfoldable pub cells : ℕ → ℕ
-  cells j = getD (k ∷ k ∷ k ∷ k ∷ n ∷ k ∷ k ∷ []) j 0
+  unfoldable pub blocksAt : ℕ → ℕ
+  blocksAt j = getD (k ∷ k ∷ k ∷ k ∷ n ∷ k ∷ k ∷ []) j 0
 
 module _ (g : Given) where
   open Given g using (sizes, start, goal, near)

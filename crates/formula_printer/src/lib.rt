@@ -4,7 +4,7 @@ use instance::Sizes;
 ghost use Prim.Native.Nat.{_*_, _≤_, _<_};
 ghost use lib.ListN.{length};
 ghost use Rattle.instance.specs.Accepted.{Accepted};
-ghost use Rattle.formula.specs.Blocks.{steps, cells};
+ghost use Rattle.formula.specs.Blocks.{times, blocksAt};
 ghost use Rattle.families.specs.Held.{heldIn, Ready};
 ghost use Rattle.dimacs.specs.Table.{Texts};
 ghost use Rattle.formula_printer.specs.Room.{Room, Block};
@@ -32,7 +32,7 @@ fn print_block(
 )
     requires { ⌜ Block (now words) (now text) × Texts (now texts) ⌝ }
     requires { ⌜ Ready (heldIn s (now starts) (now goals) (now table)) × (4096 ≤ length (now table)) ⌝ }
-    requires { ⌜ (which < 7) × (t < steps s which) × (x < cells s which) ⌝ }
+    requires { ⌜ (which < 7) × (t < times s which) × (x < blocksAt s which) ⌝ }
 {
     let n = families::write_block(words, s, starts, goals, table, which, t, x);
     print_words(&words[0..n], text, texts);
@@ -52,9 +52,9 @@ fn print_step(
 )
     requires { ⌜ Block (now words) (now text) × Texts (now texts) ⌝ }
     requires { ⌜ Ready (heldIn s (now starts) (now goals) (now table)) × (4096 ≤ length (now table)) ⌝ }
-    requires { ⌜ (which < 7) × (t < steps s which) ⌝ }
+    requires { ⌜ (which < 7) × (t < times s which) ⌝ }
 {
-    let end = counts::cells_of(s, which);
+    let end = counts::blocks_at(s, which);
     for x in 0..end {
         print_block(words, text, texts, s, starts, goals, table, which, t, x);
     }
@@ -75,7 +75,7 @@ fn print_family(
     requires { ⌜ Ready (heldIn s (now starts) (now goals) (now table)) × (4096 ≤ length (now table)) ⌝ }
     requires { ⌜ which < 7 ⌝ }
 {
-    let end = counts::steps_of(s, which);
+    let end = counts::times_of(s, which);
     for t in 0..end {
         print_step(words, text, texts, s, starts, goals, table, which, t);
     }

@@ -13,7 +13,7 @@ use Rattle.lists.proofs.Blocks.{for1-length, for1-getD, cell-at}
 use Rattle.instance.specs.declared.Sizes.{Sizes}
 use Rattle.formula.specs.Variables.{Literal, X, ¬X}
 use Rattle.formula.specs.Formula.{Clause, line, noTwo, onward, blockF, blockG}
-use Rattle.formula.specs.Blocks.{Given, cells, block}
+use Rattle.formula.specs.Blocks.{Given, blocksAt, block}
 use Rattle.formula.proofs.Places.{two-length, two-getD, others-size, others-getD}
 use Rattle.one_clause.specs.Spot.{countEach, PairAt}
 
@@ -49,8 +49,8 @@ module _ (s : Sizes) (t a : ℕ) where
       ap (λ (x : ℕ). getD (blockG s t a) x []) (sym (div-add-mod' p n))
       ∙ others-getD s t a q (p / n) b (p % n) (i .1 .0) (i .1 .1) low high
 
-pub block-length : (g : Given) (j t x : ℕ) → x < cells (g .sizes) j → length (block g j t x) ≡ countEach (g .sizes) j
-unfolding block cells
+pub block-length : (g : Given) (j t x : ℕ) → x < blocksAt (g .sizes) j → length (block g j t x) ≡ countEach (g .sizes) j
+unfolding block blocksAt
 block-length g zero t x l = refl
 block-length g (suc zero) t x l = refl
 block-length g (suc (suc zero)) t x l = refl

@@ -15,14 +15,14 @@ use Rattle.instance.specs.Instance.{Instance}
 use Rattle.instance.specs.Accepted.{Accepted, instanceOf}
 use Rattle.instance.proofs.Accepted.{sizes-same, start-at, goal-at}
 use Rattle.formula.specs.Formula.{Clause, clauses}
-use Rattle.formula.specs.Blocks.{Given, given, steps, cells, block, family, heldBy}
+use Rattle.formula.specs.Blocks.{Given, given, times, blocksAt, block, family, heldBy}
 use Rattle.formula.proofs.Blocks.{clauses-families, Same, family-same}
 use Rattle.formula.proofs.Places.{family-length, family-getD}
 use Rattle.one_clause.specs.Spot.{count, countEach, Stands}
 use Rattle.one_clause.proofs.Clauses.{block-length}
 
-count-blocks : (s : Sizes) (j : ℕ) → count s j ≡ steps s j * cells s j * countEach s j
-unfolding steps cells
+count-blocks : (s : Sizes) (j : ℕ) → count s j ≡ times s j * blocksAt s j * countEach s j
+unfolding times blocksAt
 count-blocks s zero = omega arith
 count-blocks s (suc zero) = omega arith
 count-blocks s (suc (suc zero)) = sym (mul-one _)
@@ -36,8 +36,8 @@ count-blocks s (suc (suc (suc (suc (suc (suc (suc j))))))) = refl
 pub record Found (b : List ℕ) (c : Checked) (number j each width place : ℕ) : Type 0 where
   pub some : 0 < each
   pub wide : 0 < width
-  pub step : place / each / width < steps (c .sizes) j
-  pub cell : place / each % width < cells (c .sizes) j
+  pub step : place / each / width < times (c .sizes) j
+  pub cell : place / each % width < blocksAt (c .sizes) j
   pub inside : place % each < countEach (c .sizes) j
   pub same : getD (clauses (instanceOf b c)) number [] ≡ getD (block (heldBy b c) j (place / each / width) (place / each % width)) (place % each) []
 
@@ -64,12 +64,12 @@ module _ (b : List ℕ) (c : Checked) (w : Accepted b c) where
         ∙ ap (λ (x : ℕ). getD (for 7 (family g)) x []) (q .at ∙ ap (λ (x : ℕ). x + place) (sum-ext j _ _ (λ u l. sym (family-count u))))
         ∙ for-at 7 (family g) [] j place (q .seven) (rw (family-count j) (q .inside))
 
-    pub found : {width : ℕ} → width ≡ cells (c .sizes) j → Found b c number j each width place
+    pub found : {width : ℕ} → width ≡ blocksAt (c .sizes) j → Found b c number j each width place
     found {width} e =
         let s = c .sizes in
         let d = countEach s j in
-        let (some, (i, p)) = cell-at (steps s j * cells s j) d place (rw (count-blocks s j) at (q .inside)) in
-        let (wide, (t, x)) = cell-at (steps s j) (cells s j) (place / d) i in
+        let (some, (i, p)) = cell-at (times s j * blocksAt s j) d place (rw (count-blocks s j) at (q .inside)) in
+        let (wide, (t, x)) = cell-at (times s j) (blocksAt s j) (place / d) i in
         rw (q .blocks, e)
         (record {
           some = some;

@@ -15,7 +15,7 @@ ghost use Rattle.instance.specs.Limits.{Limits};
 ghost use Rattle.instance.specs.Accepted.{Accepted, instanceOf};
 ghost use Rattle.formula.specs.Variables.{X};
 ghost use Rattle.formula.specs.Formula.{line, blockD, blockE, blockF, blockG, clauses};
-ghost use Rattle.formula.specs.Blocks.{steps, cells, block, heldBy};
+ghost use Rattle.formula.specs.Blocks.{times, blocksAt, block, heldBy};
 ghost use Rattle.formula.specs.Counts.{clausesBy, total, clauseCount};
 ghost use Rattle.calls.specs.Calls.{clauseAnswer, clauseSlice};
 ghost use Rattle.one_clause.specs.Spot.{count, countEach, Stands, PairAt, lineAt};
@@ -186,7 +186,7 @@ fn put_clause(
     place: usize,
 ) -> usize
     requires { ⌜ Accepted (now b) c ⌝ }
-    requires { ⌜ (which < 7) × (t < steps (c .sizes) which) × (x < cells (c .sizes) which) × (place < countEach (c .sizes) which) ⌝ }
+    requires { ⌜ (which < 7) × (t < times (c .sizes) which) × (x < blocksAt (c .sizes) which) × (place < countEach (c .sizes) which) ⌝ }
     requires { ⌜ length (lineAt (block (heldBy (now b) c) which t x) place) ≤ length (now f) ⌝ }
     ensures { λ r. ⌜ Wrote (lineAt (block (heldBy (now (b .entry)) c) which t x) place) (now (f .entry)) (now (f .exit)) r ⌝ }
 {
@@ -219,8 +219,16 @@ fn put_number(f: &mut [i32], b: &[u8], c: Checked, number: usize) -> usize
     let which = spot.0;
     let each = spot.1;
     let block = spot.2 / each;
-    let cells = counts::cells_of(s, which);
-    put_clause(f, b, c, which, block / cells, block % cells, spot.2 % each)
+    let blocks = counts::blocks_at(s, which);
+    put_clause(
+        f,
+        b,
+        c,
+        which,
+        block / blocks,
+        block % blocks,
+        spot.2 % each,
+    )
 }
 
 // The first words of one slice, copied to the start of another.

@@ -14,7 +14,7 @@ use Rattle.answers.specs.Fault.{FirstFault}
 use Rattle.answers.proofs.Faults.{fault-ext}
 use Rattle.instance.specs.declared.Sizes.{Sizes}
 use Rattle.instance.specs.Instance.{Instance}
-use Rattle.plan.specs.Plan.{Row, row, planBytes, place, condition, condition1, condition2, condition3}
+use Rattle.plan.specs.Plan.{Row, row, planBytes, planRow, condition, condition1, condition2, condition3}
 
 -- ---- rows t and t + 1 stand within the plan
 pub record Rows (s : Sizes) (p : List ℕ) (t : ℕ) : Type 0 where
@@ -55,7 +55,7 @@ condition-same I (suc (suc which)) here next here′ next′ e f a l =
 -- what a loop over the agents finds in the two parts, it finds in rows t and t + 1 of the plan
 pub step-fault : (I : Instance) (s : Sizes) → s .k ≡ I .sizes .k → (which : ℕ) (p : List ℕ) (t r : ℕ)
     → FirstFault (s .k) (condition I which (row (take (t * s .k + s .k - t * s .k) (drop (t * s .k) p))) (row (take (t * s .k + s .k + s .k - (t * s .k + s .k)) (drop (t * s .k + s .k) p)))) r
-    → FirstFault (s .k) (condition I which (place s p t) (place s p (suc t))) r
+    → FirstFault (s .k) (condition I which (planRow s p t) (planRow s p (suc t))) r
 step-fault I s e which p t r f =
     fault-ext
     (λ a l.

@@ -6,7 +6,7 @@ use Prim.Native.Nat.{ℕ, suc, _<_}
 use lib.ListN.{length, getD}
 use Rattle.instance.specs.declared.Sizes.{Sizes}
 use Rattle.instance.specs.Instance.{Instance, Edge}
-use Rattle.plan.specs.Plan.{Row, planBytes, place}
+use Rattle.plan.specs.Plan.{Row, planBytes, planRow}
 
 module _ (I : Instance) where
   open Instance I using (sizes, start, goal)
@@ -31,4 +31,4 @@ module _ (I : Instance) where
   pub record Passes (p : List ℕ) : Type 0 where
     pub size : length p ≡ planBytes sizes
     pub inside : (i : ℕ) → i < planBytes sizes → getD p i 0 < n
-    pub leads : Leads (place sizes p)
+    pub leads : Leads (planRow sizes p)

@@ -20,13 +20,13 @@ row bytes a = getD bytes a 0
 abbrev pub planBytes : Sizes → ℕ
 planBytes s = suc (s .m) * s .k
 
--- the index of agent a's byte at time t
-abbrev pub cell : Sizes → ℕ → ℕ → ℕ
-cell s t a = t * s .k + a
+-- where the byte of agent a at time t stands in a plan
+abbrev pub planIndex : Sizes → ℕ → ℕ → ℕ
+planIndex s t a = t * s .k + a
 
--- the vertex of agent a at time t; place s p t is row t
-abbrev pub place : Sizes → List ℕ → ℕ → Row
-place s p t a = getD p (cell s t a) 0
+-- row t of a plan: the vertex of each agent at time t
+abbrev pub planRow : Sizes → List ℕ → ℕ → Row
+planRow s p t a = getD p (planIndex s t a) 0
 
 -- A step is about a row and the next row. It obeys a condition where each agent a passes its test.
 -- the agent keeps its vertex
@@ -57,4 +57,4 @@ makespan k p = length p / k - 1
 
 -- the cost: the number of moves, that is of pairs t, a whose vertex changes
 unfoldable pub cost : Sizes → List ℕ → ℕ
-cost s p = length (for (s .m) λ t. for (s .k) λ a. unless (keeps (place s p t) (place s p (suc t)) a) a)
+cost s p = length (for (s .m) λ t. for (s .k) λ a. unless (keeps (planRow s p t) (planRow s p (suc t)) a) a)

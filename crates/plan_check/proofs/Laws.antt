@@ -20,7 +20,7 @@ use Rattle.answers.proofs.Faults.{fault-ext}
 use Rattle.instance.specs.declared.Sizes.{Sizes}
 use Rattle.instance.specs.declared.Checked.{Checked}
 use Rattle.instance.specs.Instance.{Instance}
-use Rattle.plan.specs.Plan.{planBytes, cell, place, condition, cost}
+use Rattle.plan.specs.Plan.{planBytes, planIndex, planRow, condition, cost}
 use Rattle.calls.specs.Questions.{question13, question18, question20, question21, question22}
 use Rattle.calls.specs.Calls.{stepQuestions, planQuestions, checkRest}
 use Rattle.instance.specs.Accepted.{Accepted, instanceOf}
@@ -48,13 +48,13 @@ count-more f t moves more e h = rw (add-one t, length-append, e, h)
 -- ---- a question of all agents, where k is their number as the code has it; `at` is where the row begins in which the place is named
 module _ (I : Instance) (k : ℕ) (ek : k ≡ I .sizes .k) (test : ℕ → Bool) (r : ℕ) (f : FirstFault (I .sizes .k) test r) (number row : ℕ) (qs : List Question) where
   pub stop-agents : (at : ℕ) → at ≡ row * k → r < k
-      → refuse number (at + r) ≡ decide (askEach (I .sizes .k) test (λ a. refuse number (cell (I .sizes) row a)) ∷ qs) 0
+      → refuse number (at + r) ≡ decide (askEach (I .sizes .k) test (λ a. refuse number (planIndex (I .sizes) row a)) ∷ qs) 0
   stop-agents at ea l =
       ap (λ (x : ℕ). refuse number (x + r)) (ea ∙ ap (λ (x : ℕ). row * x) ek)
-      ∙ sym (fault-stop f (λ a. refuse number (cell (I .sizes) row a)) qs 0 (rw (← ek) l))
+      ∙ sym (fault-stop f (λ a. refuse number (planIndex (I .sizes) row a)) qs 0 (rw (← ek) l))
 
-  pub pass-agents : k ≤ r → decide qs 0 ≡ decide (askEach (I .sizes .k) test (λ a. refuse number (cell (I .sizes) row a)) ∷ qs) 0
-  pass-agents l = sym (fault-pass f (λ a. refuse number (cell (I .sizes) row a)) qs 0 (rw (← ek) l))
+  pub pass-agents : k ≤ r → decide qs 0 ≡ decide (askEach (I .sizes .k) test (λ a. refuse number (planIndex (I .sizes) row a)) ∷ qs) 0
+  pass-agents l = sym (fault-pass f (λ a. refuse number (planIndex (I .sizes) row a)) qs 0 (rw (← ek) l))
 
 -- ---- 19 to 21 of step t: x, y and z are the first agents that fail the three conditions
 pub numbered-step : (I : Instance) (p : List ℕ) (t : ℕ) → T (all numbered (stepQuestions I p t))
@@ -63,10 +63,10 @@ numbered-step I p t = simp (and-iff, each-all) ((λ a l f. tt), ((λ a l f. tt),
 module _ (I : Instance) (s : Sizes) (es : s ≡ I .sizes) (p : List ℕ) (t : ℕ) where
   -- the first agent that fails a condition between rows t and t + 1
   abbrev Fails : ℕ → ℕ → Type 0
-  Fails which r = FirstFault (s .k) (condition I which (place s p t) (place s p (suc t))) r
+  Fails which r = FirstFault (s .k) (condition I which (planRow s p t) (planRow s p (suc t))) r
 
-  fails : (which r : ℕ) → Fails which r → FirstFault (I .sizes .k) (condition I which (place (I .sizes) p t) (place (I .sizes) p (suc t))) r
-  fails which r f = subst (λ (z : Sizes). FirstFault (z .k) (condition I which (place z p t) (place z p (suc t))) r) es f
+  fails : (which r : ℕ) → Fails which r → FirstFault (I .sizes .k) (condition I which (planRow (I .sizes) p t) (planRow (I .sizes) p (suc t))) r
+  fails which r f = subst (λ (z : Sizes). FirstFault (z .k) (condition I which (planRow z p t) (planRow z p (suc t))) r) es f
 
   module _ (x y z : ℕ) (f : Fails 0 x) (g : Fails 1 y) (h : Fails 2 z) where
     ek : s .k ≡ I .sizes .k
@@ -137,16 +137,16 @@ module _ (b : List ℕ) (c : Checked) (w : Accepted b c) (p : List ℕ) (ep : le
   row-is : (row at : ℕ) → at ≡ row * c .sizes .k → (wanted : List ℕ) (vertex : ℕ → ℕ)
       → ((a : ℕ) → a < c .sizes .k → getD wanted a 0 ≡ vertex a) → (r : ℕ)
       → FirstFault (c .sizes .k) (λ a. eqb (getD p (at + a) 0) (getD wanted a 0)) r
-      → FirstFault (instanceOf b c .sizes .k) (λ a. eqb (place (instanceOf b c .sizes) p row a) (vertex a)) r
+      → FirstFault (instanceOf b c .sizes .k) (λ a. eqb (planRow (instanceOf b c .sizes) p row a) (vertex a)) r
   row-is row at ea wanted vertex h r f =
-      subst (λ (s : Sizes). FirstFault (s .k) (λ a. eqb (place s p row a) (vertex a)) r) (sym same-sizes)
+      subst (λ (s : Sizes). FirstFault (s .k) (λ a. eqb (planRow s p row a) (vertex a)) r) (sym same-sizes)
       (fault-ext (λ a l. ap₂ eqb (ap (λ (x : ℕ). getD p (x + a) 0) ea) (h a l)) f)
 
   agents-same : c .sizes .k ≡ instanceOf b c .sizes .k
   agents-same = ap (λ (s : Sizes). s .k) (sym same-sizes)
 
   module _ (r : ℕ) (f : FirstFault (c .sizes .k) (λ a. eqb (getD p (0 + a) 0) (getD (c .starts) a 0)) r) (qs : List Question) where
-    start-fault : FirstFault (instanceOf b c .sizes .k) (λ a. eqb (place (instanceOf b c .sizes) p 0 a) (instanceOf b c .start a)) r
+    start-fault : FirstFault (instanceOf b c .sizes .k) (λ a. eqb (planRow (instanceOf b c .sizes) p 0 a) (instanceOf b c .start a)) r
     start-fault = row-is 0 0 (sym (zero-mul (c .sizes .k))) (c .starts) (instanceOf b c .start) (start-at b c w) r f
 
     pub stop-18 : r < c .sizes .k → refuse 18 r ≡ decide (question18 (instanceOf b c) p ∷ qs) 0
@@ -176,7 +176,7 @@ module _ (b : List ℕ) (c : Checked) (w : Accepted b c) (p : List ℕ) (ep : le
     horizon : c .sizes .m * c .sizes .k ≡ instanceOf b c .sizes .m * c .sizes .k
     horizon = ap (λ (z : Sizes). z .m * c .sizes .k) (sym same-sizes)
 
-    goal-fault : FirstFault (instanceOf b c .sizes .k) (λ a. eqb (place (instanceOf b c .sizes) p (instanceOf b c .sizes .m) a) (instanceOf b c .goal a)) r
+    goal-fault : FirstFault (instanceOf b c .sizes .k) (λ a. eqb (planRow (instanceOf b c .sizes) p (instanceOf b c .sizes .m) a) (instanceOf b c .goal a)) r
     goal-fault = row-is (instanceOf b c .sizes .m) (c .sizes .m * c .sizes .k) horizon (c .goals) (instanceOf b c .goal) (goal-at b c w) r f
 
     pub stop-22 : r < c .sizes .k → refuse 22 (c .sizes .m * c .sizes .k + r) ≡ decide goalQuestions 0

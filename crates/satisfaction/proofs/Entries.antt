@@ -140,13 +140,13 @@ module _ (es : List ℤ) where
       )
 
 -- ---- the rows before row i are read
-pub record Sofar (n : ℕ) (es : List ℤ) (places : List ℕ) (i : ℕ) : Type 0 where
-  pub size : length places ≡ 528
+pub record Sofar (n : ℕ) (es : List ℤ) (vertices : List ℕ) (i : ℕ) : Type 0 where
+  pub size : length vertices ≡ 528
   pub right : (j : ℕ) → j < i * n → T (rightEntry es j)
-  pub seen : (j : ℕ) → j < i → Seen n (λ v. says es (j * n + v)) (getD places j 0)
+  pub seen : (j : ℕ) → j < i → Seen n (λ v. says es (j * n + v)) (getD vertices j 0)
 
-module _ (n : ℕ) (es : List ℤ) (places : List ℕ) where
-  pub sofar-none : length places ≡ 528 → Sofar n es places 0
+module _ (n : ℕ) (es : List ℤ) (vertices : List ℕ) where
+  pub sofar-none : length vertices ≡ 528 → Sofar n es vertices 0
   sofar-none e =
       record {
         size = e;
@@ -154,16 +154,16 @@ module _ (n : ℕ) (es : List ℤ) (places : List ℕ) where
         seen = λ j l. absurd (let f : ⊥ = omega arith in f);
       }
 
-  module _ (i : ℕ) (o : Sofar n es places i) (r x : ℕ) (c : Came es (i * n) n r x) where
-    pub sofar-more : i < 528 → i * n + n ≤ r → Sofar n es (set places i x) (i + 1)
+  module _ (i : ℕ) (o : Sofar n es vertices i) (r x : ℕ) (c : Came es (i * n) n r x) where
+    pub sofar-more : i < 528 → i * n + n ≤ r → Sofar n es (set vertices i x) (i + 1)
     sofar-more l h =
         record {
           size = simp length-set (o .size);
           right = λ j b. by-cases (decLt j (i * n)) (λ p. o .right j p) (λ p. c .0 .before j (omega arith) (omega (arith, step)));
           seen = λ j b.
               by-cases (ℕ-discrete j i)
-              (λ p. rw (p, getD-set-same places i x 0 (omega (arith, o .size))) (c .1 h))
-              (λ p. rw (getD-set-other places i j x 0 p) (o .seen j (omega arith)));
+              (λ p. rw (p, getD-set-same vertices i x 0 (omega (arith, o .size))) (c .1 h))
+              (λ p. rw (getD-set-other vertices i j x 0 p) (o .seen j (omega arith)));
         }
       where
         step : (i + 1) * n ≡ i * n + n
@@ -214,7 +214,7 @@ seen-cong n f g x e c =
     }
 
 -- ---- all rows are read
-module _ (s : Sizes) (es : List ℤ) (e : length es ≡ variableCount s) (places : List ℕ) (o : Sofar (s .n) es places (suc (s .m) * s .k)) where
+module _ (s : Sizes) (es : List ℤ) (e : length es ≡ variableCount s) (vertices : List ℕ) (o : Sofar (s .n) es vertices (suc (s .m) * s .k)) where
   open Sizes s using (n, k, m)
 
   pub done-right : FirstFault (variableCount s) (rightEntry es) (suc m * k * n)
@@ -231,14 +231,14 @@ module _ (s : Sizes) (es : List ℤ) (e : length es ≡ variableCount s) (places
             (or-iff (says es i) (denies es i) .0 (o .right i (omega (arith, count-eq s))));
       }
 
-  pub done-read : suc m * k ≤ 528 → Read s es (take (planBytes s) places)
+  pub done-read : suc m * k ≤ 528 → Read s es (take (planBytes s) vertices)
   unfolding index
   done-read h =
       record {
-        size = length-take-le (planBytes s) places (omega (arith, o .size));
+        size = length-take-le (planBytes s) vertices (omega (arith, o .size));
         valid = valid;
-        cells = λ t a x y.
+        seen = λ t a x y.
             let l = place-lt (suc m) k t a x y in
-            rw (getD-take (planBytes s) places (t * k + a) 0 l)
+            rw (getD-take (planBytes s) vertices (t * k + a) 0 l)
             (seen-cong n _ _ _ (λ v z. read-true s es valid t a v x y z) (o .seen (t * k + a) l));
       }

@@ -17,9 +17,9 @@ use Rattle.instance.specs.declared.Sizes.{Sizes}
 use Rattle.instance.specs.declared.Checked.{Checked}
 use Rattle.instance.specs.Instance.{Instance}
 use Rattle.formula.specs.Formula.{Clause, clauses}
-use Rattle.formula.specs.Blocks.{Given, given, steps, cells, block, family, heldBy}
+use Rattle.formula.specs.Blocks.{Given, given, times, blocksAt, block, family, heldBy}
 use Rattle.formula.proofs.Blocks.{Same, family-blocks, family-same, clauses-families}
-use Rattle.plan.specs.Plan.{place}
+use Rattle.plan.specs.Plan.{planRow}
 use Rattle.valuation.specs.Valuation.{true?, satisfied?, named}
 use Rattle.valuation.specs.Places.{Places}
 use Rattle.valuation.proofs.Families.{places-cong, read-E}
@@ -36,35 +36,35 @@ module _ (g : Given) (t : ℕ) where
   open Sizes sizes using (n, k)
 
   pub size-A : length (row g 0 t) ≡ k
-  unfolding row block cells
+  unfolding row block blocksAt
   size-A = for1-length k _
 
   pub size-B : length (row g 1 t) ≡ k
-  unfolding row block cells
+  unfolding row block blocksAt
   size-B = for1-length k _
 
   pub size-C : length (row g 2 t) ≡ k
-  unfolding row block cells
+  unfolding row block blocksAt
   size-C = for1-length k _
 
   pub size-D : length (row g 3 t) ≡ k * (n * (n - 1) / 2)
-  unfolding row block cells
+  unfolding row block blocksAt
   size-D = for-length k _ _ (λ a l. length-D sizes t a)
 
   pub size-E : length (row g 4 t) ≡ n * (k * (k - 1) / 2)
-  unfolding row block cells
+  unfolding row block blocksAt
   size-E = for-length n _ _ (λ v l. length-E sizes t v)
 
   pub size-F : length (row g 5 t) ≡ k * n
-  unfolding row block cells
+  unfolding row block blocksAt
   size-F = for-length k _ _ (λ a l. length-F sizes (g .near) t a)
 
   pub size-G : length (row g 6 t) ≡ k * ((k - 1) * n)
-  unfolding row block cells
+  unfolding row block blocksAt
   size-G = for-length k _ _ (λ a l. length-G sizes t a l)
 
 module _ (g : Given) where
-  family-rows : (j : ℕ) → family g j ≡ for (steps (g .sizes) j) (row g j)
+  family-rows : (j : ℕ) → family g j ≡ for (times (g .sizes) j) (row g j)
   unfolding row
   family-rows j = family-blocks g j
 
@@ -72,10 +72,10 @@ module _ (g : Given) where
   module _ (es : List ℤ) (which at t : ℕ) (h : T (all (satisfied? es) (for which (family g))))
       (q : at ≡ length (for which (family g)) + length (for t (row g which))) (h′ : T (all (satisfied? es) (for t (row g which)))) where
     -- the first clause without a true literal is in row t
-    pub in-families : (r : ℕ) → which < 7 → t < steps (g .sizes) which → Fault es (row g which t) r → r < length (row g which t)
+    pub in-families : (r : ℕ) → which < 7 → t < times (g .sizes) which → Fault es (row g which t) r → r < length (row g which t)
         → Fault es (for 7 (family g)) (at + r)
     in-families r l x f o =
-        let f′ = for-stop es (row g which) (steps (g .sizes) which) t r x h′ f o in
+        let f′ = for-stop es (row g which) (times (g .sizes) which) t r x h′ f o in
         let o′ = for-room (row g which) x in
         let a : length (for which (family g)) + (length (for t (row g which)) + r) ≡ at + r = omega arith in
         subst (Fault es (for 7 (family g))) a
@@ -84,7 +84,7 @@ module _ (g : Given) where
         (omega (arith, ap length (family-rows which))))
 
     -- there was none
-    pub next-family : t ≡ steps (g .sizes) which → (at ≡ length (for (which + 1) (family g))) × T (all (satisfied? es) (for (which + 1) (family g)))
+    pub next-family : t ≡ times (g .sizes) which → (at ≡ length (for (which + 1) (family g))) × T (all (satisfied? es) (for (which + 1) (family g)))
     next-family x =
         let e : for t (row g which) ≡ family g which = ap (λ (y : ℕ). for y (row g which)) x ∙ sym (family-rows which) in
         rw add-one (
@@ -105,15 +105,15 @@ whole b c w es r f =
 -- ---- of entries that have been read
 -- where one vertex is left to each agent at each time, the pass has found it
 module _ (s : Sizes) (es : List ℤ) (p : List ℕ) (rd : Read s es p) where
-  pub place-named : Places s (true? es) (named s es) → (t a : ℕ) → t < suc (s .m) → a < s .k → named s es t a ≡ place s p t a
+  pub place-named : Places s (true? es) (named s es) → (t a : ℕ) → t < suc (s .m) → a < s .k → named s es t a ≡ planRow s p t a
   place-named o t a x y =
       let i = o .inside t a x y in
       let q = o .here t a (named s es t a) x y i .1 refl in
-      let v = rd .cells t a x y in
-      by-cases (decLt (place s p t a) (s .n))
+      let v = rd .seen t a x y in
+      by-cases (decLt (planRow s p t a) (s .n))
       (λ l. v .one l (named s es t a) i .0 q)
       (λ g.
-      by-cases (ℕ-discrete (place s p t a) (s .n))
+      by-cases (ℕ-discrete (planRow s p t a) (s .n))
       (λ e. absurd (v .none e (named s es t a) i q))
       (λ d.
       let m = v .most in
@@ -131,13 +131,13 @@ module _ (g : Given) (es : List ℤ) (p : List ℕ) (rd : Read (g .sizes) es p) 
   sized = record { sizes = s; low = λ i. 0; high = λ i. 0; start = λ i. 0; goal = λ i. 0 }
 
   -- C and D leave one
-  pub places : (which : ℕ) → 4 ≤ which → Before g es which → Places s (true? es) (place s p)
+  pub places : (which : ℕ) → 4 ≤ which → Before g es which → Places s (true? es) (planRow s p)
   unfolding Before family sized
   places which l h =
       let o = named-places sized es (rd .valid) (h 2 (omega arith)) (h 3 (omega arith)) in
-      places-cong s (true? es) (named s es) (place s p) o (place-named s es p rd o)
+      places-cong s (true? es) (named s es) (planRow s p) o (place-named s es p rd o)
 
   -- E leaves no vertex to two agents
-  pub apart : (which : ℕ) → 5 ≤ which → Before g es which → (t : ℕ) → t < suc (s .m) → (i j : ℕ) → i < j → j < s .k → place s p t i ≢ place s p t j
+  pub apart : (which : ℕ) → 5 ≤ which → Before g es which → (t : ℕ) → t < suc (s .m) → (i j : ℕ) → i < j → j < s .k → planRow s p t i ≢ planRow s p t j
   unfolding Before family sized
-  apart which l h = read-E sized (true? es) (place s p) (places which (omega arith) h) .0 (h 4 (omega arith))
+  apart which l h = read-E sized (true? es) (planRow s p) (places which (omega arith) h) .0 (h 4 (omega arith))

@@ -12,7 +12,7 @@ use lib.Dec.{T, eqb}
 use Rattle.lists.specs.Loop.{every}
 use Rattle.instance.specs.declared.Sizes.{Sizes}
 use Rattle.instance.specs.Instance.{Instance}
-use Rattle.plan.specs.Plan.{Row, place, condition, condition2}
+use Rattle.plan.specs.Plan.{Row, planRow, condition, condition2}
 use Rattle.lists.proofs.Tests.{or-imp, not-iff, eqb-iff, every-iff}
 use Rattle.answers.specs.Fault.{FirstFault}
 use Rattle.satisfaction.specs.Rows.{Lowest}
@@ -85,5 +85,5 @@ pub plain-2 : (I : Instance) (s : Sizes) → s ≡ I .sizes → (P Q : Row) (r :
 unfolding condition2
 plain-2 I s e P Q r f = subst (λ (z : Sizes). FirstFault (s .k) (condition2 z P Q) r) (sym e) f
 
-pub next-row : (s : Sizes) (p : List ℕ) (t a : ℕ) → getD p (t * s .k + s .k + a) 0 ≡ place s p (suc t) a
+pub next-row : (s : Sizes) (p : List ℕ) (t a : ℕ) → getD p (t * s .k + s .k + a) 0 ≡ planRow s p (suc t) a
 next-row s p t a = rw suc-mul

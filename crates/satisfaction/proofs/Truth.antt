@@ -21,7 +21,7 @@ use Rattle.answers.specs.Fault.{FirstFault}
 use Rattle.instance.specs.declared.Sizes.{Sizes}
 use Rattle.formula.specs.Variables.{Literal, X, ¬X, index, variableCount}
 use Rattle.formula.specs.Formula.{Clause, somewhere, blockC, blockD, blockE, blockF, blockG}
-use Rattle.plan.specs.Plan.{place}
+use Rattle.plan.specs.Plan.{planRow}
 use Rattle.valuation.specs.Valuation.{true?, satisfied?}
 use Rattle.valuation.specs.Satisfying.{Valuation}
 use Rattle.valuation.specs.Places.{Places}
@@ -72,8 +72,8 @@ module _ (s : Sizes) (es : List ℤ) (w : Valuation (variableCount s) es) where
 
   -- ---- C and D, by what the pass has seen
   module _ (p : List ℕ) (rd : Read s es p) (t : ℕ) (x : t < suc m) where
-    abbrev seen : (a : ℕ) → a < k → Seen n (q t a) (place s p t a)
-    seen a y = rd .cells t a x y
+    abbrev seen : (a : ℕ) → a < k → Seen n (q t a) (planRow s p t a)
+    seen a y = rd .seen t a x y
 
     pub in-C : (z r : ℕ) → z ≡ n → FirstFault k (λ a. not (eqb (getD p (t * k + a) 0) z)) r → Fault es (for k (blockC s t)) r
     in-C z r e f =
@@ -82,7 +82,7 @@ module _ (s : Sizes) (es : List ℤ) (w : Valuation (variableCount s) es) where
           within = f .within;
           before = λ a l.
               let y : a < k = omega (arith, f .within) in
-              let d : place s p t a ≢ n = λ o. simp (not-iff, eqb-iff) at (f .before a l) (o ∙ sym e) in
+              let d : planRow s p t a ≢ n = λ o. simp (not-iff, eqb-iff) at (f .before a l) (o ∙ sym e) in
               let (v, l′, o) = some-vertex a y d in
               for-any (true? es) n _ .1 (v, l′, any-one (true? es) _ .1 o);
           here = λ l h.
@@ -90,10 +90,10 @@ module _ (s : Sizes) (es : List ℤ) (w : Valuation (variableCount s) es) where
               f .here l (simp (not-iff, eqb-iff) (λ i. seen r l .none (i ∙ e) v l′ (any-one (true? es) _ .0 o)));
         }
       where
-        some-vertex : (a : ℕ) → (y : a < k) → place s p t a ≢ n → (v : ℕ) × (v < n) × T (q t a v)
+        some-vertex : (a : ℕ) → (y : a < k) → planRow s p t a ≢ n → (v : ℕ) × (v < n) × T (q t a v)
         some-vertex a y d =
-            by-cases (decLt (place s p t a) n)
-            (λ l. (place s p t a, l, seen a y .one l (place s p t a) l .1 refl))
+            by-cases (decLt (planRow s p t a) n)
+            (λ l. (planRow s p t a, l, seen a y .one l (planRow s p t a) l .1 refl))
             (λ g.
             let m = seen a y .most in
             let (v, u, o, l, h, i) = seen a y .several (omega arith) in
@@ -102,22 +102,22 @@ module _ (s : Sizes) (es : List ℤ) (w : Valuation (variableCount s) es) where
     abbrev iffD : (a : ℕ) → a < k → (v u : ℕ) → v < n → u < n → T (sat (¬X s t a v ∷ ¬X s t a u ∷ [])) ↔ (T (q t a v) → T (q t a u) → ⊥)
     iffD a y v u l r = not-both t a v t a u x y l x y r
 
-    pass-D : (a : ℕ) → a < k → place s p t a ≢ suc n → T (all sat (blockD s t a))
+    pass-D : (a : ℕ) → a < k → planRow s p t a ≢ suc n → T (all sat (blockD s t a))
     pass-D a y d =
         pairs-pass es n (λ v u. ¬X s t a v ∷ ¬X s t a u ∷ []) (q t a) (iffD a y) (λ v u o l h i.
         let c = seen a y in
-        by-cases (decLt (place s p t a) n)
+        by-cases (decLt (planRow s p t a) n)
         (λ r. let e = c .one r v (omega arith) .0 h in let e′ = c .one r u l .0 i in omega arith)
         (λ g. let m = c .most in c .none (omega arith) u l i))
 
-    passed-D : (a : ℕ) → a ≤ k → ((b : ℕ) → b < a → place s p t b ≢ suc n) → T (all sat (for a (blockD s t)))
+    passed-D : (a : ℕ) → a ≤ k → ((b : ℕ) → b < a → planRow s p t b ≢ suc n) → T (all sat (for a (blockD s t)))
     passed-D a l h = for-all sat a (blockD s t) .1 (λ b o. pass-D b (omega arith) (h b o))
 
     end-D : {a : ℕ} → a < k → (t * k + a) * n + n ≤ variableCount s
     end-D {a} l = omega (arith, place-lt (suc m) k t a x l, count-eq s, suc-mul (t * k + a) n, mul-le-mul-right n (place-lt (suc m) k t a x l))
 
     module _ (z a : ℕ) (e : z ≡ suc n) (f : FirstFault k (λ b. not (eqb (getD p (t * k + b) 0) z)) a) where
-      below-D : (b : ℕ) → b < a → place s p t b ≢ suc n
+      below-D : (b : ℕ) → b < a → planRow s p t b ≢ suc n
       below-D b l o = simp (not-iff, eqb-iff) at (f .before b l) (o ∙ sym e)
 
       pub none-D : a ≡ k → Fault es (for k (blockD s t)) (k * (n * (n - 1) / 2))
@@ -138,7 +138,7 @@ module _ (s : Sizes) (es : List ℤ) (w : Valuation (variableCount s) es) where
 
         two-D : (v′ u′ : ℕ) × (v′ < u′) × (u′ < n) × T (q t a v′) × T (q t a u′)
         two-D =
-            seen a agent-D .several (by-cases (ℕ-discrete (place s p t a) (suc n)) (λ o. o) (λ o. absurd (f .here agent-D (simp (not-iff, eqb-iff) (λ i. o (i ∙ e))))))
+            seen a agent-D .several (by-cases (ℕ-discrete (planRow s p t a) (suc n)) (λ o. o) (λ o. absurd (f .here agent-D (simp (not-iff, eqb-iff) (λ i. o (i ∙ e))))))
 
         pub first-D : v < (t * k + a) * n + n
         first-D = let (v′, u′, r, r′, i, j) = two-D in omega (arith, skip-le es b (b + n) v (b + v′) g (omega arith) (says-q v′ (omega arith) i))

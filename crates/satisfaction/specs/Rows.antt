@@ -12,8 +12,8 @@ use Rattle.answers.specs.Fault.{FirstFault}
 use Rattle.instance.specs.declared.Sizes.{Sizes}
 use Rattle.formula.specs.Variables.{X, variableCount}
 use Rattle.formula.specs.Formula.{Clause}
-use Rattle.formula.specs.Blocks.{Given, cells, family, block}
-use Rattle.plan.specs.Plan.{planBytes, place}
+use Rattle.formula.specs.Blocks.{Given, blocksAt, family, block}
+use Rattle.plan.specs.Plan.{planBytes, planRow}
 use Rattle.valuation.specs.Valuation.{entry, sameNumber, true?, satisfied?}
 use Rattle.valuation.specs.Satisfying.{Valuation}
 
@@ -49,7 +49,7 @@ pub record Seen (n : ℕ) (test : ℕ → Bool) (x : ℕ) : Type 0 where
   pub none : x ≡ n → (v : ℕ) → v < n → T (test v) → ⊥
   pub several : x ≡ suc n → (v w : ℕ) × (v < w) × (w < n) × T (test v) × T (test w)
 
--- r is the lowest number below n that P has at two places below k, or n
+-- r is the lowest number below n that P gives to two numbers below k, or n
 pub record Lowest (k : ℕ) (P : ℕ → ℕ) (n r : ℕ) : Type 0 where
   pub within : r ≤ n
   pub before : (a b : ℕ) → a < b → b < k → P a ≡ P b → r ≤ P a
@@ -62,12 +62,12 @@ module _ (s : Sizes) where
   pub record Read (entries : List ℤ) (p : List ℕ) : Type 0 where
     pub size : length p ≡ planBytes s
     pub valid : Valuation (variableCount s) entries
-    pub cells : (t a : ℕ) → t < suc m → a < k → Seen n (λ v. true? entries (X s t a v)) (place s p t a)
+    pub seen : (t a : ℕ) → t < suc m → a < k → Seen n (λ v. true? entries (X s t a v)) (planRow s p t a)
 
 module _ (g : Given) where
   -- row t of the family with a number: its blocks of time t
   unfoldable pub row : ℕ → ℕ → List Clause
-  row j t = for (cells (g .sizes) j) (block g j t)
+  row j t = for (blocksAt (g .sizes) j) (block g j t)
 
   -- the entries satisfy the families before the one with this number
   unfoldable pub Before : List ℤ → ℕ → Type 0

@@ -14,9 +14,9 @@ ghost use Rattle.answers.specs.Fault.{FirstFault};
 ghost use Rattle.instance.specs.Instance.{adjacent};
 ghost use Rattle.formula.specs.Variables.{highest, variableCount, X};
 ghost use Rattle.formula.specs.Formula.{clauses, blockC, blockD, blockE, blockF, blockG};
-ghost use Rattle.formula.specs.Blocks.{steps, heldBy};
+ghost use Rattle.formula.specs.Blocks.{times, heldBy};
 ghost use Rattle.instance.specs.Limits.{Limits};
-ghost use Rattle.plan.specs.Plan.{planBytes, place};
+ghost use Rattle.plan.specs.Plan.{planBytes, planRow};
 ghost use Rattle.valuation.specs.Valuation.{true?, rightEntry};
 ghost use Rattle.valuation.specs.Satisfying.{Valuation};
 ghost use Rattle.valuation.specs.Places.{Places};
@@ -29,7 +29,7 @@ ghost use mathlib.Core.Logic.{_≢_};
 // What the entries of one agent and time say: the first wrong one, or the end; and the vertex, n for none, n + 1 for several.
 pub struct Row {
     pub wrong: usize,
-    pub place: usize,
+    pub vertex: usize,
 }
 
 // Of some clauses: their number, and the place of the first without a true literal, or their number again.
@@ -98,14 +98,14 @@ fn stop_from(entries: &[i32], low: usize, end: usize, both: bool) -> usize
 fn read_row(entries: &[i32], base: usize, n: usize) -> Row
     requires { ⌜ (base + n ≤ length (now entries)) × (base + n ≤ highest) × (n ≤ 64) ⌝ }
     ensures { λ r. ⌜ Stop (rightEntry (now (entries .entry))) base (base + n) (r .wrong) ⌝ }
-    ensures { λ r. ⌜ (base + n ≤ r .wrong → Seen n (λ v. says (now (entries .entry)) (base + v)) (r .place)) ⌝ }
+    ensures { λ r. ⌜ (base + n ≤ r .wrong → Seen n (λ v. says (now (entries .entry)) (base + v)) (r .vertex)) ⌝ }
 {
     let end = base + n;
     let t = tally_row(entries, base, n);
     if t.count == 0 {
         return Row {
             wrong: end,
-            place: n,
+            vertex: n,
         };
     }
     if t.count == 1 {
@@ -114,41 +114,41 @@ fn read_row(entries: &[i32], base: usize, n: usize) -> Row
         if passes(entries, at, true) {
             return Row {
                 wrong: end,
-                place: v,
+                vertex: v,
             };
         }
         return Row {
             wrong: at,
-            place: 0,
+            vertex: 0,
         };
     }
     let u = stop_from(entries, base, end, true);
     Row {
         wrong: u,
-        place: n + 1,
+        vertex: n + 1,
     }
 }
 
-// All entries, one time and agent after another: the first wrong one, or their number. `places` is left with the vertex of each time and
+// All entries, one time and agent after another: the first wrong one, or their number. `vertices` is left with the vertex of each time and
 // agent, as in `Row`, where no entry is wrong.
-pub fn read_entries(places: &mut [u8], entries: &[i32], s: Sizes) -> usize
+pub fn read_entries(vertices: &mut [u8], entries: &[i32], s: Sizes) -> usize
     requires { ⌜ Limits s ⌝ }
-    requires { ⌜ (length (now entries) ≡ variableCount s) × (length (now places) ≡ 528) ⌝ }
+    requires { ⌜ (length (now entries) ≡ variableCount s) × (length (now vertices) ≡ 528) ⌝ }
     ensures { λ r. ⌜ FirstFault (variableCount s) (rightEntry (now (entries .entry))) r ⌝ }
-    ensures { λ _. ⌜ length (now (places .exit)) ≡ 528 ⌝ }
-    ensures { λ r. ⌜ (variableCount s ≤ r → Read s (now (entries .entry)) (take (planBytes s) (now (places .exit)))) ⌝ }
+    ensures { λ _. ⌜ length (now (vertices .exit)) ≡ 528 ⌝ }
+    ensures { λ r. ⌜ (variableCount s ≤ r → Read s (now (entries .entry)) (take (planBytes s) (now (vertices .exit)))) ⌝ }
 {
     let n = s.n;
-    let cells = counts::plan_bytes(s);
-    for i in 0..cells {
+    let bytes = counts::plan_bytes(s);
+    for i in 0..bytes {
         let base = i * n;
         let r = read_row(entries, base, n);
         if r.wrong < base + n {
             return r.wrong;
         }
-        places[i] = r.place as u8;
+        vertices[i] = r.vertex as u8;
     }
-    cells * n
+    bytes * n
 }
 
 // Families A and B: the first agent that is not at its vertex of the array at time t, or k.
@@ -241,7 +241,7 @@ fn lowest_shared(p: &[u8], row: usize, k: usize, n: usize) -> usize
 fn fault_e(p: &[u8], s: Sizes, t: usize) -> usize
     requires { ⌜ Limits s ⌝ }
     requires { ⌜ (length (now p) ≡ planBytes s) × (t ≤ s .m) ⌝ }
-    ensures { λ r. ⌜ ((es : List ℤ) → Valuation (variableCount s) es → Places s (true? es) (place s (now (p .entry))) → Fault es (for (s .n) (blockE s t)) r) ⌝ }
+    ensures { λ r. ⌜ ((es : List ℤ) → Valuation (variableCount s) es → Places s (true? es) (planRow s (now (p .entry))) → Fault es (for (s .n) (blockE s t)) r) ⌝ }
 {
     let n = s.n;
     let k = s.k;
@@ -260,7 +260,7 @@ fn fault_e(p: &[u8], s: Sizes, t: usize) -> usize
 fn fault_f(b: &[u8], c: Checked, p: &[u8], t: usize) -> usize
     requires { ⌜ Accepted (now b) c ⌝ }
     requires { ⌜ (length (now p) ≡ planBytes (c .sizes)) × (t < c .sizes .m) ⌝ }
-    ensures { λ r. ⌜ ((es : List ℤ) → Valuation (variableCount (c .sizes)) es → Places (c .sizes) (true? es) (place (c .sizes) (now (p .entry))) → Fault es (for (c .sizes .k) (blockF (c .sizes) (adjacent (instanceOf (now (b .entry)) c)) t)) r) ⌝ }
+    ensures { λ r. ⌜ ((es : List ℤ) → Valuation (variableCount (c .sizes)) es → Places (c .sizes) (true? es) (planRow (c .sizes) (now (p .entry))) → Fault es (for (c .sizes .k) (blockF (c .sizes) (adjacent (instanceOf (now (b .entry)) c)) t)) r) ⌝ }
 {
     let s = c.sizes;
     let n = s.n;
@@ -287,8 +287,8 @@ fn other_at(a: usize, b: usize) -> usize
 fn fault_g(b: &[u8], c: Checked, p: &[u8], t: usize) -> usize
     requires { ⌜ Accepted (now b) c ⌝ }
     requires { ⌜ (length (now p) ≡ planBytes (c .sizes)) × (t < c .sizes .m) ⌝ }
-    requires { ⌜ ((i j : ℕ) → i < j → j < c .sizes .k → place (c .sizes) (now p) t i ≢ place (c .sizes) (now p) t j) ⌝ }
-    ensures { λ r. ⌜ ((es : List ℤ) → Valuation (variableCount (c .sizes)) es → Places (c .sizes) (true? es) (place (c .sizes) (now (p .entry))) → Fault es (for (c .sizes .k) (blockG (c .sizes) t)) r) ⌝ }
+    requires { ⌜ ((i j : ℕ) → i < j → j < c .sizes .k → planRow (c .sizes) (now p) t i ≢ planRow (c .sizes) (now p) t j) ⌝ }
+    ensures { λ r. ⌜ ((es : List ℤ) → Valuation (variableCount (c .sizes)) es → Places (c .sizes) (true? es) (planRow (c .sizes) (now (p .entry))) → Fault es (for (c .sizes .k) (blockG (c .sizes) t)) r) ⌝ }
 {
     let s = c.sizes;
     let n = s.n;
@@ -308,7 +308,7 @@ fn fault_g(b: &[u8], c: Checked, p: &[u8], t: usize) -> usize
 fn row_fault(b: &[u8], c: Checked, entries: &[i32], p: &[u8], which: usize, t: usize) -> Part
     requires { ⌜ Accepted (now b) c ⌝ }
     requires { ⌜ Read (c .sizes) (now entries) (now p) ⌝ }
-    requires { ⌜ (which < 7) × (t < steps (c .sizes) which) × Before (heldBy (now b) c) (now entries) which ⌝ }
+    requires { ⌜ (which < 7) × (t < times (c .sizes) which) × Before (heldBy (now b) c) (now entries) which ⌝ }
     ensures { λ r. ⌜ (length (row (heldBy (now (b .entry)) c) which t) ≡ r .size) × (r .size ≤ 32768) ⌝ }
     ensures { λ r. ⌜ Fault (now (entries .entry)) (row (heldBy (now (b .entry)) c) which t) (r .fault) ⌝ }
 {
@@ -362,7 +362,7 @@ pub fn clause_fault(b: &[u8], c: Checked, entries: &[i32], p: &[u8]) -> usize
     let s = c.sizes;
     let mut at: usize = 0;
     for which in 0..7usize {
-        let count = counts::steps_of(s, which);
+        let count = counts::times_of(s, which);
         for t in 0..count {
             let r = row_fault(b, c, entries, p, which, t);
             if r.fault < r.size {

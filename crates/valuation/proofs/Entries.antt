@@ -18,7 +18,7 @@ use Rattle.instance.specs.declared.Sizes.{Sizes}
 use Rattle.instance.specs.Instance.{Instance}
 use Rattle.formula.specs.Variables.{Literal, index, variableCount}
 use Rattle.formula.specs.Formula.{C, D}
-use Rattle.plan.specs.Plan.{place}
+use Rattle.plan.specs.Plan.{planRow}
 use Rattle.valuation.specs.Valuation.{sameNumber, true?, named, namedPlan, entryFor, planValuation}
 use Rattle.valuation.specs.Satisfying.{Valuation}
 use Rattle.valuation.specs.Places.{Places}
@@ -97,7 +97,7 @@ module _ (s : Sizes) where
     unfolding namedPlan
     named-size = for2-length (suc m) k _
 
-    pub named-at : (t a : ℕ) → t < suc m → a < k → place s (namedPlan s es) t a ≡ named s es t a
+    pub named-at : (t a : ℕ) → t < suc m → a < k → planRow s (namedPlan s es) t a ≡ named s es t a
     unfolding namedPlan
     named-at t a p q = for2-getD (suc m) k (named s es) 0 t a p q
 
@@ -107,12 +107,12 @@ module _ (s : Sizes) where
     unfolding planValuation index
     written-at t a v = for3-getD (suc m) k n (λ t a v. entryFor s p t a v) (pos 0) t a v
 
-    entryFor-cases : (t a v : ℕ) → ((v ≡ place s p t a) × (entryFor s p t a v ≡ pos (suc (index s t a v))))
-        ⊎ ((v ≢ place s p t a) × (entryFor s p t a v ≡ negsuc (index s t a v)))
+    entryFor-cases : (t a v : ℕ) → ((v ≡ planRow s p t a) × (entryFor s p t a v ≡ pos (suc (index s t a v))))
+        ⊎ ((v ≢ planRow s p t a) × (entryFor s p t a v ≡ negsuc (index s t a v)))
     entryFor-cases t a v =
-        by-cases (ℕ-discrete (place s p t a) v)
-        (λ e. inl (sym e, rw (eq-eqb (place s p t a) v e)))
-        (λ d. inr ((λ e. d (sym e)), rw (ne-eqb (place s p t a) v d)))
+        by-cases (ℕ-discrete (planRow s p t a) v)
+        (λ e. inl (sym e, rw (eq-eqb (planRow s p t a) v e)))
+        (λ d. inr ((λ e. d (sym e)), rw (ne-eqb (planRow s p t a) v d)))
 
     pub written-size : length (planValuation s p) ≡ variableCount s
     unfolding planValuation
@@ -127,7 +127,7 @@ module _ (s : Sizes) where
               rw e (⊎-elim (λ c. inl (written-at t a v x y z ∙ c .1)) (λ c. inr (written-at t a v x y z ∙ c .1)) (entryFor-cases t a v));
         }
 
-    pub written-places : ((t a : ℕ) → t < suc m → a < k → place s p t a < n) → Places s (true? (planValuation s p)) (place s p)
+    pub written-places : ((t a : ℕ) → t < suc m → a < k → planRow s p t a < n) → Places s (true? (planValuation s p)) (planRow s p)
     written-places inside′ =
         record {
           inside = inside′;
@@ -138,7 +138,7 @@ module _ (s : Sizes) where
           );
         }
       where
-        here′ : (t a v : ℕ) → t < suc m → a < k → v < n → T (true? (planValuation s p) (X t a v)) ↔ (v ≡ place s p t a)
+        here′ : (t a v : ℕ) → t < suc m → a < k → v < n → T (true? (planValuation s p) (X t a v)) ↔ (v ≡ planRow s p t a)
         here′ t a v x y z =
             let (to, from) = true-yes (planValuation s p) written-valuation t a v x y z in
             let w = written-at t a v x y z in

@@ -8,7 +8,7 @@ use lib.IntN.{ℤ, pos, negℤ}
 use Rattle.instance.specs.declared.Sizes.{Sizes}
 use Rattle.formula.specs.Variables.{Literal, X}
 use Rattle.formula.specs.Formula.{Clause, Formula}
-use Rattle.plan.specs.Plan.{planBytes, place}
+use Rattle.plan.specs.Plan.{planBytes, planRow}
 use Rattle.valuation.specs.Valuation.{entry}
 
 -- a literal is true when it is one of the entries
@@ -34,5 +34,5 @@ module _ (s : Sizes) where
   -- the plan p is the one that the entries name: at byte t·k + a it has the one v whose X(t,a,v) is true
   pub record Names (entries : List ℤ) (p : List ℕ) : Type 0 where
     pub size : length p ≡ planBytes s
-    pub inside : (t a : ℕ) → t < suc m → a < k → place s p t a < n
-    pub chosen : (t a v : ℕ) → t < suc m → a < k → v < n → True entries (X s t a v) ↔ (v ≡ place s p t a)
+    pub inside : (t a : ℕ) → t < suc m → a < k → planRow s p t a < n
+    pub chosen : (t a v : ℕ) → t < suc m → a < k → v < n → True entries (X s t a v) ↔ (v ≡ planRow s p t a)

@@ -9,7 +9,7 @@ use Rattle.lists.specs.Loop.{for, any, first}
 use Rattle.instance.specs.declared.Sizes.{Sizes}
 use Rattle.formula.specs.Variables.{Literal, X, ¬X}
 use Rattle.formula.specs.Formula.{Clause}
-use Rattle.plan.specs.Plan.{place}
+use Rattle.plan.specs.Plan.{planRow}
 
 abbrev pub sameNumber : ℤ → ℤ → Bool
 sameNumber (pos a) (pos b) = eqb a b
@@ -46,7 +46,7 @@ module _ (s : Sizes) where
 
   -- X(t,a,v) is made true for the vertex v of agent a at time t, and for no other
   abbrev pub entryFor : List ℕ → ℕ → ℕ → ℕ → ℤ
-  entryFor p t a v = cond (eqb (place s p t a) v) (X s t a v) (¬X s t a v)
+  entryFor p t a v = cond (eqb (planRow s p t a) v) (X s t a v) (¬X s t a v)
 
   -- the valuation of a plan: the entries stand in the order of the variables' numbers
   unfoldable pub planValuation : List ℕ → List ℤ

@@ -6,7 +6,7 @@ use borrow.Author.Needs.{needs}
 use lib.ListN.{length}
 use Rattle.lists.specs.Loop.{each}
 use Rattle.formula.specs.Formula.{line, somewhere}
-use Rattle.formula.specs.Blocks.{Given, steps, cells, block}
+use Rattle.formula.specs.Blocks.{Given, times, blocksAt, block}
 use Rattle.families.specs.Held.{heldIn}
 use Rattle.formula.proofs.Blocks.{last}
 use Rattle.families.proofs.Laws.{one, one-room}
@@ -18,37 +18,37 @@ given c = heldIn (c .args .s) (c .args .starts .now) (c .args .goals .now) (c .a
 
 -- what is required, of the family of an arm
 arm : (c : tie.Start) {j : ℕ} → c .args .which ≡ j
-    → (c .args .t < steps (c .args .s) j) × (c .args .x < cells (c .args .s) j) × (length (each line (block (given c) j (c .args .t) (c .args .x))) ≤ length (c .args .f .now))
+    → (c .args .t < times (c .args .s) j) × (c .args .x < blocksAt (c .args .s) j) × (length (each line (block (given c) j (c .args .t) (c .args .x))) ≤ length (c .args .f .now))
 arm c e = let q = rw e at (c .pre .1 .0) in (q .1, q .2, rw e at (c .pre .1 .1))
 
 write-unit-requires : tie.Need-write-unit-requires
-unfolding steps cells block
+unfolding times blocksAt block
 write-unit-requires c κs =
     let q = arm (c .before .before .before) (c .before .match .keys1) in (c .before .before .before .pre .0 .0 .limits, (omega arith, q .1, c .before .before .before .pre .0 .0 .starts (c .before .before .before .args .x) (q .1), q .2))
 
 write-unit-requires-2 : tie.Need-write-unit-requires-2
-unfolding steps cells block
+unfolding times blocksAt block
 write-unit-requires-2 c κs =
     let q = arm (c .before .before .before) (c .before .match .keys2) in (c .before .before .before .pre .0 .0 .limits, (omega arith, q .1, c .before .before .before .pre .0 .0 .goals (c .before .before .before .args .x) (q .1), q .2))
 
 put-somewhere-requires : tie.Need-put-somewhere-requires
-unfolding steps cells block
+unfolding times blocksAt block
 put-somewhere-requires c κs = let q = arm (c .before .before .before) (c .before .match .keys3) in let r = one-room (somewhere (c .before .before .before .args .s) (c .before .before .before .args .t) (c .before .before .before .args .x)) (q .2) in search needs
 
 write-d-requires : tie.Need-write-d-requires
-unfolding steps cells block
+unfolding times blocksAt block
 write-d-requires c κs = let q = arm (c .before .before .before) (c .before .match .keys4) in search needs
 
 write-e-requires : tie.Need-write-e-requires
-unfolding steps cells block
+unfolding times blocksAt block
 write-e-requires c κs = let q = arm (c .before .before .before) (c .before .match .keys5) in search needs
 
 write-f-requires : tie.Need-write-f-requires
-unfolding steps cells block
+unfolding times blocksAt block
 write-f-requires c κs = let q = arm (c .before .before .before) (c .before .match .keys6) in search needs
 
 write-g-requires : tie.Need-write-g-requires
-unfolding steps cells block
+unfolding times blocksAt block
 write-g-requires c κs = let q = arm (c .before .before .before) (last (c .before .before .before .args .which) (c .before .before .before .pre .1 .0 .0) (c .before .match .rest)) in search needs
 
 returns : tie.Need-returns

@@ -6,14 +6,14 @@ use lib.ListN.{length-take, length-drop}
 use Rattle.lists.specs.Loop.{each}
 use Rattle.lists.proofs.Slices.{Filling, each-filling, filling-room, filling-next, each-filled}
 use Rattle.formula.specs.Formula.{line}
-use Rattle.formula.specs.Blocks.{Given, cells, block}
+use Rattle.formula.specs.Blocks.{Given, blocksAt, block}
 use Rattle.families.specs.Held.{heldIn}
 use Rattle.families.proofs.write_step.Statement.{statement}
 use Rattle.families.proofs.write_step.Tie as tie
 
 abbrev Inv-loop : tie.InvT-loop
 Inv-loop f₀ s starts goals table which t end at₀ x₀ f at x =
-    Filling (λ x. each line (block (heldIn s starts goals table) which t x)) (cells s which) f₀ x at f
+    Filling (λ x. each line (block (heldIn s starts goals table) which t x)) (blocksAt s which) f₀ x at f
 
 abbrev μ-loop : tie.MeasureT-loop
 μ-loop f₀ s starts goals table which t end at₀ x₀ f at x = end - x
@@ -22,8 +22,8 @@ abbrev given : tie.Start Inv-loop μ-loop → Given
 given s = heldIn (s .args .s) (s .args .starts .now) (s .args .goals .now) (s .args .table .now)
 
 -- the turn is one of the family's
-turn : (c : tie.In-loop Inv-loop μ-loop) → c .before .loop .x < cells (c .before .before .before .before .args .s) (c .before .before .before .before .args .which)
-turn c = omega (arith, c .before .before .cells-of .ensures .0)
+turn : (c : tie.In-loop Inv-loop μ-loop) → c .before .loop .x < blocksAt (c .before .before .before .before .args .s) (c .before .before .before .before .args .which)
+turn c = omega (arith, c .before .before .blocks-at .ensures .0)
 
 loop-holds : tie.Need-loop-holds Inv-loop μ-loop
 loop-holds c = each-filling line (block (given (c .before .before)) (c .before .before .args .which) (c .before .before .args .t)) (c .before .before .pre .1 .1)
@@ -40,7 +40,7 @@ add-at : tie.Need-add-at Inv-loop μ-loop
 add-at c = let q = loop-again c .fits in omega arith
 
 returns : tie.Need-returns Inv-loop μ-loop
-returns c = each-filled line (block (given (c .before .before .before .before)) (c .before .before .before .before .args .which) (c .before .before .before .before .args .t)) (c .before .loop .inv) (omega (arith, c .before .before .cells-of .ensures .0))
+returns c = each-filled line (block (given (c .before .before .before .before)) (c .before .before .before .before .args .which) (c .before .before .before .before .args .t)) (c .before .loop .inv) (omega (arith, c .before .before .blocks-at .ensures .0))
 
 pub write-step-spec : {M : Type 1} → statement M
 write-step-spec =

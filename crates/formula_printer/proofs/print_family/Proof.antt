@@ -13,11 +13,11 @@ Inv-loop words₀ text₀ texts s starts goals table which end t₀ words text t
 abbrev μ-loop : tie.MeasureT-loop
 μ-loop words₀ text₀ texts s starts goals table which end t₀ words text t = end - t
 
-steps-of-requires : tie.Need-steps-of-requires Inv-loop μ-loop
-steps-of-requires c κs = (c .before .before .before .pre .1 .0 .0 .limits, c .before .before .before .pre .1 .1)
+times-of-requires : tie.Need-times-of-requires Inv-loop μ-loop
+times-of-requires c κs = (c .before .before .before .pre .1 .0 .0 .limits, c .before .before .before .pre .1 .1)
 
 print-step-requires : tie.Need-print-step-requires Inv-loop μ-loop
-print-step-requires c κs = ((record { words-room = omega (arith, c .before .before .before .loop .inv .1 .0, c .before .before .before .before .before .before .before .before .pre .0 .0 .words-room); text-room = omega (arith, c .before .before .before .loop .inv .1 .1, c .before .before .before .before .before .before .before .before .pre .0 .0 .text-room) }, c .before .before .before .before .before .before .before .before .pre .0 .1), (c .before .before .before .before .before .before .before .before .pre .1 .0, (c .before .before .before .before .before .before .before .before .pre .1 .1, omega (arith, c .before .before .loop-test .taken, c .before .before .before .before .steps-of .ensures .0))))
+print-step-requires c κs = ((record { words-room = omega (arith, c .before .before .before .loop .inv .1 .0, c .before .before .before .before .before .before .before .before .pre .0 .0 .words-room); text-room = omega (arith, c .before .before .before .loop .inv .1 .1, c .before .before .before .before .before .before .before .before .pre .0 .0 .text-room) }, c .before .before .before .before .before .before .before .before .pre .0 .1), (c .before .before .before .before .before .before .before .before .pre .1 .0, (c .before .before .before .before .before .before .before .before .pre .1 .1, omega (arith, c .before .before .loop-test .taken, c .before .before .before .before .times-of .ensures .0))))
 
 returns : tie.Need-returns Inv-loop μ-loop
 returns c = tt
@@ -28,7 +28,7 @@ print-family-spec =
     (tie.spec
     Inv-loop
     μ-loop
-    steps-of-requires
+    times-of-requires
     (λ c. search needs)
     print-step-requires
     (λ c. search needs)

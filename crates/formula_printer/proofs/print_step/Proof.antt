@@ -13,11 +13,11 @@ Inv-loop words₀ text₀ texts s starts goals table which t end x₀ words text
 abbrev μ-loop : tie.MeasureT-loop
 μ-loop words₀ text₀ texts s starts goals table which t end x₀ words text x = end - x
 
-cells-of-requires : tie.Need-cells-of-requires Inv-loop μ-loop
-cells-of-requires c κs = (c .before .before .before .pre .1 .0 .0 .limits, c .before .before .before .pre .1 .1 .0)
+blocks-at-requires : tie.Need-blocks-at-requires Inv-loop μ-loop
+blocks-at-requires c κs = (c .before .before .before .pre .1 .0 .0 .limits, c .before .before .before .pre .1 .1 .0)
 
 print-block-requires : tie.Need-print-block-requires Inv-loop μ-loop
-print-block-requires c κs = ((record { words-room = omega (arith, c .before .before .before .loop .inv .1 .0, c .before .before .before .before .before .before .before .before .pre .0 .0 .words-room); text-room = omega (arith, c .before .before .before .loop .inv .1 .1, c .before .before .before .before .before .before .before .before .pre .0 .0 .text-room) }, c .before .before .before .before .before .before .before .before .pre .0 .1), (c .before .before .before .before .before .before .before .before .pre .1 .0, (c .before .before .before .before .before .before .before .before .pre .1 .1 .0, c .before .before .before .before .before .before .before .before .pre .1 .1 .1, omega (arith, c .before .before .loop-test .taken, c .before .before .before .before .cells-of .ensures .0))))
+print-block-requires c κs = ((record { words-room = omega (arith, c .before .before .before .loop .inv .1 .0, c .before .before .before .before .before .before .before .before .pre .0 .0 .words-room); text-room = omega (arith, c .before .before .before .loop .inv .1 .1, c .before .before .before .before .before .before .before .before .pre .0 .0 .text-room) }, c .before .before .before .before .before .before .before .before .pre .0 .1), (c .before .before .before .before .before .before .before .before .pre .1 .0, (c .before .before .before .before .before .before .before .before .pre .1 .1 .0, c .before .before .before .before .before .before .before .before .pre .1 .1 .1, omega (arith, c .before .before .loop-test .taken, c .before .before .before .before .blocks-at .ensures .0))))
 
 returns : tie.Need-returns Inv-loop μ-loop
 returns c = tt
@@ -28,7 +28,7 @@ print-step-spec =
     (tie.spec
     Inv-loop
     μ-loop
-    cells-of-requires
+    blocks-at-requires
     (λ c. search needs)
     print-block-requires
     (λ c. search needs)

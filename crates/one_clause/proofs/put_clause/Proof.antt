@@ -3,46 +3,46 @@ use mathlib.Core.Path.{_≡_}
 use native.Mathlib.Omega.{arith}
 use borrow.Author.Needs.{needs}
 use Rattle.instance.proofs.Accepted.{limits-known, starts-inside, goals-inside}
-use Rattle.formula.specs.Blocks.{steps, cells, block}
+use Rattle.formula.specs.Blocks.{times, blocksAt, block}
 use Rattle.formula.proofs.Blocks.{last}
 use Rattle.one_clause.proofs.put_clause.Statement.{statement}
 use Rattle.one_clause.proofs.put_clause.Tie as tie
 
 put-end-of-requires : tie.Need-put-end-of-requires
-unfolding steps cells block
+unfolding times blocksAt block
 put-end-of-requires c κs =
     let q = rw (c .before .before .match .keys1) at (c .before .before .before .before .before .pre .1 .0) in
     let z : c .before .before .before .before .before .args .place ≡ 0 = omega arith in
     (limits-known (c .before .before .before .before .before .args .b .now) (c .before .before .before .before .before .args .c) (c .before .before .before .before .before .pre .0), (omega arith, q .2, starts-inside (c .before .before .before .before .before .args .b .now) (c .before .before .before .before .before .args .c) (c .before .before .before .before .before .pre .0) (c .before .before .before .before .before .args .x) (q .2), rw (c .before .before .match .keys1, z) at (c .before .before .before .before .before .pre .1 .1)))
 
 put-end-of-requires-2 : tie.Need-put-end-of-requires-2
-unfolding steps cells block
+unfolding times blocksAt block
 put-end-of-requires-2 c κs =
     let q = rw (c .before .before .match .keys2) at (c .before .before .before .before .before .pre .1 .0) in
     let z : c .before .before .before .before .before .args .place ≡ 0 = omega arith in
     (limits-known (c .before .before .before .before .before .args .b .now) (c .before .before .before .before .before .args .c) (c .before .before .before .before .before .pre .0), (omega arith, q .2, goals-inside (c .before .before .before .before .before .args .b .now) (c .before .before .before .before .before .args .c) (c .before .before .before .before .before .pre .0) (c .before .before .before .before .before .args .x) (q .2), rw (c .before .before .match .keys2, z) at (c .before .before .before .before .before .pre .1 .1)))
 
 put-somewhere-requires : tie.Need-put-somewhere-requires
-unfolding steps cells block
+unfolding times blocksAt block
 put-somewhere-requires c κs =
     let q = rw (c .before .match .keys3) at (c .before .before .before .before .pre .1 .0) in
     let z : c .before .before .before .before .args .place ≡ 0 = omega arith in
     (limits-known (c .before .before .before .before .args .b .now) (c .before .before .before .before .args .c) (c .before .before .before .before .pre .0), ((omega (arith, q .1), q .2), rw (c .before .match .keys3, z) at (c .before .before .before .before .pre .1 .1)))
 
 put-d-requires : tie.Need-put-d-requires
-unfolding steps cells block
+unfolding times blocksAt block
 put-d-requires c κs = let q = rw (c .before .match .keys4) at (c .before .before .before .before .pre .1 .0) in (limits-known (c .before .before .before .before .args .b .now) (c .before .before .before .before .args .c) (c .before .before .before .before .pre .0), ((omega (arith, q .1), q .2, q .3), rw (c .before .match .keys4) at (c .before .before .before .before .pre .1 .1)))
 
 put-e-requires : tie.Need-put-e-requires
-unfolding steps cells block
+unfolding times blocksAt block
 put-e-requires c κs = let q = rw (c .before .match .keys5) at (c .before .before .before .before .pre .1 .0) in (limits-known (c .before .before .before .before .args .b .now) (c .before .before .before .before .args .c) (c .before .before .before .before .pre .0), ((omega (arith, q .1), q .2, q .3), rw (c .before .match .keys5) at (c .before .before .before .before .pre .1 .1)))
 
 put-f-requires : tie.Need-put-f-requires
-unfolding steps cells block
+unfolding times blocksAt block
 put-f-requires c κs = let q = rw (c .before .match .keys6) at (c .before .before .before .before .pre .1 .0) in (c .before .before .before .before .pre .0, ((q .1, q .2, q .3), rw (c .before .match .keys6) at (c .before .before .before .before .pre .1 .1)))
 
 put-g-requires : tie.Need-put-g-requires
-unfolding steps cells block
+unfolding times blocksAt block
 put-g-requires c κs =
     let q = rw (last (c .before .before .before .before .args .which) (c .before .before .before .before .pre .1 .0 .0) (c .before .match .rest)) at (c .before .before .before .before .pre .1 .0) in
     (limits-known (c .before .before .before .before .args .b .now) (c .before .before .before .before .args .c) (c .before .before .before .before .pre .0), ((q .1, q .2, q .3), rw (last (c .before .before .before .before .args .which) (c .before .before .before .before .pre .1 .0 .0) (c .before .match .rest)) at (c .before .before .before .before .pre .1 .1)))

@@ -15,25 +15,25 @@ spot-of-requires c κs = (limits-known (c .before .before .args .b .now) (c .bef
 div-block : tie.Need-div-block
 div-block c = let q = found (c .before .before .before .before .args .b .now) (c .before .before .before .before .args .c) (c .before .before .before .before .pre .0) (c .before .spot-of .ensures) refl in search needs
 
-cells-of-requires : tie.Need-cells-of-requires
-cells-of-requires c κs = (limits-known (c .before .before .before .before .args .b .now) (c .before .before .before .before .args .c) (c .before .before .before .before .pre .0), c .before .spot-of .ensures .seven)
+blocks-at-requires : tie.Need-blocks-at-requires
+blocks-at-requires c κs = (limits-known (c .before .before .before .before .args .b .now) (c .before .before .before .before .args .c) (c .before .before .before .before .pre .0), c .before .spot-of .ensures .seven)
 
 div-put-clause : tie.Need-div-put-clause
-div-put-clause c = let q = found (c .before .before .before .before .before .before .args .b .now) (c .before .before .before .before .before .before .args .c) (c .before .before .before .before .before .before .pre .0) (c .before .before .before .spot-of .ensures) (c .before .cells-of .ensures .0) in search needs
+div-put-clause c = let q = found (c .before .before .before .before .before .before .args .b .now) (c .before .before .before .before .before .before .args .c) (c .before .before .before .before .before .before .pre .0) (c .before .before .before .spot-of .ensures) (c .before .blocks-at .ensures .0) in search needs
 
 rem-put-clause : tie.Need-rem-put-clause
-rem-put-clause c = let q = found (c .before .before .before .before .before .before .args .b .now) (c .before .before .before .before .before .before .args .c) (c .before .before .before .before .before .before .pre .0) (c .before .before .before .spot-of .ensures) (c .before .cells-of .ensures .0) in search needs
+rem-put-clause c = let q = found (c .before .before .before .before .before .before .args .b .now) (c .before .before .before .before .before .before .args .c) (c .before .before .before .before .before .before .pre .0) (c .before .before .before .spot-of .ensures) (c .before .blocks-at .ensures .0) in search needs
 
 rem-put-clause-2 : tie.Need-rem-put-clause-2
-rem-put-clause-2 c = let q = found (c .before .before .before .before .before .before .before .args .b .now) (c .before .before .before .before .before .before .before .args .c) (c .before .before .before .before .before .before .before .pre .0) (c .before .before .before .before .spot-of .ensures) (c .before .before .cells-of .ensures .0) in search needs
+rem-put-clause-2 c = let q = found (c .before .before .before .before .before .before .before .args .b .now) (c .before .before .before .before .before .before .before .args .c) (c .before .before .before .before .before .before .before .pre .0) (c .before .before .before .before .spot-of .ensures) (c .before .before .blocks-at .ensures .0) in search needs
 
 put-clause-requires : tie.Need-put-clause-requires
 put-clause-requires c κs =
-    let q = found (c .before .before .before .before .before .before .before .args .b .now) (c .before .before .before .before .before .before .before .args .c) (c .before .before .before .before .before .before .before .pre .0) (c .before .before .before .before .spot-of .ensures) (c .before .before .cells-of .ensures .0) in
+    let q = found (c .before .before .before .before .before .before .before .args .b .now) (c .before .before .before .before .before .before .before .args .c) (c .before .before .before .before .before .before .before .pre .0) (c .before .before .before .before .spot-of .ensures) (c .before .before .blocks-at .ensures .0) in
     (c .before .before .before .before .before .before .before .pre .0, ((c .before .before .before .before .spot-of .ensures .seven, q .step, q .cell, q .inside), room-put (q .same) (c .before .before .before .before .before .before .before .pre .1 .1)))
 
 returns : tie.Need-returns
-returns c = let q = found (c .before .before .before .before .before .before .before .before .before .args .b .now) (c .before .before .before .before .before .before .before .before .before .args .c) (c .before .before .before .before .before .before .before .before .before .pre .0) (c .before .before .before .before .before .before .spot-of .ensures) (c .before .before .before .before .cells-of .ensures .0) in wrote-put (q .same) _ _ (c .before .put-clause .ensures)
+returns c = let q = found (c .before .before .before .before .before .before .before .before .before .args .b .now) (c .before .before .before .before .before .before .before .before .before .args .c) (c .before .before .before .before .before .before .before .before .before .pre .0) (c .before .before .before .before .before .before .spot-of .ensures) (c .before .before .before .before .blocks-at .ensures .0) in wrote-put (q .same) _ _ (c .before .put-clause .ensures)
 
 pub put-number-spec : {M : Type 1} → statement M
 put-number-spec =
@@ -41,7 +41,7 @@ put-number-spec =
     (tie.spec
     spot-of-requires
     div-block
-    cells-of-requires
+    blocks-at-requires
     div-put-clause
     rem-put-clause
     rem-put-clause-2

@@ -9,7 +9,7 @@ use lib.Dec.{T}
 use Rattle.lists.specs.Loop.{for, all}
 use Rattle.lists.proofs.Loops.{for-all}
 use Rattle.valuation.specs.Valuation.{satisfied?}
-use Rattle.formula.specs.Blocks.{steps, family, heldBy}
+use Rattle.formula.specs.Blocks.{times, family, heldBy}
 use Rattle.instance.proofs.Accepted.{limits-known}
 use Rattle.satisfaction.specs.Rows.{Before, row}
 use Rattle.satisfaction.proofs.Laws.{block-passed}
@@ -34,27 +34,27 @@ abbrev μ-loop : tie.MeasureT-loop
 loop-holds : tie.Need-loop-holds Inv-loop2 μ-loop2 Inv-loop μ-loop
 loop-holds c = (omega arith, omega arith, refl, tt)
 
-steps-of-requires : tie.Need-steps-of-requires Inv-loop2 μ-loop2 Inv-loop μ-loop
-steps-of-requires c κs = (limits-known (c .before .before .before .before .before .args .b .now) (c .before .before .before .before .before .args .c) (c .before .before .before .before .before .pre .0), c .loop-test .taken)
+times-of-requires : tie.Need-times-of-requires Inv-loop2 μ-loop2 Inv-loop μ-loop
+times-of-requires c κs = (limits-known (c .before .before .before .before .before .args .b .now) (c .before .before .before .before .before .args .c) (c .before .before .before .before .before .pre .0), c .loop-test .taken)
 
 loop2-holds : tie.Need-loop2-holds Inv-loop2 μ-loop2 Inv-loop μ-loop
 loop2-holds c = (omega arith, omega (arith, c .before .before .loop .inv .1), omega (arith, c .before .before .loop .inv .2), tt)
 
 row-fault-requires : tie.Need-row-fault-requires Inv-loop2 μ-loop2 Inv-loop μ-loop
 unfolding Before
-row-fault-requires c κs = (c .before .before .before .before .before .before .before .before .pre .0, (c .before .before .before .before .before .before .before .before .pre .1, (c .before .before .before .loop-test .taken, omega (arith, c .loop2-test .taken, c .before .before .steps-of .ensures .0), for-all (satisfied? (c .before .before .before .before .before .before .before .before .args .entries .now)) (c .before .before .before .before .loop .which) (family (heldBy (c .before .before .before .before .before .before .before .before .args .b .now) (c .before .before .before .before .before .before .before .before .args .c))) .0 (c .before .before .before .before .loop .inv .3))))
+row-fault-requires c κs = (c .before .before .before .before .before .before .before .before .pre .0, (c .before .before .before .before .before .before .before .before .pre .1, (c .before .before .before .loop-test .taken, omega (arith, c .loop2-test .taken, c .before .before .times-of .ensures .0), for-all (satisfied? (c .before .before .before .before .before .before .before .before .args .entries .now)) (c .before .before .before .before .loop .which) (family (heldBy (c .before .before .before .before .before .before .before .before .args .b .now) (c .before .before .before .before .before .before .before .before .args .c))) .0 (c .before .before .before .before .loop .inv .3))))
 
 add-result : tie.Need-add-result Inv-loop2 μ-loop2 Inv-loop μ-loop
-add-result c = omega (arith, c .before .before .before .before .before .loop2 .inv .0, c .before .before .before .before .before .loop2 .inv .1, c .before .before .before .before .before .before .steps-of .ensures .1, c .before .before .before .row-fault .ensures .0 .1, c .before .before .before .before .before .before .before .loop-test .taken, c .before .if1 .taken)
+add-result c = omega (arith, c .before .before .before .before .before .loop2 .inv .0, c .before .before .before .before .before .loop2 .inv .1, c .before .before .before .before .before .before .times-of .ensures .1, c .before .before .before .row-fault .ensures .0 .1, c .before .before .before .before .before .before .before .loop-test .taken, c .before .if1 .taken)
 
 returns : tie.Need-returns Inv-loop2 μ-loop2 Inv-loop μ-loop
-returns c = whole (c .before .before .before .before .before .before .before .before .before .before .before .before .args .b .now) (c .before .before .before .before .before .before .before .before .before .before .before .before .args .c) (c .before .before .before .before .before .before .before .before .before .before .before .before .pre .0) (c .before .before .before .before .before .before .before .before .before .before .before .before .args .entries .now) _ (in-families (heldBy (c .before .before .before .before .before .before .before .before .before .before .before .before .args .b .now) (c .before .before .before .before .before .before .before .before .before .before .before .before .args .c)) (c .before .before .before .before .before .before .before .before .before .before .before .before .args .entries .now) (c .before .before .before .before .before .before .before .before .loop .which) (c .before .before .before .before .before .loop2 .at) (c .before .before .before .before .before .loop2 .t) (c .before .before .before .before .before .before .before .before .loop .inv .3) (c .before .before .before .before .before .loop2 .inv .2) (c .before .before .before .before .before .loop2 .inv .3) (c .before .before .before .row-fault .result .fault) (c .before .before .before .before .before .before .before .loop-test .taken) (omega (arith, c .before .before .before .before .loop2-test .taken, c .before .before .before .before .before .before .steps-of .ensures .0)) (c .before .before .before .row-fault .ensures .1) (omega (arith, c .before .before .before .row-fault .ensures .0 .0, c .before .if1 .taken)))
+returns c = whole (c .before .before .before .before .before .before .before .before .before .before .before .before .args .b .now) (c .before .before .before .before .before .before .before .before .before .before .before .before .args .c) (c .before .before .before .before .before .before .before .before .before .before .before .before .pre .0) (c .before .before .before .before .before .before .before .before .before .before .before .before .args .entries .now) _ (in-families (heldBy (c .before .before .before .before .before .before .before .before .before .before .before .before .args .b .now) (c .before .before .before .before .before .before .before .before .before .before .before .before .args .c)) (c .before .before .before .before .before .before .before .before .before .before .before .before .args .entries .now) (c .before .before .before .before .before .before .before .before .loop .which) (c .before .before .before .before .before .loop2 .at) (c .before .before .before .before .before .loop2 .t) (c .before .before .before .before .before .before .before .before .loop .inv .3) (c .before .before .before .before .before .loop2 .inv .2) (c .before .before .before .before .before .loop2 .inv .3) (c .before .before .before .row-fault .result .fault) (c .before .before .before .before .before .before .before .loop-test .taken) (omega (arith, c .before .before .before .before .loop2-test .taken, c .before .before .before .before .before .before .times-of .ensures .0)) (c .before .before .before .row-fault .ensures .1) (omega (arith, c .before .before .before .row-fault .ensures .0 .0, c .before .if1 .taken)))
 
 add-at : tie.Need-add-at Inv-loop2 μ-loop2 Inv-loop μ-loop
-add-at c = omega (arith, c .before .before .before .before .before .loop2 .inv .0, c .before .before .before .before .before .loop2 .inv .1, c .before .before .before .before .before .before .steps-of .ensures .1, c .before .before .before .row-fault .ensures .0 .1, c .before .before .before .before .before .before .before .loop-test .taken)
+add-at c = omega (arith, c .before .before .before .before .before .loop2 .inv .0, c .before .before .before .before .before .loop2 .inv .1, c .before .before .before .before .before .before .times-of .ensures .1, c .before .before .before .row-fault .ensures .0 .1, c .before .before .before .before .before .before .before .loop-test .taken)
 
 add-t : tie.Need-add-t Inv-loop2 μ-loop2 Inv-loop μ-loop
-add-t c = omega (arith, c .before .before .before .before .loop2-test .taken, c .before .before .before .before .before .before .steps-of .ensures .1)
+add-t c = omega (arith, c .before .before .before .before .loop2-test .taken, c .before .before .before .before .before .before .times-of .ensures .1)
 
 loop2-again : tie.Need-loop2-again Inv-loop2 μ-loop2 Inv-loop μ-loop
 loop2-again c = (
@@ -66,9 +66,9 @@ loop2-again c = (
 
 loop-again : tie.Need-loop-again Inv-loop2 μ-loop2 Inv-loop μ-loop
 loop-again c =
-    let e : c .before .loop2 .t ≡ steps (c .before .before .before .before .before .before .before .before .args .c .sizes) (c .before .before .before .before .loop .which) = omega (arith, c .before .loop2 .inv .0, c .loop2-test .left, c .before .before .steps-of .ensures .0) in
+    let e : c .before .loop2 .t ≡ times (c .before .before .before .before .before .before .before .before .args .c .sizes) (c .before .before .before .before .loop .which) = omega (arith, c .before .loop2 .inv .0, c .loop2-test .left, c .before .before .times-of .ensures .0) in
     let o = next-family (heldBy (c .before .before .before .before .before .before .before .before .args .b .now) (c .before .before .before .before .before .before .before .before .args .c)) (c .before .before .before .before .before .before .before .before .args .entries .now) (c .before .before .before .before .loop .which) (c .before .loop2 .at) (c .before .loop2 .t) (c .before .before .before .before .loop .inv .3) (c .before .loop2 .inv .2) (c .before .loop2 .inv .3) e in
-    (omega (arith, c .before .before .before .loop-test .taken), omega (arith, c .before .loop2 .inv .0, c .before .loop2 .inv .1, c .before .before .steps-of .ensures .1), o .0, o .1)
+    (omega (arith, c .before .before .before .loop-test .taken), omega (arith, c .before .loop2 .inv .0, c .before .loop2 .inv .1, c .before .before .times-of .ensures .1), o .0, o .1)
 
 returns-2 : tie.Need-returns-2 Inv-loop2 μ-loop2 Inv-loop μ-loop
 returns-2 c =
@@ -84,7 +84,7 @@ clause-fault-spec =
     Inv-loop
     μ-loop
     loop-holds
-    steps-of-requires
+    times-of-requires
     loop2-holds
     row-fault-requires
     add-result

@@ -7,7 +7,7 @@ use lib.ListN.{length, getD}
 use lib.Dec.{eqb}
 use Rattle.answers.specs.Fault.{FirstFault}
 use Rattle.answers.proofs.Faults.{fault-ext}
-use Rattle.plan.specs.Plan.{place}
+use Rattle.plan.specs.Plan.{planRow}
 use Rattle.satisfaction.proofs.Bounds.{Products, products, row-fits, blocks-fit}
 use Rattle.satisfaction.proofs.Steps.{shared-agent}
 use Rattle.satisfaction.proofs.Truth.{none-E, here-E}
@@ -34,7 +34,7 @@ mul-result : tie.Need-mul-result
 mul-result c = rw (c .before .before .pair-count .ensures .0) (omega (arith, known (c .before .before .before .before) .E))
 
 returns : tie.Need-returns
-returns c = λ es w c′. rw (c .before .before .pair-count .ensures .0) (none-E (c .before .before .before .before .args .s) es w (place (c .before .before .before .before .args .s) (c .before .before .before .before .args .p .now)) c′ (c .before .before .before .before .args .t) (let h = c .before .before .before .before .pre .1 .1 in omega arith) (c .before .lowest-shared .result) (c .before .lowest-shared .ensures) (c .if1 .taken))
+returns c = λ es w c′. rw (c .before .before .pair-count .ensures .0) (none-E (c .before .before .before .before .args .s) es w (planRow (c .before .before .before .before .args .s) (c .before .before .before .before .args .p .now)) c′ (c .before .before .before .before .args .t) (let h = c .before .before .before .before .pre .1 .1 in omega arith) (c .before .lowest-shared .result) (c .before .lowest-shared .ensures) (c .if1 .taken))
 
 cast-first-on : tie.Need-cast-first-on
 cast-first-on c = omega (arith, c .before .lowest-shared .ensures .within, c .before .before .before .before .pre .0 .n-most)
@@ -74,14 +74,14 @@ add-result : tie.Need-add-result
 add-result c = rw (c .before .before .before .before .before .pair-count .ensures .0) (omega (arith, known (c .before .before .before .before .before .before .before) .E, blocks-fit _ _ (c .before .before .before .before .before .before .before .args .s .k * (c .before .before .before .before .before .before .before .args .s .k - 1) / 2) (c .before .before .before .before .lowest-shared .ensures .within), c .pair-at .ensures .1))
 
 -- the agents behind the first, counted from there
-next : (c : tie.After-pair-at) → FirstFault (c .before .before .before .before .before .before .before .args .s .k - c .before .before .first-on .result - 1) (λ i. not (eqb (place (c .before .before .before .before .before .before .before .args .s) (c .before .before .before .before .before .before .before .args .p .now) (c .before .before .before .before .before .before .before .args .t) (c .before .before .first-on .result + 1 + i)) (c .before .before .before .before .lowest-shared .result))) (c .before .first-on2 .result)
+next : (c : tie.After-pair-at) → FirstFault (c .before .before .before .before .before .before .before .args .s .k - c .before .before .first-on .result - 1) (λ i. not (eqb (planRow (c .before .before .before .before .before .before .before .args .s) (c .before .before .before .before .before .before .before .args .p .now) (c .before .before .before .before .before .before .before .args .t) (c .before .before .first-on .result + 1 + i)) (c .before .before .before .before .lowest-shared .result))) (c .before .first-on2 .result)
 next c =
     fault-ext (λ i h.
     let e : c .before .before .before .before .before .before .before .args .t * c .before .before .before .before .before .before .before .args .s .k + c .before .before .first-on .result + 1 + i ≡ c .before .before .before .before .before .before .before .args .t * c .before .before .before .before .before .before .before .args .s .k + (c .before .before .first-on .result + 1 + i) = omega arith in
     ap (λ (x : ℕ). not (eqb (getD (c .before .before .before .before .before .before .before .args .p .now) x 0) (c .before .before .before .before .lowest-shared .result))) e) (c .before .first-on2 .ensures)
 
 returns-2 : tie.Need-returns-2
-returns-2 c = λ es w c′. rw (c .before .before .before .before .before .pair-count .ensures .0, c .pair-at .ensures .0) (here-E (c .before .before .before .before .before .before .before .args .s) es w (place (c .before .before .before .before .before .before .before .args .s) (c .before .before .before .before .before .before .before .args .p .now)) c′ (c .before .before .before .before .before .before .before .args .t) (let h = c .before .before .before .before .before .before .before .pre .1 .1 in omega arith) (c .before .before .before .before .lowest-shared .result) (c .before .before .before .before .lowest-shared .ensures) (c .before .before .before .if1 .left) (c .before .before .before .before .lowest-shared .result) (c .before .before .first-on .result) (c .before .first-on2 .result) refl (c .before .before .first-on .ensures) (next c))
+returns-2 c = λ es w c′. rw (c .before .before .before .before .before .pair-count .ensures .0, c .pair-at .ensures .0) (here-E (c .before .before .before .before .before .before .before .args .s) es w (planRow (c .before .before .before .before .before .before .before .args .s) (c .before .before .before .before .before .before .before .args .p .now)) c′ (c .before .before .before .before .before .before .before .args .t) (let h = c .before .before .before .before .before .before .before .pre .1 .1 in omega arith) (c .before .before .before .before .lowest-shared .result) (c .before .before .before .before .lowest-shared .ensures) (c .before .before .before .if1 .left) (c .before .before .before .before .lowest-shared .result) (c .before .before .first-on .result) (c .before .first-on2 .result) refl (c .before .before .first-on .ensures) (next c))
 
 pub fault-e-spec : {M : Type 1} → statement M
 fault-e-spec =

@@ -5,7 +5,7 @@ use borrow.Author.Needs.{needs}
 use lib.ListN.{length}
 use Rattle.instance.specs.Limits.{Limits}
 use Rattle.instance.specs.Instance.{adjacent}
-use Rattle.plan.specs.Plan.{place, condition1}
+use Rattle.plan.specs.Plan.{planRow, condition1}
 use Rattle.instance.specs.Accepted.{instanceOf}
 use Rattle.instance.proofs.Accepted.{limits-known}
 use Rattle.satisfaction.proofs.Bounds.{Products, products, row-fits, blocks-fit}
@@ -25,7 +25,7 @@ mul-result c = omega (arith, known (c .before .before .before .before .before) .
 
 returns : tie.Need-returns
 unfolding condition1
-returns c = λ es w c′. none-rowF (c .before .before .before .before .before .args .c .sizes) es w (place (c .before .before .before .before .before .args .c .sizes) (c .before .before .before .before .before .args .p .now)) c′ (adjacent (instanceOf (c .before .before .before .before .before .args .b .now) (c .before .before .before .before .before .args .c))) (c .before .before .before .before .before .args .t) (c .before .before .before .before .before .pre .1 .1) (c .before .step-fault .result) (c .before .step-fault .ensures) (c .if1 .taken)
+returns c = λ es w c′. none-rowF (c .before .before .before .before .before .args .c .sizes) es w (planRow (c .before .before .before .before .before .args .c .sizes) (c .before .before .before .before .before .args .p .now)) c′ (adjacent (instanceOf (c .before .before .before .before .before .args .b .now) (c .before .before .before .before .before .args .c))) (c .before .before .before .before .before .args .t) (c .before .before .before .before .before .pre .1 .1) (c .before .step-fault .result) (c .before .step-fault .ensures) (c .if1 .taken)
 
 mul-result-2 : tie.Need-mul-result-2
 mul-result-2 c = omega (arith, known (c .before .before .before .before .before) .0 .F, blocks-fit _ _ (c .before .before .before .before .before .args .c .sizes .n) (c .before .step-fault .ensures .within))
@@ -44,7 +44,7 @@ add-result c = omega (arith, known (c .before .before .before .before .before .b
 
 returns-2 : tie.Need-returns-2
 unfolding condition1
-returns-2 c = λ es w c′. rw (c .wide .ensures .0) (here-rowF (c .before .before .before .before .before .before .before .args .c .sizes) es w (place (c .before .before .before .before .before .before .before .args .c .sizes) (c .before .before .before .before .before .before .before .args .p .now)) c′ (adjacent (instanceOf (c .before .before .before .before .before .before .before .args .b .now) (c .before .before .before .before .before .before .before .args .c))) (c .before .before .before .before .before .before .before .args .t) (c .before .before .before .before .before .before .before .pre .1 .1) (c .before .before .before .step-fault .result) (c .before .before .before .step-fault .ensures) (c .before .before .if1 .left))
+returns-2 c = λ es w c′. rw (c .wide .ensures .0) (here-rowF (c .before .before .before .before .before .before .before .args .c .sizes) es w (planRow (c .before .before .before .before .before .before .before .args .c .sizes) (c .before .before .before .before .before .before .before .args .p .now)) c′ (adjacent (instanceOf (c .before .before .before .before .before .before .before .args .b .now) (c .before .before .before .before .before .before .before .args .c))) (c .before .before .before .before .before .before .before .args .t) (c .before .before .before .before .before .before .before .pre .1 .1) (c .before .before .before .step-fault .result) (c .before .before .before .step-fault .ensures) (c .before .before .if1 .left))
 
 pub fault-f-spec : {M : Type 1} → statement M
 fault-f-spec =

@@ -10,7 +10,7 @@ use Rattle.answers.specs.Fault.{FirstFault}
 use Rattle.instance.specs.Limits.{Limits}
 use Rattle.instance.specs.Accepted.{instanceOf}
 use Rattle.instance.proofs.Accepted.{limits-known, sizes-same}
-use Rattle.plan.specs.Plan.{place}
+use Rattle.plan.specs.Plan.{planRow}
 use Rattle.satisfaction.proofs.Bounds.{Products, products, two-fit, blocks-fit}
 use Rattle.satisfaction.proofs.Steps.{Enters, enters, plain-2, next-row}
 use Rattle.satisfaction.proofs.Truth.{none-rowG, here-rowG}
@@ -40,11 +40,11 @@ mul-result : tie.Need-mul-result
 mul-result c = omega (arith, known (c .before .before .before .before .before) .G)
 
 -- what the call has found
-fails-2 : (c : tie.After-step-fault) → FirstFault (c .before .before .before .before .args .c .sizes .k) (λ a. eqb (place (c .before .before .before .before .args .c .sizes) (c .before .before .before .before .args .p .now) (c .before .before .before .before .args .t) a) (place (c .before .before .before .before .args .c .sizes) (c .before .before .before .before .args .p .now) (suc (c .before .before .before .before .args .t)) a) || (every (c .before .before .before .before .args .c .sizes .k) λ b. not (eqb (place (c .before .before .before .before .args .c .sizes) (c .before .before .before .before .args .p .now) (c .before .before .before .before .args .t) b) (place (c .before .before .before .before .args .c .sizes) (c .before .before .before .before .args .p .now) (suc (c .before .before .before .before .args .t)) a)))) (c .step-fault .result)
+fails-2 : (c : tie.After-step-fault) → FirstFault (c .before .before .before .before .args .c .sizes .k) (λ a. eqb (planRow (c .before .before .before .before .args .c .sizes) (c .before .before .before .before .args .p .now) (c .before .before .before .before .args .t) a) (planRow (c .before .before .before .before .args .c .sizes) (c .before .before .before .before .args .p .now) (suc (c .before .before .before .before .args .t)) a) || (every (c .before .before .before .before .args .c .sizes .k) λ b. not (eqb (planRow (c .before .before .before .before .args .c .sizes) (c .before .before .before .before .args .p .now) (c .before .before .before .before .args .t) b) (planRow (c .before .before .before .before .args .c .sizes) (c .before .before .before .before .args .p .now) (suc (c .before .before .before .before .args .t)) a)))) (c .step-fault .result)
 fails-2 c = plain-2 (instanceOf (c .before .before .before .before .args .b .now) (c .before .before .before .before .args .c)) (c .before .before .before .before .args .c .sizes) (sizes-same (c .before .before .before .before .args .b .now) (c .before .before .before .before .args .c) (c .before .before .before .before .pre .0)) _ _ (c .step-fault .result) (c .step-fault .ensures)
 
 returns : tie.Need-returns
-returns c = λ es w c′. none-rowG (c .before .before .before .before .before .args .c .sizes) es w (place (c .before .before .before .before .before .args .c .sizes) (c .before .before .before .before .before .args .p .now)) c′ (c .before .before .before .before .before .args .t) (c .before .before .before .before .before .pre .1 .0 .1) (c .before .before .before .before .before .pre .1 .1) (c .before .step-fault .result) (fails-2 (c .before)) (c .if1 .taken)
+returns c = λ es w c′. none-rowG (c .before .before .before .before .before .args .c .sizes) es w (planRow (c .before .before .before .before .before .args .c .sizes) (c .before .before .before .before .before .args .p .now)) c′ (c .before .before .before .before .before .args .t) (c .before .before .before .before .before .pre .1 .0 .1) (c .before .before .before .before .before .pre .1 .1) (c .before .step-fault .result) (fails-2 (c .before)) (c .if1 .taken)
 
 agent : (c : tie.Else1) → c .before .step-fault .result < c .before .before .before .before .before .args .c .sizes .k
 agent c = omega (arith, c .before .step-fault .ensures .within, c .if1 .left)
@@ -65,9 +65,9 @@ mul-result-2 : tie.Need-mul-result-2
 mul-result-2 c = omega (arith, known (c .before .before .before .before .before .before .before) .G, agent (c .before .before), blocks-fit (c .before .before .before .step-fault .result) (c .before .before .before .before .before .before .before .args .c .sizes .k) ((c .before .before .before .before .before .before .before .args .c .sizes .k - 1) * c .before .before .before .before .before .before .before .args .c .sizes .n) (c .before .before .before .step-fault .ensures .within))
 
 -- the agent that stood where the first goes
-entered : (c : tie.After-first-on) → Enters (c .before .before .before .before .before .before .before .args .c .sizes .k) (place (c .before .before .before .before .before .before .before .args .c .sizes) (c .before .before .before .before .before .before .before .args .p .now) (c .before .before .before .before .before .before .before .args .t)) (place (c .before .before .before .before .before .before .before .args .c .sizes) (c .before .before .before .before .before .before .before .args .p .now) (suc (c .before .before .before .before .before .before .before .args .t))) (c .before .before .before .step-fault .result) (c .first-on .result)
+entered : (c : tie.After-first-on) → Enters (c .before .before .before .before .before .before .before .args .c .sizes .k) (planRow (c .before .before .before .before .before .before .before .args .c .sizes) (c .before .before .before .before .before .before .before .args .p .now) (c .before .before .before .before .before .before .before .args .t)) (planRow (c .before .before .before .before .before .before .before .args .c .sizes) (c .before .before .before .before .before .before .before .args .p .now) (suc (c .before .before .before .before .before .before .before .args .t))) (c .before .before .before .step-fault .result) (c .first-on .result)
 entered c =
-    enters (c .before .before .before .before .before .before .before .args .c .sizes .k) (place (c .before .before .before .before .before .before .before .args .c .sizes) (c .before .before .before .before .before .before .before .args .p .now) (c .before .before .before .before .before .before .before .args .t)) (place (c .before .before .before .before .before .before .before .args .c .sizes) (c .before .before .before .before .before .before .before .args .p .now) (suc (c .before .before .before .before .before .before .before .args .t))) (c .before .before .before .step-fault .result) (fails-2 (c .before .before .before)) (c .before .before .if1 .left) _ (c .first-on .result) (next-row (c .before .before .before .before .before .before .before .args .c .sizes) (c .before .before .before .before .before .before .before .args .p .now) (c .before .before .before .before .before .before .before .args .t) (c .before .before .before .step-fault .result)) (c .first-on .ensures)
+    enters (c .before .before .before .before .before .before .before .args .c .sizes .k) (planRow (c .before .before .before .before .before .before .before .args .c .sizes) (c .before .before .before .before .before .before .before .args .p .now) (c .before .before .before .before .before .before .before .args .t)) (planRow (c .before .before .before .before .before .before .before .args .c .sizes) (c .before .before .before .before .before .before .before .args .p .now) (suc (c .before .before .before .before .before .before .before .args .t))) (c .before .before .before .step-fault .result) (fails-2 (c .before .before .before)) (c .before .before .if1 .left) _ (c .first-on .result) (next-row (c .before .before .before .before .before .before .before .args .c .sizes) (c .before .before .before .before .before .before .before .args .p .now) (c .before .before .before .before .before .before .before .args .t) (c .before .before .before .step-fault .result)) (c .first-on .ensures)
 
 mul-result-3 : tie.Need-mul-result-3
 mul-result-3 c = omega (arith, blocks-fit (c .other-at .result) (c .before .before .before .before .before .before .before .before .args .c .sizes .k) (c .before .before .before .before .before .before .before .before .args .c .sizes .n) (omega (arith, c .other-at .ensures .2, c .before .first-on .ensures .within)), known (c .before .before .before .before .before .before .before .before) .F)
@@ -79,7 +79,7 @@ add-result-2 : tie.Need-add-result-2
 add-result-2 c = omega (arith, blocks-fit (c .before .other-at .result) (c .before .before .before .before .before .before .before .before .before .args .c .sizes .k) (c .before .before .before .before .before .before .before .before .before .args .c .sizes .n) (omega (arith, c .before .other-at .ensures .2, c .before .before .first-on .ensures .within)), known (c .before .before .before .before .before .before .before .before .before) .F, c .wide .ensures .1, known (c .before .before .before .before .before .before .before .before .before) .G, blocks-fit (c .before .before .before .before .before .step-fault .result) (c .before .before .before .before .before .before .before .before .before .args .c .sizes .k) ((c .before .before .before .before .before .before .before .before .before .args .c .sizes .k - 1) * c .before .before .before .before .before .before .before .before .before .args .c .sizes .n) (c .before .before .before .before .before .step-fault .ensures .within))
 
 returns-2 : tie.Need-returns-2
-returns-2 c = λ es w c′. rw (c .wide .ensures .0, next-row (c .before .before .before .before .before .before .before .before .before .args .c .sizes) (c .before .before .before .before .before .before .before .before .before .args .p .now) (c .before .before .before .before .before .before .before .before .before .args .t) (c .before .before .before .before .before .step-fault .result)) (here-rowG (c .before .before .before .before .before .before .before .before .before .args .c .sizes) es w (place (c .before .before .before .before .before .before .before .before .before .args .c .sizes) (c .before .before .before .before .before .before .before .before .before .args .p .now)) c′ (c .before .before .before .before .before .before .before .before .before .args .t) (c .before .before .before .before .before .before .before .before .before .pre .1 .0 .1) (c .before .before .before .before .before .before .before .before .before .pre .1 .1) (c .before .before .before .before .before .step-fault .result) (fails-2 (c .before .before .before .before .before)) (c .before .before .first-on .result) (c .before .other-at .result) (entered (c .before .before)) (c .before .other-at .ensures .0) (c .before .other-at .ensures .1))
+returns-2 c = λ es w c′. rw (c .wide .ensures .0, next-row (c .before .before .before .before .before .before .before .before .before .args .c .sizes) (c .before .before .before .before .before .before .before .before .before .args .p .now) (c .before .before .before .before .before .before .before .before .before .args .t) (c .before .before .before .before .before .step-fault .result)) (here-rowG (c .before .before .before .before .before .before .before .before .before .args .c .sizes) es w (planRow (c .before .before .before .before .before .before .before .before .before .args .c .sizes) (c .before .before .before .before .before .before .before .before .before .args .p .now)) c′ (c .before .before .before .before .before .before .before .before .before .args .t) (c .before .before .before .before .before .before .before .before .before .pre .1 .0 .1) (c .before .before .before .before .before .before .before .before .before .pre .1 .1) (c .before .before .before .before .before .step-fault .result) (fails-2 (c .before .before .before .before .before)) (c .before .before .first-on .result) (c .before .other-at .result) (entered (c .before .before)) (c .before .other-at .ensures .0) (c .before .other-at .ensures .1))
 
 pub fault-g-spec : {M : Type 1} → statement M
 fault-g-spec =

@@ -10,10 +10,10 @@ use Rattle.satisfaction.proofs.read_entries.Statement.{statement}
 use Rattle.satisfaction.proofs.read_entries.Tie as tie
 
 abbrev Inv-loop : tie.InvT-loop
-Inv-loop places₀ entries n cells i₀ places i = (i ≤ cells) × Sofar n entries places i
+Inv-loop vertices₀ entries n cells i₀ vertices i = (i ≤ cells) × Sofar n entries vertices i
 
 abbrev μ-loop : tie.MeasureT-loop
-μ-loop places₀ entries n cells i₀ places i = cells - i
+μ-loop vertices₀ entries n cells i₀ vertices i = cells - i
 
 known : (s : tie.Start Inv-loop μ-loop) → Products (s .args .s)
 known s = products (s .args .s) (s .pre .0)
@@ -41,19 +41,19 @@ same-length : tie.Need-same-length Inv-loop μ-loop
 same-length c = c .before .before .before .before .loop .inv .1 .size ∙ sym (c .before .before .before .before .before .before .before .pre .1 .1)
 
 returns : tie.Need-returns Inv-loop μ-loop
-returns c = (sofar-wrong (c .before .before .before .before .before .before .before .args .s .n) (c .before .before .before .before .before .before .before .args .entries .now) (c .before .before .before .before .loop .places) (c .before .before .before .before .loop .i) (c .before .before .before .before .loop .inv .1) (c .before .before .read-row .result .wrong) (c .before .before .read-row .result .place) (c .before .before .read-row .ensures) (variableCount (c .before .before .before .before .before .before .before .args .s)) (room (c .before .before .before) .0) (c .if1 .taken), (c .before .before .before .before .loop .inv .1 .size, λ h. absurd (let f : ⊥ = omega (arith, room (c .before .before .before) .0, c .if1 .taken) in f)))
+returns c = (sofar-wrong (c .before .before .before .before .before .before .before .args .s .n) (c .before .before .before .before .before .before .before .args .entries .now) (c .before .before .before .before .loop .vertices) (c .before .before .before .before .loop .i) (c .before .before .before .before .loop .inv .1) (c .before .before .read-row .result .wrong) (c .before .before .read-row .result .vertex) (c .before .before .read-row .ensures) (variableCount (c .before .before .before .before .before .before .before .args .s)) (room (c .before .before .before) .0) (c .if1 .taken), (c .before .before .before .before .loop .inv .1 .size, λ h. absurd (let f : ⊥ = omega (arith, room (c .before .before .before) .0, c .if1 .taken) in f)))
 
-cast-places : tie.Need-cast-places Inv-loop μ-loop
-cast-places c = let o = c .before .before .before .read-row .ensures .1 (c .before .if1 .left) in omega (arith, o .most, c .before .before .before .before .before .before .before .before .pre .0 .n-most)
+cast-vertices : tie.Need-cast-vertices Inv-loop μ-loop
+cast-vertices c = let o = c .before .before .before .read-row .ensures .1 (c .before .if1 .left) in omega (arith, o .most, c .before .before .before .before .before .before .before .before .pre .0 .n-most)
 
-slice-write-places : tie.Need-slice-write-places Inv-loop μ-loop
-slice-write-places c = omega (arith, known (c .before .before .before .before .before .before .before .before) .cells, c .before .before .before .before .before .before .plan-bytes .ensures .0, c .before .before .before .before .loop-test .taken, c .before .before .before .before .before .loop .inv .1 .size)
+slice-write-vertices : tie.Need-slice-write-vertices Inv-loop μ-loop
+slice-write-vertices c = omega (arith, known (c .before .before .before .before .before .before .before .before) .cells, c .before .before .before .before .before .before .plan-bytes .ensures .0, c .before .before .before .before .loop-test .taken, c .before .before .before .before .before .loop .inv .1 .size)
 
 add-i : tie.Need-add-i Inv-loop μ-loop
 add-i c = omega (arith, known (c .before .before .before .before .before .before .before .before) .cells, c .before .before .before .before .before .before .plan-bytes .ensures .0, c .before .before .before .before .loop-test .taken)
 
 loop-again : tie.Need-loop-again Inv-loop μ-loop
-loop-again c = (omega (arith, c .before .before .before .before .loop-test .taken), sofar-more (c .before .before .before .before .before .before .before .before .args .s .n) (c .before .before .before .before .before .before .before .before .args .entries .now) (c .before .before .before .before .before .loop .places) (c .before .before .before .before .before .loop .i) (c .before .before .before .before .before .loop .inv .1) (c .before .before .before .read-row .result .wrong) (c .before .before .before .read-row .result .place) (c .before .before .before .read-row .ensures) (omega (arith, known (c .before .before .before .before .before .before .before .before) .cells, c .before .before .before .before .before .before .plan-bytes .ensures .0, c .before .before .before .before .loop-test .taken)) (c .before .if1 .left))
+loop-again c = (omega (arith, c .before .before .before .before .loop-test .taken), sofar-more (c .before .before .before .before .before .before .before .before .args .s .n) (c .before .before .before .before .before .before .before .before .args .entries .now) (c .before .before .before .before .before .loop .vertices) (c .before .before .before .before .before .loop .i) (c .before .before .before .before .before .loop .inv .1) (c .before .before .before .read-row .result .wrong) (c .before .before .before .read-row .result .vertex) (c .before .before .before .read-row .ensures) (omega (arith, known (c .before .before .before .before .before .before .before .before) .cells, c .before .before .before .before .before .before .plan-bytes .ensures .0, c .before .before .before .before .loop-test .taken)) (c .before .if1 .left))
 
 mul-result : tie.Need-mul-result Inv-loop μ-loop
 mul-result c = rw (c .before .before .plan-bytes .ensures .0) (omega (arith, known (c .before .before .before .before) .entries))
@@ -64,8 +64,8 @@ same-length-2 c = c .before .loop .inv .1 .size ∙ sym (c .before .before .befo
 returns-2 : tie.Need-returns-2 Inv-loop μ-loop
 returns-2 c =
     let e : c .before .loop .i ≡ suc (c .before .before .before .before .args .s .m) * c .before .before .before .before .args .s .k = omega (arith, c .before .before .plan-bytes .ensures .0, c .before .loop .inv .0, c .loop-test .left) in
-    let o : Sofar (c .before .before .before .before .args .s .n) (c .before .before .before .before .args .entries .now) (c .before .loop .places) (suc (c .before .before .before .before .args .s .m) * c .before .before .before .before .args .s .k) = rw e at (c .before .loop .inv .1) in
-    rw (c .before .before .plan-bytes .ensures .0) (done-right (c .before .before .before .before .args .s) (c .before .before .before .before .args .entries .now) (c .before .before .before .before .pre .1 .0) (c .before .loop .places) o, (o .size, λ h. done-read (c .before .before .before .before .args .s) (c .before .before .before .before .args .entries .now) (c .before .before .before .before .pre .1 .0) (c .before .loop .places) o (known (c .before .before .before .before) .cells)))
+    let o : Sofar (c .before .before .before .before .args .s .n) (c .before .before .before .before .args .entries .now) (c .before .loop .vertices) (suc (c .before .before .before .before .args .s .m) * c .before .before .before .before .args .s .k) = rw e at (c .before .loop .inv .1) in
+    rw (c .before .before .plan-bytes .ensures .0) (done-right (c .before .before .before .before .args .s) (c .before .before .before .before .args .entries .now) (c .before .before .before .before .pre .1 .0) (c .before .loop .vertices) o, (o .size, λ h. done-read (c .before .before .before .before .args .s) (c .before .before .before .before .args .entries .now) (c .before .before .before .before .pre .1 .0) (c .before .loop .vertices) o (known (c .before .before .before .before) .cells)))
 
 pub read-entries-spec : {M : Type 1} → statement M
 read-entries-spec =
@@ -80,8 +80,8 @@ read-entries-spec =
     add-if1
     same-length
     returns
-    cast-places
-    slice-write-places
+    cast-vertices
+    slice-write-vertices
     add-i
     (λ c. search needs)
     loop-again
