@@ -59,9 +59,7 @@ fn write_plan(plan: &mut [u8], p: &[u8])
     requires { ⌜ length (now p) ≤ length (now plan) ⌝ }
     ensures { λ _. ⌜ now (plan .exit) ≡ filled (now (p .entry)) (now (plan .entry)) ⌝ }
 {
-    for i in 0..p.len() {
-        plan[i] = p[i];
-    }
+    bytes::copy(p, plan);
 }
 
 // The call, for every byte string, every number, every list of entries and every slice.

@@ -24,6 +24,11 @@ module _ {A : Type 0} where
   unfolding filled
   filled-length out s h = simp (length-append, length-drop) (omega arith)
 
+  -- all of out, however it is counted
+  pub filled-copy : (out s f : List A) → f ≡ take (length out) out ++ drop (length out) s → f ≡ filled out s
+  unfolding filled
+  filled-copy out s f e = e ∙ ap (λ (k : List A). k ++ drop (length out) s) (take-all (length out) out (le-refl (length out)))
+
   pub take-filled : (out s : List A) → take (length out) (filled out s) ≡ out
   unfolding filled
   take-filled out s = take-append-seam out (drop (length out) s)
