@@ -219,16 +219,8 @@ fn put_number(f: &mut [i32], b: &[u8], c: Checked, number: usize) -> usize
     let which = spot.0;
     let each = spot.1;
     let block = spot.2 / each;
-    let blocks = counts::blocks_at(s, which);
-    put_clause(
-        f,
-        b,
-        c,
-        which,
-        block / blocks,
-        block % blocks,
-        spot.2 % each,
-    )
+    let width = counts::blocks_at(s, which);
+    put_clause(f, b, c, which, block / width, block % width, spot.2 % each)
 }
 
 // The first words of one slice, copied to the start of another.
