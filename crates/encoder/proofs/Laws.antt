@@ -19,8 +19,7 @@ use Rattle.lists.proofs.Slices.{filled-set, filled-part}
 use Rattle.lists.proofs.Loops.{for-length, for-ext}
 use Rattle.lists.proofs.Blocks.{for1-length, place-lt}
 use Rattle.instance.specs.declared.Sizes.{Sizes}
-use Rattle.formula.specs.Variables.{index, highest, variableCount}
-use Rattle.variables.proofs.Laws.{bounds}
+use Rattle.formula.specs.Variables.{variableCount}
 use Rattle.instance.specs.Limits.{Limits}
 use Rattle.formula.proofs.Limits.{variables-most}
 
@@ -67,15 +66,6 @@ module _ {A : Type 0} where
   filled-block g c i h f l ys ef hn ey =
       filled-part f l (for i g) (g i) ys (i * c) ef (for-length i c g h) hn ey
       ∙ ap (λ (j : ℕ). filled (for j g) l) (sym (add-one i))
-
--- the variables of one agent and time are a run
-pub run : (s : Sizes) (t a v : ℕ) → suc (index s t a 0) + v ≡ suc (index s t a v)
-unfolding index
-run s t a v = omega arith
-
-pub run-fits : (s : Sizes) (t a v : ℕ) → Limits s → t ≤ s .m → a < s .k → v < s .n → suc (index s t a 0) + v ≤ highest
-unfolding index
-run-fits s t a v w ht ha hv = omega (arith, bounds s t a w ht ha .cells, w .n-most)
 
 -- where agent a of row t stands in the plan, and the block of its entries in the row
 pub record Room (s : Sizes) (t a : ℕ) : Type 0 where

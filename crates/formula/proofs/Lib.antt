@@ -1,4 +1,5 @@
 pub mod Counts
+pub mod Variables
 pub mod Limits
 pub mod Places
 pub mod Blocks

@@ -1,8 +1,7 @@
--- Bounds of X's number; signed numbers as they are stored; a comparison of two of them.
+-- Signed numbers as they are stored; a comparison of two of them.
 use mathlib.Core.Path.{_≡_, refl, sym, _∙_, ap, ap₂}
-use Prim.Native.Nat.{ℕ, zero, suc, _+_, _*_, _≤_, _<_}
+use Prim.Native.Nat.{ℕ, zero, suc, _+_, _≤_}
 use mathlib.Core.Logic.{by-cases}
-use native.Mathlib.Nat.{mul-le-mul}
 use native.Mathlib.Decide.{ℕ-discrete}
 use native.Mathlib.Omega.{arith}
 use mathlib.Core.Bool.{true, false}
@@ -12,20 +11,8 @@ use lib.IntN.{ℤ, pos, negsuc, negℤ, _-ℤ_, +ℤ-idl, negℤ-+ℤ}
 use mir.Syntax.{w32}
 use mir.Val.{SFits, toZ, ofZ}
 use mir.Facts.{toZ-pos, toZ-ofZ}
-use Rattle.instance.specs.declared.Sizes.{Sizes}
-use Rattle.instance.specs.Limits.{Limits}
 use Rattle.formula.specs.Variables.{highest}
 use Rattle.valuation.specs.Valuation.{sameNumber}
-
--- the products in X's number
-pub record Bounds (s : Sizes) (t a : ℕ) : Type 0 where
-  pub rows : t * s .k ≤ 512
-  pub cells : (t * s .k + a) * s .n ≤ 33728
-
-pub bounds : (s : Sizes) (t a : ℕ) → Limits s → t ≤ s .m → a < s .k → Bounds s t a
-bounds s t a w ht ha =
-    let r : t * s .k ≤ 512 = mul-le-mul {n₂ = 32} {m₂ = 16} (omega (arith, w .m-most)) (w .k-most) in
-    record { rows = r; cells = mul-le-mul {n₂ = 527} {m₂ = 64} (omega (arith, w .k-most)) (w .n-most) }
 
 -- numbers that fit 32 bits with a sign
 pub pos-fits : {x : ℕ} → x ≤ highest → SFits w32 (pos x)

@@ -1,6 +1,7 @@
 -- `encoder::write_agent` meets its contract: before turn v the negatives below v stand in the slice; the last store makes one of them
 -- true. Assumes nothing.
-use Rattle.encoder.proofs.Laws.{filled-next, filled-but, filled-none, run, run-fits}
+use Rattle.encoder.proofs.Laws.{filled-next, filled-but, filled-none}
+use Rattle.formula.proofs.Variables.{vertices-run, vertices-fit}
 use mathlib.Core.Path.{_≡_, refl, sym, _∙_, ap}
 use mathlib.Core.List.{List, [], _∷_}
 use Prim.Native.Nat.{ℕ, _+_, _-_, _≤_}
@@ -37,7 +38,7 @@ loop-holds c = (omega arith, refl, sym (filled-nil _))
 
 negation-after-requires : tie.Need-negation-after-requires Inv-loop μ-loop
 negation-after-requires c κs =
-    rw (c .before .before .variable-of .ensures .0) (run-fits (c .before .before .before .args .s) (c .before .before .before .args .t .0) (c .before .before .before .args .a .0) (c .before .loop .v) (c .before .before .before .pre .0) (c .before .before .before .pre .1 .0) (c .before .before .before .pre .1 .1) (omega arith))
+    omega (arith, c .before .before .variable-of .ensures .0, vertices-fit (c .before .before .before .args .s) (c .before .before .before .args .t .0) (c .before .before .before .pre .0) (c .before .before .before .args .a .0) (c .before .before .before .pre .1 .0) (c .before .before .before .pre .1 .1), c .loop-test .taken)
 
 mul-t13 : tie.Need-mul-t13 Inv-loop μ-loop
 mul-t13 c = let w = c .before .before .before .before .pre .0 .n-most in omega arith
@@ -53,7 +54,7 @@ loop-again c = (
       (toZ-ofZ (sfits-of (c .negation-after .ok))
       ∙ c .negation-after .ensures
       ∙ ap (λ (i : ℕ). negℤ (pos (i + c .before .before .loop .v))) (c .before .before .before .variable-of .ensures .0)
-      ∙ ap (λ (i : ℕ). negℤ (pos i)) (run (c .before .before .before .before .args .s) (c .before .before .before .before .args .t .0) (c .before .before .before .before .args .a .0) (c .before .before .loop .v))),
+      ∙ ap (λ (i : ℕ). negℤ (pos i)) (vertices-run (c .before .before .before .before .args .s) (c .before .before .before .before .args .t .0) (c .before .before .before .before .args .a .0) (c .before .before .loop .v))),
 )
 
 variable-of-requires-2 : tie.Need-variable-of-requires-2 Inv-loop μ-loop

@@ -2,7 +2,7 @@
 use native.Mathlib.Omega.{arith}
 use native.Mathlib.Numerals.{add-one}
 use Rattle.formula.specs.Variables.{index}
-use Rattle.variables.proofs.Laws.{Bounds, bounds}
+use Rattle.formula.proofs.Variables.{Bounds, bounds}
 use Rattle.variables.proofs.variable_of.Statement.{statement}
 use Rattle.variables.proofs.variable_of.Tie as tie
 
