@@ -2,9 +2,7 @@
 use answers::Answer;
 use instance::Checked;
 ghost use mathlib.Core.Path.{_≡_};
-ghost use Prim.Native.Nat.{_≤_};
 ghost use lib.ListN.{length, take};
-ghost use Rattle.lists.specs.Slice.{filled};
 ghost use Rattle.answers.specs.Answers.{decide};
 ghost use Rattle.plan.specs.Plan.{planBytes};
 ghost use Rattle.valuation.specs.Valuation.{namedPlan};
@@ -54,14 +52,6 @@ fn ask_entries(vertices: &mut [u8], b: &[u8], c: Checked, entries: &[i32], size:
     }
 }
 
-// The plan, first in the slice.
-fn write_plan(plan: &mut [u8], p: &[u8])
-    requires { ⌜ length (now p) ≤ length (now plan) ⌝ }
-    ensures { λ _. ⌜ now (plan .exit) ≡ filled (now (p .entry)) (now (plan .entry)) ⌝ }
-{
-    bytes::copy(p, plan);
-}
-
 // The call, for every byte string, every number, every list of entries and every slice.
 pub fn decode(b: &[u8], m: usize, entries: &[i32], plan: &mut [u8]) -> Answer
     ensures { λ r. ⌜ r ≡ decodeAnswer (now (b .entry)) m (now (entries .entry)) (length (now (plan .entry))) ⌝ }
@@ -79,6 +69,6 @@ pub fn decode(b: &[u8], m: usize, entries: &[i32], plan: &mut [u8]) -> Answer
         return answer;
     }
     let bytes = answer.second;
-    write_plan(plan, &vertices[0..bytes]);
+    bytes::copy(&vertices[0..bytes], plan);
     answer
 }

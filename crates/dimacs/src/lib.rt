@@ -158,20 +158,12 @@ pub fn put_words(out: &mut [u8], texts: &[u8], words: &[i32]) -> usize
     at
 }
 
-// Text that is there already.
-fn put_text(out: &mut [u8], text: &[u8])
-    requires { ⌜ length (now text) ≤ length (now out) ⌝ }
-    ensures { λ _. ⌜ now (out .exit) ≡ filled (now (text .entry)) (now (out .entry)) ⌝ }
-{
-    bytes::copy(text, out);
-}
-
 // A line: a label, two numbers with a space between them, and the line's end.
 fn put_line(out: &mut [u8], label: &[u8], x: usize, y: usize) -> usize
     requires { ⌜ length (now label) + 42 ≤ length (now out) ⌝ }
     ensures { λ r. ⌜ Wrote (now (label .entry) ++ (ended x 32 ++ ended y 10)) (now (out .entry)) (now (out .exit)) r × (r ≤ length (now (label .entry)) + 42) ⌝ }
 {
-    put_text(out, label);
+    bytes::copy(label, out);
     let n = label.len();
     let to = n + put_ended(&mut out[n..], x, b' ');
     to + put_ended(&mut out[to..], y, b'\n')

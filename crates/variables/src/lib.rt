@@ -50,15 +50,7 @@ pub fn negation_after(x: Variable, by: usize) -> i32
     negation_of(x) - by as i32
 }
 
-// Does an entry say the variable? Any entry is compared, the lowest number too.
-pub fn is_literal(entry: i32, x: Variable) -> bool
-    requires { ⌜ x .0 ≤ highest ⌝ }
-    ensures { λ r. ⌜ r ≡ sameNumber entry (pos (x .0)) ⌝ }
-{
-    entry == literal_of(x)
-}
-
-// Does an entry say the negation of the variable `by` after x?
+// Does an entry say the negation of the variable `by` after x? Any entry is compared, the lowest number too.
 pub fn is_negation(entry: i32, x: Variable, by: usize) -> bool
     requires { ⌜ x .0 + by ≤ highest ⌝ }
     ensures { λ r. ⌜ r ≡ sameNumber entry (negℤ (pos (x .0 + by))) ⌝ }

@@ -6,6 +6,7 @@ use native.Mathlib.Omega.{arith}
 use lib.ListN.{length, take}
 use lib.Seq.{length-take-le}
 use Rattle.lists.specs.Slice.{filled}
+use Rattle.lists.proofs.Slices.{filled-copy}
 use Rattle.answers.specs.declared.Answer.{Answer}
 use Rattle.answers.specs.Answers.{Question}
 use Rattle.instance.specs.declared.Sizes.{Sizes}
@@ -43,14 +44,14 @@ returns-2 c =
     let e = call-answers (c .before .before .before .before .before .before .before .before .before .before .before .before .args .b .now) (c .before .before .before .before .before .before .before .before .before .before .before .before .args .m) (c .before .before .before .before .before .before .before .before .before .check-instance .result .answer) (c .before .before .before .before .before .before .before .before .before .check-instance .result .checked) (c .before .before .before .before .before .before .before .before .before .check-instance .ensures .0) (c .before .before .before .before .before .before .before .before .before .check-instance .ensures .1) (asks (c .before .before .before .before .before .before .before .before .before .before .before .before)) count (c .before .before .before .before .before .before .if1 .left) (c .before .before .before .ask-entries .result) (c .before .before .before .ask-entries .ensures .0) in
     (e, slice-refused _ (c .before .before .before .ask-entries .result) e _ (c .before .before .before .before .before .before .before .before .before .before .before .before .args .plan .now) (c .if2 .taken))
 
-part-write-plan-end : tie.Need-part-write-plan-end
-part-write-plan-end c =
-    let w = passed (c .before .before .before .before .before .before .before .before .before .before .before .before .before .before .args .b .now) (c .before .before .before .before .before .before .before .before .before .before .before .before .before .before .args .m) (c .before .before .before .before .before .before .before .before .before .before .before .check-instance .result .answer) (c .before .before .before .before .before .before .before .before .before .before .before .check-instance .result .checked) (c .before .before .before .before .before .before .before .before .before .before .before .check-instance .ensures .0) (c .before .before .before .before .before .before .before .before .before .before .before .check-instance .ensures .1) (c .before .before .before .before .before .before .before .before .if1 .left) in
-    let d = c .before .before .before .before .before .ask-entries .ensures .1 .1 (c .before .before .if2 .left) in
-    omega (arith, d .0, c .before .before .before .before .before .ask-entries .ensures .1 .0, rows _ (limits-known _ _ w))
+part-copy-end : tie.Need-part-copy-end
+part-copy-end c =
+    let w = passed (c .before .before .before .before .before .before .before .before .before .before .before .before .before .args .b .now) (c .before .before .before .before .before .before .before .before .before .before .before .before .before .args .m) (c .before .before .before .before .before .before .before .before .before .before .check-instance .result .answer) (c .before .before .before .before .before .before .before .before .before .before .check-instance .result .checked) (c .before .before .before .before .before .before .before .before .before .before .check-instance .ensures .0) (c .before .before .before .before .before .before .before .before .before .before .check-instance .ensures .1) (c .before .before .before .before .before .before .before .if1 .left) in
+    let d = c .before .before .before .before .ask-entries .ensures .1 .1 (c .before .if2 .left) in
+    omega (arith, d .0, c .before .before .before .before .ask-entries .ensures .1 .0, rows _ (limits-known _ _ w))
 
-write-plan-requires : tie.Need-write-plan-requires
-write-plan-requires c κs =
+copy-requires : tie.Need-copy-requires
+copy-requires c κs =
     let w = passed (c .before .before .before .before .before .before .before .before .before .before .before .before .before .before .before .args .b .now) (c .before .before .before .before .before .before .before .before .before .before .before .before .before .before .before .args .m) (c .before .before .before .before .before .before .before .before .before .before .before .before .check-instance .result .answer) (c .before .before .before .before .before .before .before .before .before .before .before .before .check-instance .result .checked) (c .before .before .before .before .before .before .before .before .before .before .before .before .check-instance .ensures .0) (c .before .before .before .before .before .before .before .before .before .before .before .before .check-instance .ensures .1) (c .before .before .before .before .before .before .before .before .before .if1 .left) in
     let d = c .before .before .before .before .before .before .ask-entries .ensures .1 .1 (c .before .before .before .if2 .left) in
     let y = ready (c .before .before .before .before .before .before .before .before .before .before .before .before .before .before .before .args .b .now) (c .before .before .before .before .before .before .before .before .before .before .before .before .check-instance .result .checked) w (c .before .before .before .before .before .before .before .before .before .before .before .before .before .before .before .args .entries .now) (length (c .before .before .before .before .before .before .before .before .before .before .before .before .before .before .before .args .plan .now)) (sym (ap (λ (a : Answer). a .number) (c .before .before .before .before .before .before .ask-entries .ensures .0)) ∙ c .before .before .before .if2 .left) in
@@ -66,7 +67,7 @@ returns-3 c =
     let same = sizes-same _ _ w ∙ ap (λ (J : Instance). J .sizes) (horizon (c .before .before .before .before .before .before .before .before .before .before .before .before .before .before .before .before .before .before .args .b .now) (c .before .before .before .before .before .before .before .before .before .before .before .before .before .before .before .before .before .before .args .m) (c .before .before .before .before .before .before .before .before .before .before .before .before .before .before .before .check-instance .result .answer) (c .before .before .before .before .before .before .before .before .before .before .before .before .before .before .before .check-instance .result .checked) (c .before .before .before .before .before .before .before .before .before .before .before .before .before .before .before .check-instance .ensures .0) (c .before .before .before .before .before .before .before .before .before .before .before .before .before .before .before .check-instance .ensures .1) (c .before .before .before .before .before .before .before .before .before .before .before .before .if1 .left)) in
     let n : c .before .before .before .before .before .before .before .before .before .ask-entries .result .second - 0 ≡ planBytes (c .before .before .before .before .before .before .before .before .before .before .before .before .before .before .before .check-instance .result .checked .sizes) = omega (arith, d .0) in (
       e,
-      c .before .before .write-plan .ensures ∙ ap (λ (x : ℕ). filled (take x (c .before .before .before .before .before .before .before .before .before .ask-entries .last .0)) (c .before .before .before .before .before .before .before .before .before .before .before .before .before .before .before .before .before .before .args .plan .now)) n
+      filled-copy _ _ _ (c .before .before .copy .ensures .1) ∙ ap (λ (x : ℕ). filled (take x (c .before .before .before .before .before .before .before .before .before .ask-entries .last .0)) (c .before .before .before .before .before .before .before .before .before .before .before .before .before .before .before .before .before .before .args .plan .now)) n
           ∙ ap (λ (l : List ℕ). filled l (c .before .before .before .before .before .before .before .before .before .before .before .before .before .before .before .before .before .before .args .plan .now)) (d .1)
           ∙ ap (λ (s : Sizes). filled (namedPlan s (c .before .before .before .before .before .before .before .before .before .before .before .before .before .before .before .before .before .before .args .entries .now)) (c .before .before .before .before .before .before .before .before .before .before .before .before .before .before .before .before .before .before .args .plan .now)) same
           ∙ slice-filled _ (c .before .before .before .before .before .before .before .before .before .ask-entries .result) e _ (c .before .before .before .before .before .before .before .before .before .before .before .before .before .before .before .before .before .before .args .plan .now) (c .before .before .before .before .before .before .if2 .left),
@@ -83,7 +84,7 @@ decode-spec =
     returns-2
     (λ c. search needs)
     (λ c. search needs)
-    part-write-plan-end
-    write-plan-requires
+    part-copy-end
+    copy-requires
     (λ c. search needs)
     returns-3)

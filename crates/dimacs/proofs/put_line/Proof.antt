@@ -5,7 +5,7 @@ use Prim.Native.Nat.{ℕ, _+_}
 use native.Mathlib.Omega.{arith}
 use lib.ListN.{length, length-take, length-drop, length-append}
 use Rattle.lists.specs.Slice.{filled}
-use Rattle.lists.proofs.Slices.{filled-part}
+use Rattle.lists.proofs.Slices.{filled-part, filled-copy}
 use Rattle.dimacs.specs.Text.{ended}
 use Rattle.dimacs.proofs.Laws.{length-any}
 use borrow.Author.Needs.{needs}
@@ -39,7 +39,7 @@ returns c =
     let p = c .before .before .before .before .before .before .put-ended .ensures in
     let q = c .before .before .put-ended2 .ensures in
     let n : length label + c .before .before .before .before .before .before .put-ended .result ≡ length (label ++ x) = omega (arith, p .0 .0, length-append label x) in
-    let e = filled-part (c .before .before .before .before .before .before .before .before .before .before .put-text .last .0) s label x (c .before .before .before .before .before .before .put-ended .last .0) (length label) (c .before .before .before .before .before .before .before .before .before .before .put-text .ensures) refl (omega arith) (p .0 .1) in (
+    let e = filled-part (c .before .before .before .before .before .before .before .before .before .before .copy .last .1 .0) s label x (c .before .before .before .before .before .before .put-ended .last .0) (length label) (filled-copy _ _ _ (c .before .before .before .before .before .before .before .before .before .before .copy .ensures .1)) refl (omega arith) (p .0 .1) in (
       (
         omega (arith, p .0 .0, q .0 .0, length-append label (x ++ y), length-append x y),
         filled-part _ s (label ++ x) y (c .before .before .put-ended2 .last .0) (length label + c .before .before .before .before .before .before .put-ended .result) e (sym n) (omega (arith, p .1)) (q .0 .1) ∙ ap (λ (t : List ℕ). filled t s) (append-assoc label x y),
