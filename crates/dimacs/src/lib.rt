@@ -1,12 +1,12 @@
 // The text of a formula, written to the start of the slice that is lent. The answer is the number of bytes.
 ghost use mathlib.Core.Path.{_≡_};
 ghost use mathlib.Core.List.{_++_};
-ghost use Prim.Native.Nat.{_+_, _*_, _≤_, _<_};
-ghost use lib.IntN.{pos, natAbs};
+ghost use Prim.Native.Nat.{_+_, _*_, _/_, _≤_, _<_};
+ghost use lib.IntN.{pos, negℤ, natAbs};
 ghost use lib.ListN.{length, take};
 ghost use Rattle.lists.specs.Slice.{filled, Wrote};
 ghost use Rattle.dimacs.specs.Text.{digit, decimal, ended, after, wordText, wordsText, headerText, refusalText};
-ghost use Rattle.dimacs.specs.Table.{Begins, Entry, Texts};
+ghost use Rattle.dimacs.specs.Table.{Begins, Entry, Sized, Numbers, Negatives, Texts, entryOf, Within, Pairs, pairText};
 
 // The byte of a digit.
 fn digit_of(d: usize) -> u8
@@ -58,24 +58,13 @@ fn end_of(x: usize) -> u8
     b' '
 }
 
-// An entry of the table of texts: the text of the word x, and its length in the eighth byte.
+// An entry of the table of texts: the text of the number x, and its length in the eighth byte.
 fn put_entry(out: &mut [u8], x: usize)
-    requires { ⌜ (x < 1000000) × (8 ≤ length (now out)) ⌝ }
-    ensures { λ _. ⌜ Entry x (take 8 (now (out .exit))) ⌝ }
+    requires { ⌜ (x < 100000) × (8 ≤ length (now out)) ⌝ }
+    ensures { λ _. ⌜ Entry (pos x) (take 8 (now (out .exit))) ⌝ }
 {
     let n = put_ended(out, x, end_of(x));
     out[7] = n as u8;
-}
-
-// The table of texts of the words below count.
-pub fn put_texts(texts: &mut [u8], count: usize)
-    requires { ⌜ (count ≤ 1000000) × (8 * count ≤ length (now texts)) ⌝ }
-    ensures { λ _. ⌜ Texts (take (8 * count) (now (texts .exit))) ⌝ }
-{
-    for x in 0..count {
-        let at = 8 * x;
-        put_entry(&mut texts[at..], x);
-    }
 }
 
 // Eight bytes, all read before the first is written, so that they are copied as one.
@@ -101,25 +90,84 @@ fn copy_eight(out: &mut [u8], from: &[u8])
     out[7] = h;
 }
 
-// The text of the word x, from its entry.
-fn put_known(out: &mut [u8], texts: &[u8], x: usize) -> usize
-    requires { ⌜ Texts (now texts) × (8 * x + 8 ≤ length (now texts)) × (8 ≤ length (now out)) ⌝ }
-    ensures { λ r. ⌜ Begins (wordText (pos x)) (now (out .exit)) r ⌝ }
+// The entry of x from that of x / 10: one digit more.
+fn put_longer(out: &mut [u8], tenth: &[u8; 8], x: usize)
+    requires { ⌜ Entry (pos (x / 10)) (now tenth) × (10 ≤ x) × (x < 100000) × (8 ≤ length (now out)) ⌝ }
+    ensures { λ _. ⌜ Entry (pos x) (take 8 (now (out .exit))) ⌝ }
 {
-    let at = 8 * x;
-    copy_eight(out, &texts[at..]);
-    texts[at + 7] as usize
+    copy_eight(out, tenth);
+    let n = tenth[7] as usize;
+    out[n - 1] = digit_of(x % 10);
+    out[n] = b' ';
+    out[7] = (n + 1) as u8;
 }
 
-// The text of the word x.
-fn put_size(out: &mut [u8], texts: &[u8], x: usize) -> usize
-    requires { ⌜ Texts (now texts) × (x ≤ 2147483648) × (11 ≤ length (now out)) ⌝ }
-    ensures { λ r. ⌜ Begins (wordText (pos x)) (now (out .exit)) r × (r ≤ 11) ⌝ }
+// The entry of -x from that of x: a minus sign, and the text of x.
+fn put_negated(out: &mut [u8], entry: &[u8; 8], x: usize)
+    requires { ⌜ Entry (pos x) (now entry) × (0 < x) × (x < 100000) × (8 ≤ length (now out)) ⌝ }
+    ensures { λ _. ⌜ Entry (negℤ (pos x)) (take 8 (now (out .exit))) ⌝ }
 {
-    if x < texts.len() / 8 {
-        return put_known(out, texts, x);
+    out[0] = b'-';
+    out[1] = entry[0];
+    out[2] = entry[1];
+    out[3] = entry[2];
+    out[4] = entry[3];
+    out[5] = entry[4];
+    out[6] = entry[5];
+    out[7] = entry[7] + 1;
+}
+
+// The entry of x, in a table that has those of the numbers below x.
+fn put_positive(texts: &mut [u8], top: usize, x: usize)
+    requires { ⌜ Sized top (now texts) × (x ≤ top) × Numbers top x (now texts) ⌝ }
+    ensures { λ _. ⌜ Numbers top (x + 1) (now (texts .exit)) ⌝ }
+{
+    let at = 8 * (top + x);
+    let to = at + 8;
+    if 10 <= x {
+        let from = 8 * (top + x / 10);
+        let mut tenth = [0u8; 8];
+        copy_eight(&mut tenth, &texts[from..]);
+        put_longer(&mut texts[at..to], &tenth, x);
+        return;
     }
-    put_ended(out, x, end_of(x))
+    put_entry(&mut texts[at..to], x);
+}
+
+// The entry of -x, in a table that has those of all numbers and of the negatives of those below x.
+fn put_negative(texts: &mut [u8], top: usize, x: usize)
+    requires { ⌜ Sized top (now texts) × (0 < x) × (x ≤ top) × Numbers top (top + 1) (now texts) × Negatives top x (now texts) ⌝ }
+    ensures { λ _. ⌜ Numbers top (top + 1) (now (texts .exit)) × Negatives top (x + 1) (now (texts .exit)) ⌝ }
+{
+    let from = 8 * (top + x);
+    let mut entry = [0u8; 8];
+    copy_eight(&mut entry, &texts[from..]);
+    let at = 8 * (top - x);
+    let to = at + 8;
+    put_negated(&mut texts[at..to], &entry, x);
+}
+
+// The entries of the numbers from 0 to top.
+fn put_numbers(texts: &mut [u8], top: usize)
+    requires { ⌜ Sized top (now texts) ⌝ }
+    ensures { λ _. ⌜ Numbers top (top + 1) (now (texts .exit)) ⌝ }
+{
+    let end = top + 1;
+    for x in 0..end {
+        put_positive(texts, top, x);
+    }
+}
+
+// The table of the texts of the words from -top to top.
+pub fn put_texts(texts: &mut [u8], top: usize)
+    requires { ⌜ Sized top (now texts) ⌝ }
+    ensures { λ _. ⌜ Texts top (now (texts .exit)) ⌝ }
+{
+    put_numbers(texts, top);
+    let end = top + 1;
+    for x in 1..end {
+        put_negative(texts, top, x);
+    }
 }
 
 // The size of a word, the lowest one's too.
@@ -132,28 +180,62 @@ fn size_of(w: i32) -> usize
     w as usize
 }
 
-// The text of a word.
-fn put_word(out: &mut [u8], texts: &[u8], w: i32) -> usize
-    requires { ⌜ Texts (now texts) × (12 ≤ length (now out)) ⌝ }
-    ensures { λ r. ⌜ Begins (wordText w) (now (out .exit)) r × (r ≤ 12) ⌝ }
+// The number of a word's entry.
+fn entry_of(w: i32, top: usize) -> usize
+    requires { ⌜ (top < 100000) × (natAbs w ≤ top) ⌝ }
+    ensures { λ r. ⌜ r ≡ entryOf top w ⌝ }
 {
     let x = size_of(w);
     if w < 0 {
-        out[0] = b'-';
-        return 1 + put_size(&mut out[1..], texts, x);
+        return top - x;
     }
-    put_size(out, texts, x)
+    top + x
 }
 
-// The words of clauses, a line for each clause. Bytes behind the text are written over.
-pub fn put_words(out: &mut [u8], texts: &[u8], words: &[i32]) -> usize
-    requires { ⌜ Texts (now texts) × (12 * length (now words) ≤ length (now out)) ⌝ }
-    ensures { λ r. ⌜ Begins (wordsText (now (words .entry))) (now (out .exit)) r × (r ≤ 12 * length (now (words .entry))) ⌝ }
+// The text of a word. Bytes behind it, up to the eighth, are written over; so it is with the functions below.
+fn put_word(out: &mut [u8], texts: &[u8], top: usize, w: i32) -> usize
+    requires { ⌜ Texts top (now texts) × (natAbs w ≤ top) × (8 ≤ length (now out)) ⌝ }
+    ensures { λ r. ⌜ Begins (wordText w) (now (out .exit)) r × (r ≤ 8) ⌝ }
+{
+    let at = 8 * entry_of(w, top);
+    copy_eight(out, &texts[at..]);
+    texts[at + 7] as usize
+}
+
+// The words of clauses, a line for each clause.
+pub fn put_words(out: &mut [u8], texts: &[u8], top: usize, words: &[i32]) -> usize
+    requires { ⌜ Texts top (now texts) × Within top (now words) × (8 * length (now words) ≤ length (now out)) ⌝ }
+    ensures { λ r. ⌜ Begins (wordsText (now (words .entry))) (now (out .exit)) r × (r ≤ 8 * length (now (words .entry))) ⌝ }
 {
     let end = words.len();
     let mut at: usize = 0;
     for i in 0..end {
-        at += put_word(&mut out[at..], texts, words[i]);
+        at += put_word(&mut out[at..], texts, top, words[i]);
+    }
+    at
+}
+
+// A clause of two literals.
+fn put_pair(out: &mut [u8], texts: &[u8], top: usize, x: i32, y: i32) -> usize
+    requires { ⌜ Texts top (now texts) × (natAbs x ≤ top) × (natAbs y ≤ top) × (24 ≤ length (now out)) ⌝ }
+    ensures { λ r. ⌜ Begins (pairText x y) (now (out .exit)) r × (r ≤ 24) ⌝ }
+{
+    let m = put_word(out, texts, top, x);
+    let n = m + put_word(&mut out[m..], texts, top, y);
+    out[n] = b'0';
+    out[n + 1] = b'\n';
+    n + 2
+}
+
+// The words of clauses of two literals each: what `put_words` writes, without a look at each 0.
+pub fn put_pairs(out: &mut [u8], texts: &[u8], top: usize, words: &[i32]) -> usize
+    requires { ⌜ Texts top (now texts) × Within top (now words) × Pairs (now words) × (8 * length (now words) ≤ length (now out)) ⌝ }
+    ensures { λ r. ⌜ Begins (wordsText (now (words .entry))) (now (out .exit)) r × (r ≤ 8 * length (now (words .entry))) ⌝ }
+{
+    let end = words.len() / 3;
+    let mut at: usize = 0;
+    for i in 0..end {
+        at += put_pair(&mut out[at..], texts, top, words[3 * i], words[3 * i + 1]);
     }
     at
 }

@@ -1,8 +1,9 @@
 -- The families by number, A 0 to G 6, and the blocks of each, as the code goes through them.
 -- It states nothing about clauses: those stand in `Formula`.
 use mathlib.Core.List.{List, [], _∷_}
-use mathlib.Core.Bool.{Bool}
+use mathlib.Core.Bool.{Bool, _||_}
 use Prim.Native.Nat.{ℕ, suc}
+use lib.Dec.{eqb}
 use lib.ListN.{getD}
 use Rattle.instance.specs.declared.Sizes.{Sizes}
 use Rattle.instance.specs.declared.Checked.{Checked}
@@ -37,6 +38,10 @@ module _ (s : Sizes) where
 
   unfoldable pub blocksAt : ℕ → ℕ
   blocksAt j = getD (k ∷ k ∷ k ∷ k ∷ n ∷ k ∷ k ∷ []) j 0
+
+-- the families whose clauses have two literals each: D, E and G
+abbrev pub paired : ℕ → Bool
+paired j = eqb j 3 || eqb j 4 || eqb j 6
 
 module _ (g : Given) where
   open Given g using (sizes, start, goal, near)

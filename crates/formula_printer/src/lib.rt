@@ -1,23 +1,69 @@
-// The printing of the formula program: the text of a given input, to standard output, block by block.
+// The formula program: the text of what stands in standard input, to standard output. It is gathered and written in pieces of
+// 64 KiB or more; the first write that fails ends the program, and so does a read that fails.
 use instance::Checked;
 use instance::Sizes;
+ghost use mathlib.Core.Path.{_≡_};
 ghost use Prim.Native.Nat.{_*_, _≤_, _<_};
+ghost use lib.Dec.{T};
 ghost use lib.ListN.{length};
 ghost use Rattle.instance.specs.Accepted.{Accepted};
-ghost use Rattle.formula.specs.Blocks.{times, blocksAt};
+ghost use Rattle.formula.specs.Variables.{variableCount};
+ghost use Rattle.formula.specs.Blocks.{times, blocksAt, paired};
 ghost use Rattle.families.specs.Held.{heldIn, Ready};
-ghost use Rattle.dimacs.specs.Table.{Texts};
+ghost use Rattle.dimacs.specs.Text.{wordsText};
+ghost use Rattle.dimacs.specs.Table.{Begins, Texts, Within, Pairs};
 ghost use Rattle.formula_printer.specs.Room.{Room, Block};
 
-// The text of a block of words.
-fn print_words(words: &[i32], text: &mut [u8], texts: &[u8])
-    requires { ⌜ Texts (now texts) × (12 * length (now words) ≤ length (now text)) ⌝ }
-{
-    let n = dimacs::put_words(text, texts, words);
-    io::write_all(1, &text[0..n]);
+// The exit status: the formula was printed, the instance was refused, or a read or a write failed.
+pub const DONE: u32 = 0;
+
+pub const REFUSED: u32 = 1;
+
+pub const FAILED: u32 = 2;
+
+// The text so far: the bytes before `at` are gathered and not yet written. It is not `ok` where a write failed.
+pub struct Gathered {
+    pub ok: bool,
+    pub at: usize,
 }
 
-// The block of t and x of a family.
+// Writes what is gathered where it is 64 KiB or more.
+fn write_piece(text: &[u8], at: usize) -> Gathered
+    requires { ⌜ at ≤ length (now text) ⌝ }
+    ensures { λ r. ⌜ r .at < 65536 ⌝ }
+{
+    if at < 65536 {
+        return Gathered { ok: true, at };
+    }
+    let ok = io::write_all(1, &text[0..at]);
+    Gathered { ok, at: 0 }
+}
+
+// Whether a family's clauses have two literals each.
+fn is_paired(which: usize) -> bool
+    ensures { λ r. ⌜ r ≡ paired which ⌝ }
+{
+    if which == 3 {
+        return true;
+    }
+    if which == 4 {
+        return true;
+    }
+    which == 6
+}
+
+// The text of a block of a family. Clauses of two literals have a way of their own, which is faster.
+fn put_block(text: &mut [u8], texts: &[u8], top: usize, words: &[i32], which: usize) -> usize
+    requires { ⌜ Texts top (now texts) × Within top (now words) × (T (paired which) → Pairs (now words)) × (8 * length (now words) ≤ length (now text)) ⌝ }
+    ensures { λ r. ⌜ Begins (wordsText (now (words .entry))) (now (text .exit)) r × (r ≤ 8 * length (now (words .entry))) ⌝ }
+{
+    if is_paired(which) {
+        return dimacs::put_pairs(text, texts, top, words);
+    }
+    dimacs::put_words(text, texts, top, words)
+}
+
+// The block of t and x of a family, behind what is gathered.
 fn print_block(
     words: &mut [i32],
     text: &mut [u8],
@@ -29,13 +75,17 @@ fn print_block(
     which: usize,
     t: usize,
     x: usize,
-)
-    requires { ⌜ Block (now words) (now text) × Texts (now texts) ⌝ }
+    gathered: usize,
+) -> Gathered
+    requires { ⌜ Block (now words) (now text) × Texts (variableCount s) (now texts) × (gathered < 65536) ⌝ }
     requires { ⌜ Ready (heldIn s (now starts) (now goals) (now table)) × (4096 ≤ length (now table)) ⌝ }
     requires { ⌜ (which < 7) × (t < times s which) × (x < blocksAt s which) ⌝ }
+    ensures { λ r. ⌜ r .at < 65536 ⌝ }
 {
     let n = families::write_block(words, s, starts, goals, table, which, t, x);
-    print_words(&words[0..n], text, texts);
+    let top = counts::variable_count(s);
+    let more = put_block(&mut text[gathered..], texts, top, &words[0..n], which);
+    write_piece(text, gathered + more)
 }
 
 // The blocks of t.
@@ -49,15 +99,23 @@ fn print_step(
     table: &[u8],
     which: usize,
     t: usize,
-)
-    requires { ⌜ Block (now words) (now text) × Texts (now texts) ⌝ }
+    gathered: usize,
+) -> Gathered
+    requires { ⌜ Block (now words) (now text) × Texts (variableCount s) (now texts) × (gathered < 65536) ⌝ }
     requires { ⌜ Ready (heldIn s (now starts) (now goals) (now table)) × (4096 ≤ length (now table)) ⌝ }
     requires { ⌜ (which < 7) × (t < times s which) ⌝ }
+    ensures { λ r. ⌜ r .at < 65536 ⌝ }
 {
     let end = counts::blocks_at(s, which);
+    let mut at = gathered;
     for x in 0..end {
-        print_block(words, text, texts, s, starts, goals, table, which, t, x);
+        let so_far = print_block(words, text, texts, s, starts, goals, table, which, t, x, at);
+        if !so_far.ok {
+            return so_far;
+        }
+        at = so_far.at;
     }
+    Gathered { ok: true, at }
 }
 
 // A family.
@@ -70,82 +128,172 @@ fn print_family(
     goals: &[u8; 16],
     table: &[u8],
     which: usize,
-)
-    requires { ⌜ Block (now words) (now text) × Texts (now texts) ⌝ }
+    gathered: usize,
+) -> Gathered
+    requires { ⌜ Block (now words) (now text) × Texts (variableCount s) (now texts) × (gathered < 65536) ⌝ }
     requires { ⌜ Ready (heldIn s (now starts) (now goals) (now table)) × (4096 ≤ length (now table)) ⌝ }
     requires { ⌜ which < 7 ⌝ }
+    ensures { λ r. ⌜ r .at < 65536 ⌝ }
 {
     let end = counts::times_of(s, which);
+    let mut at = gathered;
     for t in 0..end {
-        print_step(words, text, texts, s, starts, goals, table, which, t);
+        let so_far = print_step(words, text, texts, s, starts, goals, table, which, t, at);
+        if !so_far.ok {
+            return so_far;
+        }
+        at = so_far.at;
     }
+    Gathered { ok: true, at }
 }
 
-// The seven families of an accepted instance.
-fn print_families(words: &mut [i32], text: &mut [u8], texts: &[u8], b: &[u8], c: Checked)
-    requires { ⌜ Block (now words) (now text) × Texts (now texts) ⌝ }
+// The seven families of an accepted instance, behind what is gathered, to the end. Answers whether all was written.
+fn print_families(
+    words: &mut [i32],
+    text: &mut [u8],
+    texts: &[u8],
+    b: &[u8],
+    c: Checked,
+    gathered: usize,
+) -> bool
+    requires { ⌜ Block (now words) (now text) × Texts (variableCount (c .sizes)) (now texts) × (gathered < 65536) ⌝ }
     requires { ⌜ Accepted (now b) c ⌝ }
 {
     let mut table = [0u8; 4096];
     neighbours::mark_table(&mut table, b, c);
     let starts = c.starts;
     let goals = c.goals;
+    let mut at = gathered;
     for which in 0..7usize {
-        print_family(words, text, texts, c.sizes, &starts, &goals, &table, which);
+        let so_far = print_family(
+            words,
+            text,
+            texts,
+            c.sizes,
+            &starts,
+            &goals,
+            &table,
+            which,
+            at,
+        );
+        if !so_far.ok {
+            return false;
+        }
+        at = so_far.at;
     }
-}
-
-// The line of the counts.
-fn print_header(text: &mut [u8], variables: usize, clauses: usize)
-    requires { ⌜ 48 ≤ length (now text) ⌝ }
-{
-    let n = dimacs::put_header(text, variables, clauses);
-    io::write_all(1, &text[0..n]);
+    io::write_all(1, &text[0..at])
 }
 
 // The formula of an accepted instance. The texts of its literals and of 0 are made first.
-fn print_formula(words: &mut [i32], text: &mut [u8], texts: &mut [u8], b: &[u8], c: Checked)
+fn print_formula(words: &mut [i32], text: &mut [u8], texts: &mut [u8], b: &[u8], c: Checked) -> bool
     requires { ⌜ Room (now words) (now text) (now texts) ⌝ }
     requires { ⌜ Accepted (now b) c ⌝ }
 {
     let s = c.sizes;
     let variables = counts::variable_count(s);
-    let end = 8 * (variables + 1);
-    dimacs::put_texts(texts, variables + 1);
-    print_header(text, variables, counts::clause_count(s));
-    print_families(words, text, &texts[0..end], b, c);
+    let end = 8 * (2 * variables + 1);
+    dimacs::put_texts(&mut texts[0..end], variables);
+    let header = dimacs::put_header(text, variables, counts::clause_count(s));
+    print_families(words, text, &texts[0..end], b, c, header)
 }
 
 // The one line of a refusal.
-fn print_refusal(text: &mut [u8], number: usize, place: usize)
+fn print_refusal(text: &mut [u8], number: usize, place: usize) -> bool
     requires { ⌜ 52 ≤ length (now text) ⌝ }
 {
     let n = dimacs::put_refusal(text, number, place);
-    io::write_all(1, &text[0..n]);
+    io::write_all(1, &text[0..n])
 }
 
-// Asks 1 to 10 of the instance, and prints the refusal or the formula.
-fn print_answer(words: &mut [i32], text: &mut [u8], texts: &mut [u8], b: &[u8], m: usize)
+// The status given, or that of a failure where not all was written.
+fn status_of(written: bool, status: u32) -> u32 {
+    if written {
+        return status;
+    }
+    FAILED
+}
+
+// Asks 1 to 10 of the instance, and prints the refusal or the formula. Answers the exit status.
+fn print_answer(words: &mut [i32], text: &mut [u8], texts: &mut [u8], b: &[u8], m: usize) -> u32
     requires { ⌜ Room (now words) (now text) (now texts) ⌝ }
 {
     let i = instance_check::check_instance(b, m);
     let answer = i.answer;
     let c = i.checked;
     if answer.number != 0 {
-        print_refusal(text, answer.number as usize, answer.second);
-        return;
+        return status_of(
+            print_refusal(text, answer.number as usize, answer.second),
+            REFUSED,
+        );
     }
-    print_formula(words, text, texts, b, c);
+    status_of(print_formula(words, text, texts, b, c), DONE)
 }
 
-// Prints what an input asks for: the byte m, then the instance. An empty input counts as m 0 and an empty instance.
-pub fn print_input(words: &mut [i32], text: &mut [u8], texts: &mut [u8], input: &[u8])
+// Prints what an input asks for: the byte m, then the instance. An empty input counts as m 0 and an empty instance. Answers the
+// exit status.
+pub fn print_input(words: &mut [i32], text: &mut [u8], texts: &mut [u8], input: &[u8]) -> u32
     requires { ⌜ Room (now words) (now text) (now texts) ⌝ }
 {
     if input.len() == 0 {
-        print_answer(words, text, texts, input, 0);
-        return;
+        return print_answer(words, text, texts, input, 0);
     }
     let m = numbers::wide(input[0]);
-    print_answer(words, text, texts, &input[1..], m);
+    print_answer(words, text, texts, &input[1..], m)
+}
+
+// What was read: so many bytes, or a read failed.
+pub struct Input {
+    pub ok: bool,
+    pub length: usize,
+}
+
+// Reads until the slice is full, or to the end of standard input.
+fn read_input(input: &mut [u8]) -> Input
+    ensures { λ r. ⌜ r .length ≤ length (now (input .exit)) ⌝ }
+{
+    let mut at: usize = 0;
+    while at < input.len() {
+        let got = libc::read(0, &mut input[at..]);
+        if got < 0 {
+            return Input {
+                ok: false,
+                length: at,
+            };
+        }
+        let n = io::count(got, &input[at..]);
+        if n == 0 {
+            break;
+        }
+        at += n;
+    }
+    Input {
+        ok: true,
+        length: at,
+    }
+}
+
+// The whole program: reads at most 4,070 bytes, the byte m and an instance, prints, and says what failed on standard error. Answers
+// the exit status.
+pub fn run() -> u32 {
+    let mut input = [0u8; 4070];
+    let read = read_input(&mut input);
+    let n = read.length;
+    if !read.ok {
+        os::fail(b"formula_program: the input cannot be read");
+        return FAILED;
+    }
+    let mut words = [0i32; 6048];
+    let mut text = [0u8; 113920];
+    let mut texts = [0u8; 540680];
+    let status = print_input(&mut words, &mut text, &mut texts, &input[0..n]);
+    if status == FAILED {
+        os::fail(b"formula_program: the output cannot be written");
+    }
+    status
+}
+
+// The whole program, for a `main` that has an exit status.
+#[no_mangle]
+pub extern "C" fn runglaet_formula_program() -> u32 {
+    run()
 }

@@ -10,7 +10,7 @@ fn filled(s: &mut [u8]) -> bool {
     io::read_full(0, s) == s.len()
 }
 
-// Reads an input and prints for it, where `left` may follow. Answers how many may follow it, 0 where there is none.
+// Reads an input and prints for it, where `left` may follow. Answers how many may follow it, 0 where there is none or a write failed.
 fn print_next(
     input: &mut [u8],
     words: &mut [i32],
@@ -31,7 +31,9 @@ fn print_next(
     if !filled(&mut input[0..n]) {
         return 0;
     }
-    formula_printer::print_input(words, text, texts, &input[0..n]);
+    if formula_printer::print_input(words, text, texts, &input[0..n]) == formula_printer::FAILED {
+        return 0;
+    }
     left - 1
 }
 
@@ -47,7 +49,7 @@ fn run(input: &mut [u8], words: &mut [i32], text: &mut [u8], texts: &mut [u8])
 fn main() {
     let mut input = [0u8; 4070];
     let mut words = [0i32; 6048];
-    let mut text = [0u8; 72576];
-    let mut texts = [0u8; 270344];
+    let mut text = [0u8; 113920];
+    let mut texts = [0u8; 540680];
     run(&mut input, &mut words, &mut text, &mut texts);
 }

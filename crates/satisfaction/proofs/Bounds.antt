@@ -8,7 +8,7 @@ use Rattle.instance.specs.declared.Sizes.{Sizes}
 use Rattle.instance.specs.Limits.{Limits}
 use Rattle.formula.specs.Variables.{variableCount}
 use Rattle.plan.specs.Plan.{planBytes}
-use Rattle.valuation.proofs.Entries.{count-eq}
+use Rattle.formula.proofs.Variables.{count-eq}
 
 -- cells: times and agents; pairs, twos: twice the pairs of vertices and of agents; the rest: the sizes of the rows of D to G
 pub record Products (s : Sizes) : Type 0 where

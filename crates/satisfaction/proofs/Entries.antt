@@ -21,7 +21,8 @@ use Rattle.formula.specs.Variables.{X, index, variableCount}
 use Rattle.plan.specs.Plan.{planBytes}
 use Rattle.valuation.specs.Valuation.{entry, rightEntry, true?}
 use Rattle.valuation.specs.Satisfying.{Valuation}
-use Rattle.valuation.proofs.Entries.{sameNumber-iff, count-eq, true-yes, index-lt}
+use Rattle.formula.proofs.Variables.{count-eq, index-lt}
+use Rattle.valuation.proofs.Entries.{sameNumber-iff, true-yes}
 use Rattle.satisfaction.specs.Rows.{Stop, Tallied, says, denies, Seen, Read}
 
 module _ (es : List ℤ) where

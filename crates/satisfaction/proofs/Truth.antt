@@ -25,7 +25,8 @@ use Rattle.plan.specs.Plan.{planRow}
 use Rattle.valuation.specs.Valuation.{true?, satisfied?}
 use Rattle.valuation.specs.Satisfying.{Valuation}
 use Rattle.valuation.specs.Places.{Places}
-use Rattle.valuation.proofs.Entries.{count-eq, true-no}
+use Rattle.formula.proofs.Variables.{count-eq}
+use Rattle.valuation.proofs.Entries.{true-no}
 use Rattle.satisfaction.specs.Rows.{Fault, Stop, says, denies, Seen, Read, Lowest}
 use Rattle.satisfaction.proofs.Entries.{right-says, skip-le, read-true, right-at, denied-or-true}
 use Rattle.satisfaction.proofs.Steps.{keeps-or, Enters}

@@ -13,11 +13,12 @@ use lib.IntN.{ℤ, pos, negsuc, natAbs}
 use Rattle.lists.specs.Loop.{any}
 use Rattle.lists.proofs.Tests.{eqb-iff, ltb-iff, some-iff, first-iff}
 use Rattle.lists.proofs.Loops.{for-all, when-all, one-all, for-any, any-one, any-two, any-getD}
-use Rattle.lists.proofs.Blocks.{place-lt, place-split, for2-length, for2-getD, for3-length, for3-getD}
+use Rattle.lists.proofs.Blocks.{place-split, for2-length, for2-getD, for3-length, for3-getD}
 use Rattle.instance.specs.declared.Sizes.{Sizes}
 use Rattle.instance.specs.Instance.{Instance}
 use Rattle.formula.specs.Variables.{Literal, index, variableCount}
 use Rattle.formula.specs.Formula.{C, D}
+use Rattle.formula.proofs.Variables.{count-eq, index-lt}
 use Rattle.plan.specs.Plan.{planRow}
 use Rattle.valuation.specs.Valuation.{sameNumber, true?, named, namedPlan, entryFor, planValuation}
 use Rattle.valuation.specs.Satisfying.{Valuation}
@@ -40,18 +41,11 @@ module _ (s : Sizes) where
   abbrev ¬X : ℕ → ℕ → ℕ → Literal
   ¬X = variables.¬X s
 
-  -- ---- the numbering: X(t,a,v) in range has an index below N, and each index below N is one
-  pub count-eq : suc m * k * n ≡ variableCount s
-  count-eq = simp (mul-comm, mul-left-comm)
-
-  pub index-lt : (t a v : ℕ) → t < suc m → a < k → v < n → index s t a v < variableCount s
-  unfolding index
-  index-lt t a v p q r = rw (← count-eq) (place-lt (suc m * k) n (t * k + a) v (place-lt (suc m) k t a p q) r)
-
+  -- ---- the numbering: each index below N is that of some X(t,a,v) in range
   pub index-onto : (i : ℕ) → i < variableCount s → (t a v : ℕ) × (t < suc m) × (a < k) × (v < n) × (i ≡ index s t a v)
   unfolding index
   index-onto i h =
-      let (r, v, p, q, e) = place-split (suc m * k) n i (rw count-eq h) in
+      let (r, v, p, q, e) = place-split (suc m * k) n i (rw (count-eq s) h) in
       let (t, a, p′, q′, e′) = place-split (suc m) k r p in
       (t, a, v, p′, q′, q, rw (← e′) e)
 
@@ -75,14 +69,14 @@ module _ (s : Sizes) where
     pub true-yes : (t a v : ℕ) → t < suc m → a < k → v < n
         → T (true? es (X t a v)) ↔ (getD es (index s t a v) (pos 0) ≡ pos (suc (index s t a v)))
     unfolding true?
-    true-yes t a v p q r = entry-is (pos (suc (index s t a v))) (index s t a v) refl (index-lt t a v p q r)
+    true-yes t a v p q r = entry-is (pos (suc (index s t a v))) (index s t a v) refl (index-lt s t a v p q r)
 
     pub true-no : (t a v : ℕ) → t < suc m → a < k → v < n
         → T (true? es (¬X t a v)) ↔ (T (true? es (X t a v)) → ⊥)
     unfolding true?
     true-no t a v p q r =
         let i = index s t a v in
-        let l = index-lt t a v p q r in (
+        let l = index-lt s t a v p q r in (
           (λ h h′.
               let e : getD es i (pos 0) ≡ negsuc i = entry-is (negsuc i) i refl l .0 h in
               let e′ : getD es i (pos 0) ≡ pos (suc i) = entry-is (pos (suc i)) i refl l .0 h′ in

@@ -1,4 +1,4 @@
--- `dimacs::put_words` meets its contract: after i turns the slice begins with the texts of the first i words, at most 12 bytes for each. Assumes nothing.
+-- `dimacs::put_words` meets its contract: after i turns the slice begins with the texts of the first i words, at most 8 bytes for each. Assumes nothing.
 use mathlib.Core.Path.{_≡_, refl, _∙_, ap}
 use mathlib.Core.List.{List}
 use Prim.Native.Nat.{ℕ, _-_, _*_, _≤_}
@@ -14,21 +14,23 @@ use Rattle.lists.specs.Loop.{for, each}
 use Rattle.dimacs.specs.Text.{wordText, wordsText}
 use Rattle.dimacs.specs.Table.{Begins}
 use Rattle.dimacs.proofs.Laws.{each-all}
-use Rattle.dimacs.proofs.Table.{begins-part}
+use Rattle.dimacs.proofs.Table.{begins-part, within-at}
 use Rattle.dimacs.proofs.put_words.Statement.{statement}
 use Rattle.dimacs.proofs.put_words.Tie as tie
 
 abbrev Inv-loop : tie.InvT-loop
-Inv-loop out₀ texts words end at₀ i₀ out at i = (i ≤ end) × ((at ≤ 12 * i) × ((length out ≡ length out₀) × Begins (for i (λ j. wordText (getD words j (pos 0)))) out at))
+Inv-loop out₀ texts top words end at₀ i₀ out at i = (i ≤ end) × ((at ≤ 8 * i) × ((length out ≡ length out₀) × Begins (for i (λ j. wordText (getD words j (pos 0)))) out at))
 
 abbrev μ-loop : tie.MeasureT-loop
-μ-loop out₀ texts words end at₀ i₀ out at i = end - i
+μ-loop out₀ texts top words end at₀ i₀ out at i = end - i
 
 loop-holds : tie.Need-loop-holds Inv-loop μ-loop
 loop-holds c = (omega arith, (omega arith, (refl, (refl, refl))))
 
 put-word-requires : tie.Need-put-word-requires Inv-loop μ-loop
-put-word-requires c κs = (c .before .before .before .before .before .before .pre .0, simp (length-take, length-drop) (search needs))
+put-word-requires c κs =
+    let fit : SFits w32 (getD (c .before .before .before .before .before .before .args .words .now) (c .before .before .before .loop .i) (pos 0)) = sfits-of (c .put-word-arg2 .given) in
+    (c .before .before .before .before .before .before .pre .0, rw (toZ-ofZ fit) (within-at (c .before .before .before .before .before .before .args .top) (c .before .before .before .before .before .before .args .words .now) (c .before .before .before .loop .i) (c .before .before .before .before .before .before .pre .1) (omega (arith, c .before .before .loop-test .taken))), simp (length-take, length-drop) (search needs))
 
 loop-again : tie.Need-loop-again Inv-loop μ-loop
 loop-again c =

@@ -1,10 +1,12 @@
--- `formula_printer::print_formula` meets its contract: there is room for the texts of 0 and of at most 33,792 variables. Assumes nothing.
-use mathlib.Core.Path.{_≡_, subst}
-use Prim.Native.Nat.{ℕ, _+_, _-_, _*_}
+-- `formula_printer::print_formula` meets its contract: the table has the texts of at most 33,792 variables, of their negatives and of 0. Assumes nothing.
+use mathlib.Core.Path.{_≡_, _∙_}
+use Prim.Native.Nat.{ℕ, _+_, _-_, _*_, _≤_}
 use native.Mathlib.Omega.{arith}
-use lib.ListN.{take}
+use borrow.Rule.Slice.PartMut.{putMid, mid-len}
+use lib.ListN.{length, take}
+use lib.Seq.{take-at}
 use Rattle.instance.proofs.Accepted.{limits-known}
-use Rattle.dimacs.specs.Table.{Texts}
+use Rattle.formula.specs.Variables.{variableCount}
 use borrow.Author.Needs.{needs}
 use Rattle.formula_printer.proofs.print_formula.Statement.{statement}
 use Rattle.formula_printer.proofs.print_formula.Tie as tie
@@ -17,14 +19,29 @@ clause-count-requires c κs = limits-known (c .before .before .before .before .b
 
 print-families-requires : tie.Need-print-families-requires
 print-families-requires c κs =
-    let e : 8 * (c .before .before .before .before .before .before .before .before .before .before .before .before .before .variable-count .result + 1) ≡ 8 * (c .before .before .before .before .before .before .before .before .before .before .before .before .before .variable-count .result + 1) - 0 = omega arith in
-    ((record { words-room = c .before .before .before .before .before .before .before .before .before .before .before .before .before .before .before .before .before .before .pre .0 .words-room; text-room = search needs }, subst (λ (j : ℕ). Texts (take j (c .before .before .before .before .before .before .before .before .before .before .before .put-texts .last .0))) e (c .before .before .before .before .before .before .before .before .before .before .before .put-texts .ensures)), c .before .before .before .before .before .before .before .before .before .before .before .before .before .before .before .before .before .before .pre .1)
+    let n = c .before .before .before .before .before .before .before .before .before .before .before .before .before .variable-count .result in
+    let end : ℕ = 8 * (2 * n + 1) in
+    let ys = c .before .before .before .before .before .before .before .before .before .before .before .put-texts .last .0 in
+    let fit : end ≤ length (c .before .before .before .before .before .before .before .before .before .before .before .before .before .before .before .before .before .before .args .texts .now) = omega (arith, c .before .before .before .before .before .before .before .before .before .before .before .before .before .variable-count .ensures .1, c .before .before .before .before .before .before .before .before .before .before .before .before .before .before .before .before .before .before .pre .0 .texts-room) in
+    let size : length ys ≡ end - 0 = c .before .before .before .before .before .before .before .before .before .before .texts .given .0 ∙ mid-len 0 end (c .before .before .before .before .before .before .before .before .before .before .before .before .before .before .before .before .before .before .args .texts .now) fit in
+    let e : take (end - 0) (putMid 0 (end - 0) (c .before .before .before .before .before .before .before .before .before .before .before .before .before .before .before .before .before .before .args .texts .now) ys) ≡ ys = take-at ys _ (end - 0) size in
+    let top : n ≡ variableCount (c .before .before .before .before .before .before .before .before .before .before .before .before .before .before .before .before .before .before .args .c .sizes) = c .before .before .before .before .before .before .before .before .before .before .before .before .before .variable-count .ensures .0 in (
+      (
+        record { words-room = c .before .before .before .before .before .before .before .before .before .before .before .before .before .before .before .before .before .before .pre .0 .words-room; text-room = omega (arith, c .before .before .before .before .before .text .given, c .before .before .before .before .before .before .before .before .before .before .before .before .before .before .before .before .before .before .pre .0 .text-room) },
+        rw (e, ← top) (c .before .before .before .before .before .before .before .before .before .before .before .put-texts .ensures),
+        omega (arith, c .before .before .before .before .before .before .put-header .ensures .1),
+      ),
+      c .before .before .before .before .before .before .before .before .before .before .before .before .before .before .before .before .before .before .pre .1,
+    )
 
 pub print-formula-spec : {M : Type 1} → statement M
 print-formula-spec =
     tie.close
     (tie.spec
     variable-count-requires
+    (λ c. search needs)
+    (λ c. search needs)
+    (λ c. search needs)
     (λ c. search needs)
     (λ c. search needs)
     (λ c. search needs)
