@@ -2,85 +2,159 @@
 # solve.sh DESCRIPTION HORIZON: from a description to a checked plan, by way of a SAT solver.
 #
 # SOLVER            the solver to use; otherwise the first one installed of those below
+# LIMIT             the seconds that the solver may take; otherwise as long as it needs
 # RUNGLAET_LIB      the static library, RUNGLAET_PROGRAM the formula program; otherwise the repository's own
-# KEEP              a folder for instance.bin, formula.cnf and output.txt; otherwise they are removed
+# KEEP              a folder for instance.bin, input.bin, formula.cnf and output.txt; otherwise they are removed
 #
 # Exit status: 0 a plan that passes; 1 refused by the library; 3 no plan of this makespan; 2 anything else.
-set -eu
+#
+# A refusal is a line on standard output, any other failure one on standard error. The first forty characters of either
+# tell its kind; details come behind, and a path comes last.
+set -u
 solvers="cadical kissat minisat picosat cryptominisat5"
-root=$(cd "$(dirname "$0")/.." && pwd)
+root=$(realpath "$(dirname "$(realpath "$0")")/..") || exit 2
 
 stop() {
-    echo "solve.sh: $*" >&2
+    printf 'solve.sh: %s\n' "$*" >&2
     exit 2
 }
 
-[ $# -eq 2 ] || stop "usage: solve.sh DESCRIPTION HORIZON"
+say() {
+    printf '%s\n' "$*" 2>/dev/null || stop "standard output takes no more, so the result is not shown"
+}
+
+# quietly COMMAND...: without the shell's own words about a command that was killed.
+quietly() {
+    { "$@" 2>&3 3>&-; } 3>&2 2>/dev/null
+}
+
+# A reader of standard output that has gone is a write that fails.
+trap '' PIPE
+{ true 9>&1; } 2>/dev/null || stop "standard output is closed, so no result could be shown"
+
+# What was given.
+[ $# -eq 2 ] || stop "two words are needed, a description and a horizon; given: $#"
 description=$1
 horizon=$2
-[ -f "$description" ] || stop "$description: no such file"
-if ! [[ $horizon =~ ^(0|[1-9][0-9]{0,2})$ ]] || [ "$horizon" -gt 255 ]; then
-    stop "the horizon must be a number from 0 to 255"
+limit=()
+if [ -n "${LIMIT:-}" ]; then
+    [[ $LIMIT =~ ^[1-9][0-9]{0,8}$ ]] || stop "LIMIT must be a whole number of seconds, 1 or more: $LIMIT"
+    limit=(timeout --foreground -k 10 "$LIMIT")
 fi
-
 if [ -n "${SOLVER:-}" ]; then
-    [[ " $solvers " == *" $SOLVER "* ]] || stop "SOLVER must be one of: $solvers"
-    command -v "$SOLVER" >/dev/null || stop "$SOLVER is not installed"
+    [[ $SOLVER =~ ^(${solvers// /|})$ ]] || stop "SOLVER must be one of the solvers known here ($solvers): $SOLVER"
+    command -v "$SOLVER" >/dev/null || stop "the solver asked for is not installed: $SOLVER"
 else
     for SOLVER in $solvers none; do
         command -v "$SOLVER" >/dev/null && break
     done
-    [ "$SOLVER" != none ] || stop "no SAT solver found (looked for: $solvers). Install one: apt-get install minisat"
+    [ "$SOLVER" != none ] || stop "no SAT solver is installed; apt-get install minisat brings one; looked for: $solvers"
 fi
 
+# What is needed. The scripts that build it say themselves what went wrong.
+shuttles=$("$root/tools/shuttles/build.sh") || exit 2
 if [ -z "${RUNGLAET_PROGRAM:-}" ]; then
-    RUNGLAET_PROGRAM=$root/target/bin/formula_program
-    if [ ! -x "$RUNGLAET_PROGRAM" ]; then
-        echo "solve.sh: no $RUNGLAET_PROGRAM yet; proving the program, which takes some minutes" >&2
-        mkdir -p "$root/target"
-        (cd "$root" && rt check formula_program) >"$root/target/formula_program.log" 2>&1 ||
-            stop "rt check formula_program failed; see $root/target/formula_program.log"
-        [ -x "$RUNGLAET_PROGRAM" ] ||
-            stop "rt counts the program as proved, but it is gone; remove $root/target/stamp/formula_program and try again"
-    fi
+    RUNGLAET_PROGRAM=$("$root/tools/formula_program/build.sh") || exit 2
 fi
-[ -x "$RUNGLAET_PROGRAM" ] || stop "$RUNGLAET_PROGRAM: no such program"
-shuttles=$("$root/tools/shuttles/build.sh") || stop "shuttles could not be built"
+if [ ! -f "$RUNGLAET_PROGRAM" ] || [ ! -x "$RUNGLAET_PROGRAM" ]; then
+    stop "there is no program that can be run at the path given: $RUNGLAET_PROGRAM"
+fi
+RUNGLAET_PROGRAM=$(realpath "$RUNGLAET_PROGRAM")
 
+# Where the files go.
 if [ -n "${KEEP:-}" ]; then
-    mkdir -p "$KEEP"
-    folder=$KEEP
+    mkdir -p -- "$KEEP" 2>/dev/null || stop "the folder that KEEP names cannot be made: $KEEP"
+    folder=$(realpath -- "$KEEP")
 else
-    folder=$(mktemp -d)
+    folder=$(mktemp -d 2>/dev/null) || stop "no temporary folder can be made; set TMPDIR to a folder for them: ${TMPDIR:-/tmp}"
     trap 'rm -rf "$folder"' EXIT
 fi
 instance=$folder/instance.bin
+input=$folder/input.bin
 formula=$folder/formula.cnf
 output=$folder/output.txt
+(true >"$instance" && true >"$input" && true >"$formula" && true >"$output") 2>/dev/null ||
+    stop "the files of this run cannot be written into their folder: $folder"
 
-# The description as instance bytes, and the formula: the program reads the horizon in one byte, then the instance.
-"$shuttles" instance "$description" >"$instance"
-{
-    printf %b "\\x$(printf %02x "$horizon")"
-    cat "$instance"
-} | "$RUNGLAET_PROGRAM" >"$formula" || stop "the formula program failed"
-read -r first second number place <"$formula" || stop "the formula program printed nothing"
-if [ "$first $second" = "c refused" ]; then
-    "$shuttles" refusal "$number" "$place"
-    exit 1
+# A description from a pipe can be read only once.
+if [ -p "$description" ]; then
+    cat -- "$description" >"$folder/description.txt" || exit 2
+    description=$folder/description.txt
 fi
-[ "$first $second" = "p cnf" ] || stop "the formula program printed no formula"
-echo "$(basename "$description"), horizon $horizon: $number variables, $place clauses, $SOLVER"
+
+# The instance, and with the horizon before it what the formula program reads. The tool says itself what went wrong.
+"$shuttles" instance "$description" >"$instance" || exit 2
+status=0
+"$shuttles" input "$description" "$horizon" >"$input" || status=$?
+case $status in
+0) ;;
+1)
+    say "$(cat "$input")"
+    exit 1
+    ;;
+*) exit 2 ;;
+esac
+
+# The formula. The program refuses nothing that the library accepts, but it is asked all the same.
+quietly "$RUNGLAET_PROGRAM" <"$input" >"$formula" || status=$?
+[ "$status" -le 1 ] || stop "the formula program failed, so there is no formula: status $status: $RUNGLAET_PROGRAM"
+first='' second='' variables='' clauses=''
+read -r first second variables clauses <"$formula"
+case "$status $first $second" in
+"0 p cnf") ;;
+[01]" c refused")
+    say "$("$shuttles" refusal "$variables" "$clauses" "$description" "$horizon")"
+    exit 1
+    ;;
+*) stop "the formula program gave neither a formula nor a refusal: $RUNGLAET_PROGRAM" ;;
+esac
+
+# Some solvers take a formula that was cut short: it is whole when every clause of the header has a line that ends in 0.
+whole() {
+    [[ $clauses =~ ^[1-9][0-9]{0,8}$ ]] &&
+        [ "$(wc -l <"$formula")" -eq $((clauses + 1)) ] &&
+        [ "$(tail -n +2 "$formula" | LC_ALL=C grep -c ' 0$')" -eq "$clauses" ] &&
+        [ "$(tail -c 1 "$formula" | wc -l)" -eq 1 ]
+}
+whole || stop "the formula is not whole, so no solver was asked: $clauses clauses in its header, $(wc -l <"$formula") lines in all: $RUNGLAET_PROGRAM"
+say "$(basename -- "$description"), horizon $horizon: $variables variables, $clauses clauses, $SOLVER"
 
 # The solver. Its exit status is 10 for satisfiable and 20 for unsatisfiable.
-status=0
+solved=0
+SECONDS=0
 case $SOLVER in
-cadical | kissat) "$SOLVER" -q "$formula" >"$output" || status=$? ;;
-minisat) minisat -verb=0 "$formula" "$output" >/dev/null || status=$? ;;
-picosat) picosat "$formula" >"$output" || status=$? ;;
-cryptominisat5) cryptominisat5 --verb 0 "$formula" >"$output" || status=$? ;;
+cadical | kissat) quietly "${limit[@]}" "$SOLVER" -q "$formula" >"$output" || solved=$? ;;
+minisat) quietly "${limit[@]}" minisat -verb=0 "$formula" "$output" >/dev/null || solved=$? ;;
+picosat) quietly "${limit[@]}" picosat "$formula" >"$output" || solved=$? ;;
+cryptominisat5) quietly "${limit[@]}" cryptominisat5 --verb 0 "$formula" >"$output" || solved=$? ;;
 esac
-[ "$status" = 10 ] || [ "$status" = 20 ] || stop "$SOLVER ended with status $status"
+
+# Why the solver ended without a verdict, and what to do.
+no_verdict() {
+    local signal='' another="try another SOLVER: $SOLVER"
+    [ "$solved" -le 128 ] || signal=$(kill -l $((solved - 128)) 2>/dev/null)
+    if [[ $solved == 124 || $signal == KILL ]] && [ -n "${LIMIT:-}" ] && [ "$SECONDS" -ge "$LIMIT" ]; then
+        stop "the solver ran out of time before its verdict; raise LIMIT, which is $LIMIT, or $another"
+    elif [ "$signal" = XCPU ]; then
+        stop "the solver ran out of time before its verdict; raise the shell's limit, ulimit -t, or $another"
+    elif [ -n "$signal" ]; then
+        stop "the solver was killed before its verdict, by signal $signal; see to memory and limits (ulimit -a) or $another"
+    elif [ "$solved" -eq 0 ] || grep -qx -e INDET -e 's UNKNOWN' -e 's INDETERMINATE' "$output"; then
+        stop "the solver gave up before its verdict, so there may be a plan or none; give it more memory or $another"
+    elif [ "$solved" -eq 126 ] || [ "$solved" -eq 127 ]; then
+        stop "the solver could not be started; install it again or $another"
+    fi
+    stop "the solver ended with a status that is no verdict, $solved; $another"
+}
+[ "$solved" -eq 10 ] || [ "$solved" -eq 20 ] || no_verdict
 
 # The plan that its valuation names, checked and shown.
-"$shuttles" decode "$instance" "$horizon" <"$output"
+answer=$("$shuttles" decode "$description" "$horizon" <"$output") || status=$?
+case "$solved $status" in
+"10 0" | "10 1" | "20 3")
+    say "$answer"
+    exit "$status"
+    ;;
+*" "[013]) stop "the solver's exit status and its output do not agree, $solved and \"${answer##*$'\n'}\": $SOLVER" ;;
+*) exit 2 ;;
+esac

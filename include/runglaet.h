@@ -5,8 +5,9 @@
  * place of the refusal, and the count of an acceptance. A refusal changes nothing that was lent. An accepted call fills
  * the first places of its slice and touches none beyond.
  *
- * As anywhere in C, a pointer must be valid and aligned for the elements that its length says, and a slice that is
- * written must overlap no other slice of the call. The pointer of an empty slice may be any aligned one but NULL.
+ * A pointer must be valid and aligned for as many elements as its length says; with length 0 it may be NULL. So a size
+ * is asked: refusals 12, 15 and 16 give what is needed. No two slices of a call may overlap. Each call uses less than
+ * 12 KiB of stack. The calls share nothing, so several threads may call at once.
  *
  * Questions are numbered as in README.md. Words and entries are signed 32-bit numbers.
  */

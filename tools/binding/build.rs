@@ -5,19 +5,23 @@ use std::path::{Path, PathBuf};
 
 fn main() {
     println!("cargo:rerun-if-env-changed=RUNGLAET_LIB");
-    let library = match env::var_os("RUNGLAET_LIB") {
+    let library = match env::var_os("RUNGLAET_LIB").filter(|path| !path.is_empty()) {
         Some(path) => PathBuf::from(path),
         None => Path::new(env!("CARGO_MANIFEST_DIR")).join("../../target/staticlib/librunglaet.a"),
     };
-    let library = library.canonicalize().unwrap_or_else(|error| {
-        panic!(
-            "{}: {error}; run `rt staticlib runglaet` in the repository or set RUNGLAET_LIB",
+    let file = library.canonicalize().ok().filter(|path| path.is_file());
+    let Some((folder, name)) = file
+        .as_deref()
+        .and_then(|file| file.parent().zip(file.file_name()))
+    else {
+        println!(
+            "cargo::error=the proved library is not there; run `rt staticlib runglaet` in the repository or set \
+             RUNGLAET_LIB to its file: {}",
             library.display()
-        )
-    });
-    let folder = library.parent().expect("a file stands in a folder");
-    let name = library.file_name().expect("a file has a name");
-    println!("cargo:rerun-if-changed={}", library.display());
+        );
+        return;
+    };
+    println!("cargo:rerun-if-changed={}", folder.join(name).display());
     println!("cargo:rustc-link-search=native={}", folder.display());
     println!(
         "cargo:rustc-link-lib=static:+verbatim={}",

@@ -1,104 +1,127 @@
-//! From a readable description to instance bytes.
+//! From a readable description to a map.
 //!
 //! Only what has no place in the bytes is an error here. All else is left to the library and its refusals.
 
-/// The instance bytes of a description, or what is wrong with it.
-pub fn instance(text: &str) -> Result<Vec<u8>, String> {
-    let mut vertices: u8 = 0;
-    let mut edges: Vec<(u8, u8)> = Vec::new();
-    let mut starts: Vec<u8> = Vec::new();
-    let mut goals: Vec<u8> = Vec::new();
+use crate::errors::{Error, Kind};
+use crate::map::{Lines, Map};
+
+/// What the lines read so far have described.
+#[derive(Default)]
+struct Described {
+    vertices: u8,
+    /// Low end, high end, line.
+    edges: Vec<(u8, u8, usize)>,
+    /// Start, goal, line.
+    agents: Vec<(u8, u8, usize)>,
+}
+
+pub fn map(text: &str) -> Result<Map, Error> {
+    if text.starts_with('\u{feff}') {
+        return Err(Kind::ByteOrderMark.with("UTF-8"));
+    }
+    let mut described = Described::default();
     for (i, line) in text.lines().enumerate() {
-        let at = |what: String| format!("line {}: {what}", i + 1);
+        described.read(i + 1, line)?;
+    }
+    described.map()
+}
+
+impl Described {
+    fn read(&mut self, number: usize, line: &str) -> Result<(), Error> {
+        // A comment would hide the lines behind a carriage return.
+        if line.trim_end_matches('\r').contains('\r') {
+            return Err(Kind::CarriageReturn.in_line(number, "only a newline ends a line"));
+        }
         let line = line.split('#').next().unwrap_or("");
         let words: Vec<&str> = line.split_whitespace().collect();
-        let Some((&keyword, numbers)) = words.split_first() else {
-            continue;
+        let Some((&keyword, words)) = words.split_first() else {
+            return Ok(());
         };
         match keyword {
             "vertices" => {
-                let [more] = bytes(keyword, ["N"], numbers).map_err(at)?;
-                vertices = vertices
-                    .checked_add(more)
-                    .ok_or_else(|| at(too_many_vertices()))?;
+                let [more] = bytes(number, "vertices N", words)?;
+                self.add_vertices(number, Some(more))?;
             }
             "grid" => {
-                let [rows, columns] = bytes(keyword, ["ROWS", "COLUMNS"], numbers).map_err(at)?;
-                let more = rows
-                    .checked_mul(columns)
-                    .ok_or_else(|| at(too_many_vertices()))?;
-                let first = vertices;
-                vertices = first
-                    .checked_add(more)
-                    .ok_or_else(|| at(too_many_vertices()))?;
-                for row in 0..rows {
-                    for column in 0..columns {
-                        let v = first + row * columns + column;
-                        if column + 1 < columns {
-                            edges.push((v, v + 1));
-                        }
-                        if row + 1 < rows {
-                            edges.push((v, v + columns));
-                        }
-                    }
-                }
+                let [rows, columns] = bytes(number, "grid ROWS COLUMNS", words)?;
+                self.add_grid(number, rows, columns)?;
             }
             "edge" => {
-                let [a, b] = bytes(keyword, ["A", "B"], numbers).map_err(at)?;
-                edges.push((a.min(b), a.max(b)));
+                let [a, b] = bytes(number, "edge A B", words)?;
+                self.edges.push((a.min(b), a.max(b), number));
             }
             "agent" => {
-                let [start, goal] = bytes(keyword, ["START", "GOAL"], numbers).map_err(at)?;
-                starts.push(start);
-                goals.push(goal);
+                let [start, goal] = bytes(number, "agent START GOAL", words)?;
+                self.agents.push((start, goal, number));
             }
             _ => {
-                return Err(at(format!(
-                    "\"{keyword}\" is none of vertices, grid, edge and agent"
-                )))
+                let details = format!("{keyword:?} is none of vertices, grid, edge and agent");
+                return Err(Kind::Keyword.in_line(number, details));
             }
         }
+        Ok(())
     }
-    edges.sort_unstable();
-    let edge_count = u16::try_from(edges.len())
-        .map_err(|_| format!("{} edges are more than two bytes can count", edges.len()))?;
-    let agents = u8::try_from(starts.len())
-        .map_err(|_| format!("{} agents are more than one byte can count", starts.len()))?;
-    let mut instance = vec![vertices, agents];
-    instance.extend(edge_count.to_le_bytes());
-    instance.extend(edges.iter().map(|edge| edge.0));
-    instance.extend(edges.iter().map(|edge| edge.1));
-    instance.extend(starts);
-    instance.extend(goals);
-    Ok(instance)
+
+    /// The number of the first of so many more vertices; none stands for more than a byte counts.
+    fn add_vertices(&mut self, line: usize, more: Option<u8>) -> Result<u8, Error> {
+        let first = self.vertices;
+        self.vertices = more
+            .and_then(|more| first.checked_add(more))
+            .ok_or_else(|| Kind::Vertices.in_line(line, "here they become more"))?;
+        Ok(first)
+    }
+
+    fn add_grid(&mut self, line: usize, rows: u8, columns: u8) -> Result<(), Error> {
+        let first = self.add_vertices(line, rows.checked_mul(columns))?;
+        for row in 0..rows {
+            for column in 0..columns {
+                let v = first + row * columns + column;
+                if column + 1 < columns {
+                    self.edges.push((v, v + 1, line));
+                }
+                if row + 1 < rows {
+                    self.edges.push((v, v + columns, line));
+                }
+            }
+        }
+        Ok(())
+    }
+
+    fn map(mut self) -> Result<Map, Error> {
+        self.edges.sort_unstable();
+        let (edges, agents) = (self.edges, self.agents);
+        let edge_count = u16::try_from(edges.len())
+            .map_err(|_| Kind::Edges.with(format_args!("they are {}", edges.len())))?;
+        let agent_count = u8::try_from(agents.len())
+            .map_err(|_| Kind::Agents.with(format_args!("they are {}", agents.len())))?;
+        let mut bytes = vec![self.vertices, agent_count];
+        bytes.extend(edge_count.to_le_bytes());
+        bytes.extend(edges.iter().map(|edge| edge.0));
+        bytes.extend(edges.iter().map(|edge| edge.1));
+        bytes.extend(agents.iter().map(|agent| agent.0));
+        bytes.extend(agents.iter().map(|agent| agent.1));
+        let lines = Some(Lines {
+            edges: edges.iter().map(|edge| edge.2).collect(),
+            agents: agents.iter().map(|agent| agent.2).collect(),
+        });
+        Ok(Map { bytes, lines })
+    }
 }
 
-fn too_many_vertices() -> String {
-    "more than 255 vertices, which one byte cannot count".to_string()
-}
-
-/// The numbers behind a keyword, exactly as many as it has names for.
+/// The numbers behind a keyword, as many as its form has names.
 fn bytes<const COUNT: usize>(
-    keyword: &str,
-    names: [&str; COUNT],
+    line: usize,
+    form: &str,
     words: &[&str],
-) -> Result<[u8; COUNT], String> {
+) -> Result<[u8; COUNT], Error> {
     if words.len() != COUNT {
-        return Err(format!(
-            "\"{keyword} {}\" is expected, with {COUNT} number{}; here {} given",
-            names.join(" "),
-            if COUNT == 1 { "" } else { "s" },
-            match words.len() {
-                0 => "none is".to_string(),
-                1 => "1 is".to_string(),
-                more => format!("{more} are"),
-            },
-        ));
+        let details = format!("{} given, the form is \"{form}\"", words.len());
+        return Err(Kind::NumberCount.in_line(line, details));
     }
     let mut numbers = [0; COUNT];
-    for ((number, name), word) in numbers.iter_mut().zip(names).zip(words) {
+    for ((number, name), word) in numbers.iter_mut().zip(form.split(' ').skip(1)).zip(words) {
         *number = word.parse().map_err(|_| {
-            format!("{name} of \"{keyword}\" must be a number from 0 to 255, not \"{word}\"")
+            Kind::NotByte.in_line(line, format_args!("{name} of \"{form}\" is {word:?}"))
         })?;
     }
     Ok(numbers)
@@ -108,15 +131,22 @@ fn bytes<const COUNT: usize>(
 mod tests {
     use super::*;
 
+    fn instance(text: &str) -> Vec<u8> {
+        map(text).unwrap().bytes
+    }
+
     #[test]
     fn the_pair() {
-        let text = "# two vertices\nvertices 2\nedge 1 0 # high end first\n\nagent 0 1\n";
-        assert_eq!(instance(text), Ok(vec![2, 1, 1, 0, 0, 1, 0, 1]));
+        let text = "# two vertices\nvertices 2\r\nedge 1 0 # high end first\n\nagent 0 1\r";
+        let map = map(text).unwrap();
+        assert_eq!(map.bytes, [2, 1, 1, 0, 0, 1, 0, 1]);
+        let lines = map.lines.unwrap();
+        assert_eq!((lines.edges, lines.agents), (vec![3], vec![5]));
     }
 
     #[test]
     fn a_grid_is_numbered_row_by_row() {
-        let bytes = instance("grid 2 3\nagent 0 5").unwrap();
+        let bytes = instance("grid 2 3\nagent 0 5");
         assert_eq!(bytes[..4], [6, 1, 7, 0]);
         assert_eq!(bytes[4..11], [0, 0, 1, 1, 2, 3, 4]);
         assert_eq!(bytes[11..18], [1, 3, 2, 4, 5, 4, 5]);
@@ -125,44 +155,63 @@ mod tests {
 
     #[test]
     fn vertices_and_grids_are_numbered_on() {
-        let bytes = instance("vertices 1\ngrid 1 2\nvertices 1\ngrid 2 1\nedge 3 0").unwrap();
+        let bytes = instance("vertices 1\ngrid 1 2\nvertices 1\ngrid 2 1\nedge 3 0");
         assert_eq!(bytes, [6, 0, 3, 0, 0, 1, 4, 3, 2, 5]);
     }
 
     #[test]
     fn what_the_library_refuses_is_passed_on() {
-        let bytes = instance("vertices 2\nedge 1 1\nedge 1 1\nagent 9 9\nagent 9 9").unwrap();
+        let bytes = instance("vertices 2\nedge 1 1\nedge 1 1\nagent 9 9\nagent 9 9");
         assert_eq!(bytes, [2, 2, 2, 0, 1, 1, 1, 1, 9, 9, 9, 9]);
-        assert_eq!(instance(""), Ok(vec![0, 0, 0, 0]));
+        assert_eq!(instance(""), [0, 0, 0, 0]);
     }
 
     #[test]
     fn errors_name_the_line() {
-        for (text, line, part) in [
-            ("vertices 2\nvertex 1", "line 2: ", "\"vertex\" is none of"),
-            ("edge 1", "line 1: ", "\"edge A B\" is expected"),
-            ("\n\nagent 1 2 3", "line 3: ", "3 are given"),
-            ("vertices", "line 1: ", "none is given"),
-            ("edge 0 256", "line 1: ", "B of \"edge\""),
-            ("edge 0 -1", "line 1: ", "not \"-1\""),
-            ("grid 16 16", "line 1: ", "more than 255 vertices"),
+        for (text, kind, part) in [
             (
-                "grid 15 17\nvertices 1",
-                "line 2: ",
-                "more than 255 vertices",
+                "vertices 2\nvertex 1",
+                Kind::Keyword,
+                "line 2: \"vertex\" is none of",
             ),
+            (
+                "edge 1",
+                Kind::NumberCount,
+                "line 1: 1 given, the form is \"edge A B\"",
+            ),
+            ("\n\nagent 1 2 3", Kind::NumberCount, "line 3: 3 given"),
+            ("vertices", Kind::NumberCount, "line 1: 0 given"),
+            (
+                "edge 0 256",
+                Kind::NotByte,
+                "line 1: B of \"edge A B\" is \"256\"",
+            ),
+            (
+                "edge -1 0",
+                Kind::NotByte,
+                "line 1: A of \"edge A B\" is \"-1\"",
+            ),
+            ("grid 16 16", Kind::Vertices, "line 1: "),
+            ("grid 15 17\nvertices 1", Kind::Vertices, "line 2: "),
+            (
+                "# old line ends\rvertices 2\r",
+                Kind::CarriageReturn,
+                "line 1: ",
+            ),
+            ("\u{feff}vertices 2", Kind::ByteOrderMark, ""),
         ] {
-            let error = instance(text).unwrap_err();
-            assert!(error.starts_with(line), "{error}");
-            assert!(error.contains(part), "{error}");
+            let error = map(text).err().unwrap();
+            assert_eq!(error.kind, kind);
+            assert!(error.to_string().contains(part), "{error}");
         }
     }
 
     #[test]
     fn too_many_agents_and_edges() {
-        assert!(instance(&"agent 0 0\n".repeat(255)).is_ok());
-        assert!(instance(&"agent 0 0\n".repeat(256)).is_err());
-        assert!(instance(&"edge 0 1\n".repeat(65535)).is_ok());
-        assert!(instance(&"edge 0 1\n".repeat(65536)).is_err());
+        let kind = |text: String| map(&text).err().map(|error| error.kind);
+        assert_eq!(kind("agent 0 0\n".repeat(255)), None);
+        assert_eq!(kind("agent 0 0\n".repeat(256)), Some(Kind::Agents));
+        assert_eq!(kind("edge 0 1\n".repeat(65535)), None);
+        assert_eq!(kind("edge 0 1\n".repeat(65536)), Some(Kind::Edges));
     }
 }

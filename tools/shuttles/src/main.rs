@@ -1,120 +1,162 @@
 //! Shuttle instances, plans and solvers' valuations on the command line.
 
+mod clause;
 mod description;
+mod errors;
+mod horizon;
+mod map;
+mod places;
 mod refusals;
 mod solver_output;
+#[cfg(test)]
+mod words;
 
+use errors::{Error, Kind};
+use horizon::Horizon;
+use map::Map;
+use places::Subject;
 use runglaet::Answer;
 use solver_output::Verdict;
 use std::io::{Read, Write};
 use std::process::ExitCode;
 
 const USAGE: &str = "\
-shuttles instance DESCRIPTION            instance bytes of a description, to standard output
-shuttles decode INSTANCE M < OUTPUT      the plan that a solver's output names, checked and shown
-shuttles encode INSTANCE M PLAN...       the valuation of a plan, written as a solver writes it
-shuttles check INSTANCE M PLAN...        checks a plan of makespan M
-shuttles show INSTANCE PLAN...           shows the rows of a plan and checks nothing
-shuttles refusal NUMBER PLACE            plain words for a refusal
+shuttles instance DESCRIPTION                  instance bytes of a description, to standard output
+shuttles input INSTANCE M                      what the formula program reads: the byte M, then the instance bytes
+shuttles decode INSTANCE M < OUTPUT            the plan that a solver's output names, checked and shown
+shuttles encode INSTANCE M PLAN...             the valuation of a plan, written as a solver writes it
+shuttles check INSTANCE M PLAN...              checks a plan of makespan M
+shuttles show INSTANCE PLAN...                 shows the rows of a plan and checks nothing
+shuttles refusal NUMBER PLACE [INSTANCE [M]]   plain words for a refusal
 
+INSTANCE is a file of instance bytes, or a description: a file that is text throughout is a description.
 A PLAN is numbers, row by row: the vertex of each agent at time 0, then at time 1, and so on.
 PLAN - reads the numbers from standard input. `decode --numbers` writes a plan in this form.
 
-Exit status: 0 done; 1 refused by the library; 2 input that cannot be read; 3 no plan of makespan M.";
+Exit status: 0 done; 1 refused by the library; 2 anything else that went wrong; 3 no plan of makespan M.
+";
 
 /// What a run comes to: a text for standard output and an exit status, or an error.
-type Outcome = Result<(Vec<u8>, u8), String>;
+type Outcome = Result<(Vec<u8>, u8), Error>;
 
 const DONE: u8 = 0;
 const REFUSED: u8 = 1;
-const UNREADABLE: u8 = 2;
+const FAILED: u8 = 2;
 const NO_PLAN: u8 = 3;
 
-/// The highest horizon that the library accepts; above it no slice is needed.
-const HIGHEST_HORIZON: u64 = 32;
-
 fn main() -> ExitCode {
-    let words: Vec<String> = std::env::args_os()
+    let words: Result<Vec<String>, Error> = std::env::args_os()
         .skip(1)
-        .map(|word| word.to_string_lossy().into_owned())
+        .map(|word| word.into_string())
+        .map(|word| word.map_err(|word| Kind::Word.with(format_args!("{word:?}"))))
         .collect();
-    let words: Vec<&str> = words.iter().map(String::as_str).collect();
-    let outcome = match words[..] {
+    let outcome = words.and_then(|words| {
+        let words: Vec<&str> = words.iter().map(String::as_str).collect();
+        run(&words)
+    });
+    match outcome.and_then(|(text, status)| written(&text, status)) {
+        Ok(status) => ExitCode::from(status),
+        Err(error) => {
+            complain(&error);
+            ExitCode::from(FAILED)
+        }
+    }
+}
+
+fn run(words: &[&str]) -> Outcome {
+    match *words {
         ["instance", description] => make_instance(description),
+        ["input", instance, horizon] => input(instance, horizon),
         ["decode", "--numbers", instance, horizon] => decode(instance, horizon, true),
         ["decode", instance, horizon] => decode(instance, horizon, false),
         ["encode", instance, horizon, ref plan @ ..] => encode(instance, horizon, plan),
         ["check", instance, horizon, ref plan @ ..] => check(instance, horizon, plan),
         ["show", instance, ref plan @ ..] => show(instance, plan),
-        ["refusal", number, place] => refusal(number, place),
-        ["help" | "--help" | "-h"] => said(format!("{USAGE}\n"), DONE),
-        _ => Err(format!("usage:\n{USAGE}")),
-    };
-    let outcome = outcome.and_then(|(text, status)| {
-        let mut out = std::io::stdout().lock();
-        out.write_all(&text)
-            .and_then(|()| out.flush())
-            .map_err(|error| format!("standard output: {error}"))?;
-        Ok(status)
-    });
-    match outcome {
-        Ok(status) => ExitCode::from(status),
-        Err(what) => {
-            eprintln!("shuttles: {what}");
-            ExitCode::from(UNREADABLE)
+        ["refusal", number, place, ref subject @ ..] if subject.len() <= 2 => {
+            refusal(number, place, subject)
         }
+        ["help" | "--help" | "-h"] => said(USAGE.to_string(), DONE),
+        _ => Err(Kind::Usage.with(format_args!("{:?}\n{USAGE}", words.join(" ")))),
     }
 }
 
+fn written(text: &[u8], status: u8) -> Result<u8, Error> {
+    let mut out = std::io::stdout().lock();
+    out.write_all(text)
+        .and_then(|()| out.flush())
+        .map_err(|error| Kind::Output.with(error))?;
+    Ok(status)
+}
+
+/// Where standard error takes nothing, the exit status still tells.
+fn complain(error: &Error) {
+    let _ = writeln!(std::io::stderr(), "{error}");
+}
+
 fn make_instance(path: &str) -> Outcome {
-    let text = String::from_utf8(bytes_of(path)?).map_err(|_| format!("{path}: not a text"))?;
-    let bytes = description::instance(&text).map_err(|what| format!("{path}: {what}"))?;
+    Ok((map::read_description(path)?.bytes, DONE))
+}
+
+fn input(instance: &str, horizon: &str) -> Outcome {
+    let (map, horizon) = (map::read(instance)?, Horizon::read(horizon));
+    let answer = instance_answer(&map, &horizon);
+    if answer.number != 0 {
+        return refused(answer, about(&map, &horizon));
+    }
+    let mut bytes = vec![horizon.value as u8];
+    bytes.extend(map.bytes);
     Ok((bytes, DONE))
 }
 
 fn decode(instance: &str, horizon: &str, numbers: bool) -> Outcome {
-    let (instance, horizon) = (bytes_of(instance)?, number(horizon)?);
-    let verdict = solver_output::read(&standard_input()?)?;
-    let (literals, closed) = match verdict {
-        Verdict::Satisfiable { literals, closed } => (literals, closed),
-        Verdict::Unsatisfiable => {
-            // The verdict is about an instance only where the library accepts it: then there is a clause 0.
-            let answer = runglaet::clause(&instance, horizon, 0, &mut [0; 66]);
-            if answer.number != 0 {
-                return refused(answer, &instance);
+    let (map, horizon) = (map::read(instance)?, Horizon::read(horizon));
+    // A verdict is about an instance only where the library accepts it.
+    let answer = instance_answer(&map, &horizon);
+    if answer.number != 0 {
+        return refused(answer, about(&map, &horizon));
+    }
+    match solver_output::read(&standard_input()?)? {
+        Verdict::Satisfiable { literals, closed } => {
+            if !closed {
+                complain(&Kind::NoClosing.alone());
             }
-            return said(format!("no plan of makespan {horizon}\n"), NO_PLAN);
+            decode_literals(&map, &horizon, &literals, numbers)
         }
-        Verdict::Unknown => {
-            return Err("the solver gave up: it is not known if there is a plan".to_string())
-        }
-    };
-    if !closed {
-        eprintln!("shuttles: the solver's output has no closing 0");
+        Verdict::Unsatisfiable => said(format!("no plan of makespan {}\n", horizon.word), NO_PLAN),
+        Verdict::Unknown => Err(Kind::GaveUp.alone()),
     }
-    let entries = solver_output::entries(&literals, variables(&instance, horizon))?;
-    let mut plan = vec![0; plan_bytes(&instance, horizon)];
-    let answer = runglaet::decode(&instance, horizon, &entries, &mut plan);
+}
+
+fn decode_literals(map: &Map, horizon: &Horizon, literals: &[i32], numbers: bool) -> Outcome {
+    let entries = solver_output::entries(literals, map.variables(horizon))?;
+    let mut plan = vec![0; map.plan_bytes(horizon)];
+    let answer = runglaet::decode(&map.bytes, horizon.value, &entries, &mut plan);
     if answer.number != 0 {
-        return refused(answer, &instance);
+        let entries = Some(&entries[..]);
+        return refused(
+            answer,
+            Subject {
+                entries,
+                ..about(map, horizon)
+            },
+        );
     }
-    let answer = runglaet::check_plan(&instance, horizon, &plan);
+    let answer = runglaet::check_plan(&map.bytes, horizon.value, &plan);
     if answer.number != 0 {
-        return refused(answer, &instance);
+        return refused(answer, about_plan(map, horizon, &plan));
     }
     if numbers {
-        return said(numbers_of(&instance, &plan), DONE);
+        return said(numbers_of(map, &plan), DONE);
     }
-    let text = shown(&instance, &plan) + &passed(horizon, answer);
-    said(text, DONE)
+    said(shown(map, &plan) + &passed(horizon, answer), DONE)
 }
 
 fn encode(instance: &str, horizon: &str, plan: &[&str]) -> Outcome {
-    let (instance, horizon, plan) = (bytes_of(instance)?, number(horizon)?, plan_of(plan)?);
-    let mut entries = vec![0; variables(&instance, horizon)];
-    let answer = runglaet::encode(&instance, horizon, &plan, &mut entries);
+    let (map, horizon, plan) = (map::read(instance)?, Horizon::read(horizon), plan_of(plan)?);
+    let mut entries = vec![0; map.variables(&horizon)];
+    let answer = runglaet::encode(&map.bytes, horizon.value, &plan, &mut entries);
     if answer.number != 0 {
-        return refused(answer, &instance);
+        return refused(answer, about_plan(&map, &horizon, &plan));
     }
     let mut text = "s SATISFIABLE\n".to_string();
     for some in entries.chunks(16) {
@@ -125,46 +167,76 @@ fn encode(instance: &str, horizon: &str, plan: &[&str]) -> Outcome {
 }
 
 fn check(instance: &str, horizon: &str, plan: &[&str]) -> Outcome {
-    let (instance, horizon, plan) = (bytes_of(instance)?, number(horizon)?, plan_of(plan)?);
-    let answer = runglaet::check_plan(&instance, horizon, &plan);
+    let (map, horizon, plan) = (map::read(instance)?, Horizon::read(horizon), plan_of(plan)?);
+    let answer = runglaet::check_plan(&map.bytes, horizon.value, &plan);
     if answer.number != 0 {
-        return refused(answer, &instance);
+        return refused(answer, about_plan(&map, &horizon, &plan));
     }
-    said(passed(horizon, answer), DONE)
+    said(passed(&horizon, answer), DONE)
 }
 
 fn show(instance: &str, plan: &[&str]) -> Outcome {
-    let (instance, plan) = (bytes_of(instance)?, plan_of(plan)?);
-    said(shown(&instance, &plan), DONE)
+    let (map, plan) = (map::read(instance)?, plan_of(plan)?);
+    said(shown(&map, &plan), DONE)
 }
 
-fn refusal(refusal: &str, place: &str) -> Outcome {
-    let refusal =
-        u32::try_from(number(refusal)?).map_err(|_| format!("\"{refusal}\" is too high"))?;
+fn refusal(number: &str, place: &str, subject: &[&str]) -> Outcome {
     let answer = Answer {
-        number: refusal,
-        second: number(place)?,
+        number: whole(number)?,
+        second: whole(place)?,
     };
-    said(format!("{}\n", refusals::describe(answer, None)), DONE)
+    let map = subject.first().map(|path| map::read(path)).transpose()?;
+    let horizon = subject.get(1).map(|word| Horizon::read(word));
+    let subject = Subject {
+        map: map.as_ref(),
+        horizon: horizon.as_ref(),
+        ..Subject::default()
+    };
+    said(format!("{}\n", refusals::describe(answer, subject)), DONE)
 }
 
-fn refused(answer: Answer, instance: &[u8]) -> Outcome {
-    let agents = instance.get(1).copied();
-    said(format!("{}\n", refusals::describe(answer, agents)), REFUSED)
+/// The answer to questions 1 to 10: where all are answered yes, the formula has a clause 0.
+fn instance_answer(map: &Map, horizon: &Horizon) -> Answer {
+    runglaet::clause(&map.bytes, horizon.value, 0, &mut [0; 66])
+}
+
+fn about<'a>(map: &'a Map, horizon: &'a Horizon) -> Subject<'a> {
+    Subject {
+        map: Some(map),
+        horizon: Some(horizon),
+        ..Subject::default()
+    }
+}
+
+fn about_plan<'a>(map: &'a Map, horizon: &'a Horizon, plan: &'a [u8]) -> Subject<'a> {
+    Subject {
+        plan: Some(plan),
+        ..about(map, horizon)
+    }
+}
+
+fn refused(answer: Answer, subject: Subject) -> Outcome {
+    said(
+        format!("{}\n", refusals::describe(answer, subject)),
+        REFUSED,
+    )
 }
 
 fn said(text: String, status: u8) -> Outcome {
     Ok((text.into_bytes(), status))
 }
 
-fn passed(horizon: u64, answer: Answer) -> String {
-    format!("plan passes: makespan {horizon}, cost {}\n", answer.second)
+fn passed(horizon: &Horizon, answer: Answer) -> String {
+    format!(
+        "plan passes: makespan {}, cost {}\n",
+        horizon.word, answer.second
+    )
 }
 
 /// A line for each row: the time, and each agent at its vertex.
-fn shown(instance: &[u8], plan: &[u8]) -> String {
+fn shown(map: &Map, plan: &[u8]) -> String {
     let mut text = String::new();
-    for (t, row) in plan.chunks(agents(instance).max(1)).enumerate() {
+    for (t, row) in plan.chunks(map.agents().max(1)).enumerate() {
         text += &format!("t={t}:");
         for (a, v) in row.iter().enumerate() {
             text += &format!(" agent{a}@{v}");
@@ -175,47 +247,29 @@ fn shown(instance: &[u8], plan: &[u8]) -> String {
 }
 
 /// A line for each row: the vertices only.
-fn numbers_of(instance: &[u8], plan: &[u8]) -> String {
+fn numbers_of(map: &Map, plan: &[u8]) -> String {
     let mut text = String::new();
-    for row in plan.chunks(agents(instance).max(1)) {
+    for row in plan.chunks(map.agents().max(1)) {
         let words: Vec<String> = row.iter().map(u8::to_string).collect();
         text += &format!("{}\n", words.join(" "));
     }
     text
 }
 
-fn agents(instance: &[u8]) -> usize {
-    instance.get(1).map_or(0, |&k| k as usize)
-}
-
-/// (m+1)·k, as far as the sizes can be read.
-fn plan_bytes(instance: &[u8], horizon: u64) -> usize {
-    (horizon.min(HIGHEST_HORIZON) as usize + 1) * agents(instance)
-}
-
-/// N = n·k·(m+1), as far as the sizes can be read.
-fn variables(instance: &[u8], horizon: u64) -> usize {
-    instance.first().map_or(0, |&n| n as usize) * plan_bytes(instance, horizon)
-}
-
-fn bytes_of(path: &str) -> Result<Vec<u8>, String> {
-    std::fs::read(path).map_err(|error| format!("{path}: {error}"))
-}
-
-fn standard_input() -> Result<String, String> {
+fn standard_input() -> Result<String, Error> {
     let mut bytes = Vec::new();
     std::io::stdin()
         .read_to_end(&mut bytes)
-        .map_err(|error| format!("standard input: {error}"))?;
+        .map_err(|error| Kind::Input.with(error))?;
     Ok(String::from_utf8_lossy(&bytes).into_owned())
 }
 
-fn number(word: &str) -> Result<u64, String> {
+fn whole<Number: std::str::FromStr>(word: &str) -> Result<Number, Error> {
     word.parse()
-        .map_err(|_| format!("\"{word}\" is not a number"))
+        .map_err(|_| Kind::RefusalWord.with(format_args!("{word:?}")))
 }
 
-fn plan_of(words: &[&str]) -> Result<Vec<u8>, String> {
+fn plan_of(words: &[&str]) -> Result<Vec<u8>, Error> {
     let text = match words {
         ["-"] => standard_input()?,
         _ => words.join(" "),
@@ -223,7 +277,7 @@ fn plan_of(words: &[&str]) -> Result<Vec<u8>, String> {
     text.split_whitespace()
         .map(|word| {
             word.parse()
-                .map_err(|_| format!("plan: \"{word}\" is not a number from 0 to 255"))
+                .map_err(|_| Kind::PlanWord.with(format_args!("{word:?}")))
         })
         .collect()
 }

@@ -1,118 +1,159 @@
 //! Plain words for every refusal, numbered as in include/runglaet.h and README.md.
+//!
+//! A line begins with the number and its words, so that refusals of one kind can be grouped by their first forty
+//! characters; the place comes last, in the reader's terms and then as the library gave it.
 
+use crate::places::{self, Subject, Terms};
 use runglaet::Answer;
 
-/// What the place of a refusal counts.
-#[derive(Clone, Copy)]
-enum Place {
-    /// Nothing: the place is always 0.
-    Nothing,
-    /// A number of something, named here.
-    Count(&'static str),
-    /// A byte of the instance.
-    InstanceByte,
-    /// A byte of the plan: an agent at a time.
-    PlanByte,
-    /// An entry of the valuation.
-    Entry,
-    /// A clause of the formula.
-    Clause,
-}
-
-use Place::*;
-
 #[rustfmt::skip] // a line a refusal
-/// Refusal number i stands at index i - 1.
-const REFUSALS: [(&str, Place); 24] = [
-    ("the instance is cut short: it must begin with 4 bytes of sizes", Count("bytes given")),
-    ("the map must have 1 to 64 vertices", InstanceByte),
-    ("there must be 1 to 16 agents, and no more agents than vertices", InstanceByte),
-    ("there are more edges than pairs of vertices", InstanceByte),
-    ("the instance is longer or shorter than its sizes say", Count("bytes given")),
-    ("an edge must join two different vertices of the map, low end first", InstanceByte),
-    ("the edges are out of order, or one is listed twice", InstanceByte),
-    ("a start is not on the map, or two agents have the same start", InstanceByte),
-    ("a goal is not on the map, or two agents have the same goal", InstanceByte),
-    ("the horizon is above 32 steps", Nothing),
-    ("the formula has no clause of this number", Count("clauses in all")),
-    ("the memory lent for the formula or the clause is too small", Count("words needed")),
-    ("the plan is cut short or too long: it must have a vertex for each agent at each time", Count("bytes given")),
-    ("the valuation is cut short or too long: it must have an entry for each variable", Count("entries given")),
-    ("the memory lent for the plan is too small", Count("bytes needed")),
-    ("the memory lent for the valuation is too small", Count("entries needed")),
-    ("the plan names a vertex that is not on the map", PlanByte),
-    ("the plan does not begin at the agent's start", PlanByte),
-    ("no edge leads there: the agent neither waits nor crosses an edge", PlanByte),
-    ("aisle still occupied: the agent enters a vertex on which one stood just before", PlanByte),
-    ("bay claimed twice: the agent shares its vertex with another", PlanByte),
-    ("the plan does not end at the agent's goal", PlanByte),
-    ("the valuation has an entry missing or out of order: it is neither its variable nor the negative", Entry),
-    ("the valuation does not satisfy the formula: this clause has no true literal (there may still be a plan)", Clause),
+/// The refusals: number, words, what the place is, and the place in the reader's terms.
+pub const REFUSALS: &[(u32, &str, &str, Terms)] = &[
+    (1, "the instance is cut short before the end of its sizes", "the bytes given", places::sizes_cut),
+    (2, "the number of vertices must be from 1 to 64", "a byte of the instance", places::vertex_count),
+    (3, "the number of agents must be from 1 to 16 and at most that of vertices", "a byte of the instance", places::agent_count),
+    (4, "there are more edges than pairs of vertices", "a byte of the instance", places::edge_count),
+    (5, "the instance is longer or shorter than its sizes say", "the bytes given", places::instance_length),
+    (6, "an edge must join two vertices of the map, the lower one first", "4 + the edge", places::edge_ends),
+    (7, "the edges are out of order, or one is there twice", "4 + the edge", places::edge_order),
+    (8, "an agent's start is not on the map, or is an earlier agent's too", "a byte of the instance", places::start),
+    (9, "an agent's goal is not on the map, or is an earlier agent's too", "a byte of the instance", places::goal),
+    (10, "the horizon must be a whole number from 0 to 32", "always 0", places::horizon),
+    (11, "the formula has no clause with the number asked for", "the number of clauses", places::clause_count),
+    (12, "the memory lent for the formula or the clause is too small", "the words needed", places::words_needed),
+    (13, "the plan must have one vertex for each agent at each time", "the vertices given", places::plan_length),
+    (14, "the valuation must have one entry for each variable", "the entries given", places::valuation_length),
+    (15, "the memory lent for the decoded plan is too small", "the bytes needed", places::bytes_needed),
+    (16, "the memory lent for the valuation is too small", "the entries needed", places::entries_needed),
+    (17, "the plan names a vertex that is not on the map", "a byte of the plan", places::unknown_vertex),
+    (18, "the plan does not begin with every agent at its start", "a byte of the plan", places::not_at_start),
+    (19, "an agent jumps: no edge joins the vertices of its step", "a byte of the plan", places::jump),
+    (20, "an agent enters a vertex where another stood as the step began", "a byte of the plan", places::occupied),
+    (21, "two agents are at the same vertex at the end of a step", "a byte of the plan", places::shared),
+    (22, "the plan does not end with every agent at its goal", "a byte of the plan", places::not_at_goal),
+    (23, "an entry of the valuation is neither its variable nor its negative", "an entry of the valuation", places::entry),
+    (24, "the valuation makes a clause false, which does not mean that there is no plan", "a clause", places::falsified),
 ];
 
-/// The number, the place and the words of a refusal. `agents` tells where in a plan a byte stands.
-pub fn describe(answer: Answer, agents: Option<u8>) -> String {
+pub fn describe(answer: Answer, subject: Subject) -> String {
     let Answer { number, second } = answer;
-    let index = (number as usize).wrapping_sub(1);
-    let Some((words, place)) = REFUSALS.get(index).copied() else {
-        return format!("refused {number} {second}: this tool knows no such refusal");
+    let Some((_, words, place, terms)) = REFUSALS.iter().find(|refusal| refusal.0 == number) else {
+        return format!(
+            "refused {number}: this tool has no words for refusals of this number (place {second})"
+        );
     };
-    let place = match (place, agents.unwrap_or(0) as u64) {
-        (Nothing, _) => String::new(),
-        (Count(what), _) => format!(" ({what}: {second})"),
-        (InstanceByte, _) => format!(" (byte {second} of the instance)"),
-        (PlanByte, 0) => format!(" (byte {second} of the plan)"),
-        (PlanByte, k) => format!(" (agent{} at t={})", second % k, second / k),
-        (Entry, _) => format!(" (entry {second}, variable {})", second.saturating_add(1)),
-        (Clause, _) => format!(" (clause {second})"),
-    };
-    format!("refused {number} {second}: {words}{place}")
+    let told = usize::try_from(second)
+        .ok()
+        .and_then(|second| terms(subject, second))
+        .unwrap_or(format!("the place is {place}"));
+    format!("refused {number}: {words}: {told} (place {second})")
 }
 
 #[cfg(test)]
 mod tests {
     use super::*;
+    use crate::description;
+    use crate::horizon::Horizon;
+    use crate::map::Map;
 
+    /// What the plan check says of a plan, behind the refusal's words.
+    fn refused(map: &Map, m: &str, plan: &[u8]) -> String {
+        let horizon = Horizon::read(m);
+        let subject = Subject {
+            map: Some(map),
+            horizon: Some(&horizon),
+            plan: Some(plan),
+            ..Subject::default()
+        };
+        let answer = runglaet::check_plan(&map.bytes, horizon.value, plan);
+        let (number, words, _, _) = REFUSALS[answer.number as usize - 1];
+        let before = format!("refused {number}: {words}: ");
+        let line = describe(answer, subject);
+        format!("{number}: {}", line.strip_prefix(&before).unwrap())
+    }
+
+    #[rustfmt::skip] // a line a refusal
     #[test]
-    fn every_refusal_has_words_of_its_own() {
-        for (i, (words, _)) in REFUSALS.iter().enumerate() {
-            assert!(!words.is_empty());
-            assert!(REFUSALS[..i].iter().all(|(earlier, _)| earlier != words));
+    fn instances() {
+        for (bytes, expected) in [
+            (&b"\x02\x01"[..], "1: 2 bytes given, the sizes take 4 (place 2)"),
+            (b"\x41\x01\x00\x00", "2: the instance bytes (the file is no text) say 65 vertices (place 0)"),
+            (b"\x02\x03\x00\x00", "3: the instance bytes (the file is no text) say 3 agents and 2 vertices (place 1)"),
+            (b"\x03\x01\x04\x00", "4: the instance bytes (the file is no text) say 4 edges, and 3 vertices make 3 pairs (place 2)"),
+            (b"\x02\x01\x01\x00\x00\x01\x00", "5: 7 bytes given, 1 edge and 1 agent need 8 (place 7)"),
+            (b"\x02\x01\x01\x00\x01\x00\x00\x01", "6: edge 1-0, the higher end comes first (place 4)"),
+            (b"\x03\x01\x02\x00\x01\x00\x02\x01\x00\x01", "7: edge 0-1 comes after edge 1-2 (place 5)"),
+        ] {
+            let map = Map { bytes: bytes.to_vec(), lines: None };
+            assert_eq!(refused(&map, "1", &[]), expected);
         }
     }
 
+    #[rustfmt::skip] // a line a refusal
     #[test]
-    fn a_plan_byte_is_an_agent_at_a_time() {
-        let text = describe(
-            Answer {
-                number: 20,
-                second: 5,
-            },
-            Some(2),
-        );
-        assert!(text.starts_with("refused 20 5: aisle still occupied"));
-        assert!(text.ends_with("(agent1 at t=2)"));
-        let text = describe(
-            Answer {
-                number: 20,
-                second: 5,
-            },
-            None,
-        );
-        assert!(text.ends_with("(byte 5 of the plan)"));
+    fn descriptions() {
+        for (text, expected) in [
+            ("vertices 3\nagent 0 1\nedge 2 2", "6: edge 2-2 (line 3), both ends are one vertex (place 4)"),
+            ("grid 1 3\nagent 0 1\nedge 2 9", "6: edge 2-9 (line 3), the map has only vertices 0 to 2 (place 6)"),
+            ("grid 1 3\nagent 0 1\nedge 2 1", "7: edge 1-2 (line 3) is there already (line 1) (place 6)"),
+            ("vertices 2\nagent 0 1\n\nagent 0 1", "8: agent 1 (line 4) starts at vertex 0, as agent 0 (line 2) does (place 5)"),
+            ("vertices 2\nagent 2 1\nagent 0 1", "8: agent 0 (line 2) starts at vertex 2, the map has only vertices 0 to 1 (place 4)"),
+            ("vertices 2\nagent 0 1\nagent 1 1", "9: agent 1 (line 3) has its goal at vertex 1, as agent 0 (line 2) does (place 7)"),
+            ("vertices 1\nagent 0 1", "9: agent 0 (line 2) has its goal at vertex 1, the map has only vertex 0 (place 5)"),
+        ] {
+            assert_eq!(refused(&description::map(text).unwrap(), "1", &[]), expected);
+        }
     }
 
+    #[rustfmt::skip] // a line a refusal
     #[test]
-    fn numbers_without_words() {
-        for number in [0, 25, u32::MAX] {
-            let text = describe(
-                Answer {
-                    number,
-                    second: u64::MAX,
-                },
-                Some(1),
-            );
-            assert!(text.ends_with("knows no such refusal"));
+    fn plans() {
+        let map = description::map("vertices 3\nedge 0 1\nedge 1 2\nagent 0 1\nagent 2 2").unwrap();
+        for (m, plan, expected) in [
+            ("02", &[][..], "10: \"02\" was given (place 0)"),
+            ("1", &[0, 2, 1], "13: 3 vertices given, 2 agents at times 0 to 1 need 4 (place 3)"),
+            ("1", &[0, 2, 1, 3], "17: agent 1 (line 5) at time 1: at vertex 3, the map has only vertices 0 to 2 (place 3)"),
+            ("1", &[0, 1, 1, 2], "18: agent 1 (line 5) at time 0: at vertex 1, its start is vertex 2 (place 1)"),
+            ("1", &[0, 2, 0, 0], "19: agent 1 (line 5) at time 1: from vertex 2 to vertex 0 (place 3)"),
+            ("2", &[0, 2, 1, 2, 2, 2], "20: agent 0 (line 4) at time 2: from vertex 1 to vertex 2, where agent 1 (line 5) was at time 1 (place 4)"),
+            ("1", &[0, 2, 1, 1], "21: agent 1 (line 5) at time 1: at vertex 1, and so is agent 0 (line 4) (place 3)"),
+            ("0", &[0, 2], "22: agent 0 (line 4) at time 0: at vertex 0, its goal is vertex 1 (place 0)"),
+        ] {
+            assert_eq!(refused(&map, m, plan), expected);
+        }
+    }
+
+    #[rustfmt::skip] // a line a refusal
+    #[test]
+    fn valuations() {
+        let map = description::map("vertices 2\nedge 0 1\nagent 0 1").unwrap();
+        let horizon = Horizon::read("1");
+        for (entries, expected) in [
+            (&[1, -2, -3][..], "refused 14: the valuation must have one entry for each variable: 3 entries given, 1 agent on 2 vertices at times 0 to 1 need 4 (place 3)"),
+            (&[1, -2, -4, 3], "refused 23: an entry of the valuation is neither its variable nor its negative: entry 2 must be 3 or -3, for agent 0 (line 3) at vertex 0 at time 1; -4 stands there (place 2)"),
+            (&[1, 0, -3, 4], "refused 23: an entry of the valuation is neither its variable nor its negative: entry 1 must be 2 or -2, for agent 0 (line 3) at vertex 1 at time 0; the solver left it out (place 1)"),
+            (&[1, -2, 3, 4], "refused 24: the valuation makes a clause false, which does not mean that there is no plan: clause 5 of family D (no agent is at two vertices at one time), for agent 0 (line 3) at vertices 0 and 1 at time 1 (place 5)"),
+        ] {
+            let answer = runglaet::decode(&map.bytes, 1, entries, &mut [0; 2]);
+            let subject = Subject {
+                map: Some(&map),
+                horizon: Some(&horizon),
+                entries: Some(entries),
+                ..Subject::default()
+            };
+            assert_eq!(describe(answer, subject), expected);
+        }
+    }
+
+    #[rustfmt::skip] // a line a refusal
+    #[test]
+    fn without_an_instance() {
+        for (number, second, expected) in [
+            (12, 24, "refused 12: the memory lent for the formula or the clause is too small: 24 words of 32 bits are needed (place 24)"),
+            (20, 5, "refused 20: an agent enters a vertex where another stood as the step began: the place is a byte of the plan (place 5)"),
+            (25, 5, "refused 25: this tool has no words for refusals of this number (place 5)"),
+        ] {
+            assert_eq!(describe(Answer { number, second }, Subject::default()), expected);
         }
     }
 }

@@ -1,5 +1,7 @@
 //! Reading what a solver printed: the format of the SAT competitions, or minisat's result file.
 
+use crate::errors::{Error, Kind};
+
 #[derive(Debug, PartialEq, Eq)]
 pub enum Verdict {
     /// The literals in the solver's order, and whether the closing 0 was there.
@@ -12,46 +14,88 @@ pub enum Verdict {
     Unknown,
 }
 
-/// The solver's verdict, or what is wrong with its output.
-pub fn read(text: &str) -> Result<Verdict, String> {
-    let mut status: Option<&str> = None;
-    let mut literals = Vec::new();
-    let mut closed = false;
-    for (i, line) in text.lines().enumerate() {
-        let at = |what: String| format!("line {}: {what}", i + 1);
-        let mut words = line.split_whitespace().peekable();
-        let Some(&first) = words.peek() else { continue };
-        let values = match first {
-            "c" => false,
-            "s" | "SAT" | "UNSAT" | "INDET" => {
-                let said = line.trim().strip_prefix("s ").unwrap_or(line).trim();
-                if status.replace(said).is_some() {
-                    return Err(at("a second verdict".to_string()));
-                }
-                false
-            }
-            "v" => {
-                words.next();
-                true
-            }
-            // minisat's result file: the literals stand in the line after SAT, with nothing before them.
-            _ => status == Some("SAT"),
-        };
-        if !values {
+/// The verdicts, each as a whole line. The last is cryptominisat's word for unknown.
+const COMPETITION: [&str; 4] = [
+    "s SATISFIABLE",
+    "s UNSATISFIABLE",
+    "s UNKNOWN",
+    "s INDETERMINATE",
+];
+const MINISAT: [&str; 3] = ["SAT", "UNSAT", "INDET"];
+
+pub fn read(text: &str) -> Result<Verdict, Error> {
+    let (line, verdict) = verdict(text)?;
+    let values: Vec<(usize, &str)> = if MINISAT.contains(&verdict) {
+        lines(text).filter(|&(i, _)| i > line).collect()
+    } else {
+        let value = |line| word_removed(line, "v");
+        lines(text)
+            .filter_map(|(i, line)| Some((i, value(line)?)))
+            .collect()
+    };
+    let (literals, closed) = valuation(text, &values)?;
+    Ok(match verdict {
+        "s SATISFIABLE" | "SAT" => Verdict::Satisfiable { literals, closed },
+        "s UNSATISFIABLE" | "UNSAT" => Verdict::Unsatisfiable,
+        _ => Verdict::Unknown,
+    })
+}
+
+/// The lines, numbered from 1, without comments and carriage returns.
+fn lines(text: &str) -> impl Iterator<Item = (usize, &str)> {
+    (1..)
+        .zip(text.lines().map(|line| line.trim_end_matches('\r')))
+        .filter(|(_, line)| word_removed(line, "c").is_none())
+}
+
+/// What follows the first word of a line, where it is this one.
+fn word_removed<'a>(line: &'a str, word: &str) -> Option<&'a str> {
+    let rest = line.strip_prefix(word)?;
+    (rest.is_empty() || rest.starts_with([' ', '\t'])).then_some(rest)
+}
+
+/// The one verdict and its line.
+fn verdict(text: &str) -> Result<(usize, &str), Error> {
+    let mut found = None;
+    for (i, line) in lines(text) {
+        if !is_verdict(line).map_err(|kind| kind.in_line(i, format_args!("{line:?}")))? {
             continue;
         }
-        for word in words {
-            // Where the output breaks off, its last number may have lost digits.
-            if word != "0"
-                && word.as_bytes().as_ptr_range().end == text.as_bytes().as_ptr_range().end
-            {
+        if found.replace((i, line)).is_some() {
+            return Err(Kind::SecondVerdict.in_line(i, format_args!("{line:?}")));
+        }
+    }
+    found.ok_or(Kind::NoVerdict.alone())
+}
+
+/// An error where the line should be a verdict and is none.
+fn is_verdict(line: &str) -> Result<bool, Kind> {
+    let mut verdicts = COMPETITION.iter().chain(&MINISAT);
+    if verdicts.clone().any(|&verdict| verdict == line) {
+        Ok(true)
+    } else if !line.is_empty() && verdicts.any(|verdict| verdict.starts_with(line)) {
+        Err(Kind::CutVerdict)
+    } else if word_removed(line, "s").is_some() {
+        Err(Kind::UnknownVerdict)
+    } else {
+        Ok(false)
+    }
+}
+
+/// The literals of the numbered lines, and whether a 0 closes them.
+fn valuation(text: &str, values: &[(usize, &str)]) -> Result<(Vec<i32>, bool), Error> {
+    let mut literals = Vec::new();
+    let mut closed = false;
+    for &(i, line) in values {
+        for word in line.split_whitespace() {
+            if word != "0" && ends_with(text, word) {
                 break;
             }
             let literal: i32 = word
                 .parse()
-                .map_err(|_| at(format!("\"{word}\" is not a literal")))?;
+                .map_err(|_| Kind::NotLiteral.in_line(i, format_args!("{word:?}")))?;
             if closed {
-                return Err(at(format!("literal {word} after the closing 0")));
+                return Err(Kind::AfterClosing.in_line(i, word));
             }
             if literal == 0 {
                 closed = true;
@@ -60,23 +104,18 @@ pub fn read(text: &str) -> Result<Verdict, String> {
             }
         }
     }
-    match status {
-        Some("SATISFIABLE" | "SAT") => Ok(Verdict::Satisfiable { literals, closed }),
-        Some("UNSATISFIABLE" | "UNSAT") => Ok(Verdict::Unsatisfiable),
-        Some("UNKNOWN" | "INDET" | "INDETERMINATE") => Ok(Verdict::Unknown),
-        Some(other) => Err(format!("the verdict \"{other}\" is not known")),
-        None => Err(
-            "no verdict in the solver's output: neither a line \"s SATISFIABLE\" or \"s UNSATISFIABLE\", \
-             nor minisat's \"SAT\" or \"UNSAT\""
-                .to_string(),
-        ),
-    }
+    Ok((literals, closed))
+}
+
+/// Whether the text breaks off behind this word of it, which may then have lost digits.
+fn ends_with(text: &str, word: &str) -> bool {
+    word.as_bytes().as_ptr_range().end == text.as_bytes().as_ptr_range().end
 }
 
 /// The literals as a list in variable order. A variable that the solver left out has the entry 0, which the library
 /// refuses; the list ends with the highest variable given, so one that was cut short stays short. Literals above the
 /// last variable stand behind the list, which is then too long.
-pub fn entries(literals: &[i32], variables: usize) -> Result<Vec<i32>, String> {
+pub fn entries(literals: &[i32], variables: usize) -> Result<Vec<i32>, Error> {
     let mut entries: Vec<i32> = Vec::new();
     let mut beyond: Vec<i32> = Vec::new();
     for &literal in literals {
@@ -89,10 +128,8 @@ pub fn entries(literals: &[i32], variables: usize) -> Result<Vec<i32>, String> {
             entries.resize(index + 1, 0);
         }
         if entries[index] != 0 && entries[index] != literal {
-            return Err(format!(
-                "the solver says both {} and {literal}",
-                entries[index]
-            ));
+            let details = format!("{} and {literal}", entries[index]);
+            return Err(Kind::Contradiction.with(details));
         }
         entries[index] = literal;
     }
@@ -107,11 +144,15 @@ pub fn entries(literals: &[i32], variables: usize) -> Result<Vec<i32>, String> {
 mod tests {
     use super::*;
 
-    fn satisfiable(literals: &[i32], closed: bool) -> Result<Verdict, String> {
+    fn satisfiable(literals: &[i32], closed: bool) -> Result<Verdict, Error> {
         Ok(Verdict::Satisfiable {
             literals: literals.to_vec(),
             closed,
         })
+    }
+
+    fn kind(text: &str) -> Option<Kind> {
+        read(text).err().map(|error| error.kind)
     }
 
     #[test]
@@ -121,6 +162,7 @@ mod tests {
         assert_eq!(read("v 1 0\ns SATISFIABLE"), satisfiable(&[1], true));
         assert_eq!(read("s UNSATISFIABLE\r\n"), Ok(Verdict::Unsatisfiable));
         assert_eq!(read("s UNKNOWN"), Ok(Verdict::Unknown));
+        assert_eq!(read("s INDETERMINATE"), Ok(Verdict::Unknown));
     }
 
     #[test]
@@ -130,7 +172,18 @@ mod tests {
             satisfiable(&[1, -2, -3, 4], true)
         );
         assert_eq!(read("UNSAT\n"), Ok(Verdict::Unsatisfiable));
-        assert_eq!(read("INDET\n"), Ok(Verdict::Unknown));
+        assert_eq!(read("INDET\r\n"), Ok(Verdict::Unknown));
+    }
+
+    #[test]
+    fn the_formats_are_not_mixed() {
+        assert_eq!(kind("SAT\nv 1 0\n"), Some(Kind::NotLiteral));
+        assert_eq!(read("s SATISFIABLE\n1 0\n"), satisfiable(&[], false));
+        assert_eq!(kind("s SATISFIABLE\nSAT\n1 0\n"), Some(Kind::SecondVerdict));
+        assert_eq!(kind("SATISFIABLE\n"), Some(Kind::NoVerdict));
+        for verdict in MINISAT {
+            assert_eq!(kind(&format!("s {verdict}\n")), Some(Kind::CutVerdict));
+        }
     }
 
     #[test]
@@ -150,19 +203,57 @@ mod tests {
         assert_eq!(read("s SATISFIABLE\n"), satisfiable(&[], false));
     }
 
+    /// A verdict is not taken from a part of its line, with a line end behind it or without.
+    #[test]
+    fn a_verdict_cut_short_is_none() {
+        for verdict in COMPETITION.iter().chain(&MINISAT) {
+            for length in 1..verdict.len() {
+                let cut = &verdict[..length];
+                assert_eq!(kind(cut), Some(Kind::CutVerdict), "{cut}");
+                assert_eq!(
+                    kind(&format!("c\n{cut}\n")),
+                    Some(Kind::CutVerdict),
+                    "{cut}"
+                );
+            }
+        }
+    }
+
+    /// Without its line end a whole verdict counts: none is the beginning of another, and where it is the beginning of
+    /// a word that minisat prints elsewhere (UNSATISFIABLE, INDETERMINATE), it means the same.
+    #[test]
+    fn a_verdict_without_a_line_end() {
+        for (verdict, elsewhere) in [("UNSAT", "UNSATISFIABLE"), ("INDET", "INDETERMINATE")] {
+            assert!(read(verdict).is_ok());
+            assert_eq!(kind(elsewhere), Some(Kind::NoVerdict));
+        }
+        assert_eq!(read("s UNSATISFIABLE"), Ok(Verdict::Unsatisfiable));
+        assert_eq!(read("SAT"), satisfiable(&[], false));
+    }
+
     #[test]
     fn malformed() {
-        for (text, part) in [
-            ("", "no verdict"),
-            ("|  Number of variables: 4 |\nSATISFIABLE\n", "no verdict"),
-            ("s SATISFIABLE\ns UNSATISFIABLE", "line 2: a second verdict"),
-            ("s PERHAPS", "\"PERHAPS\" is not known"),
-            ("s SATISFIABLE\nv 1 x 0", "line 2: \"x\" is not a literal"),
-            ("SAT\n1 2147483648 0", "line 2: \"2147483648\""),
-            ("SAT\n1 0 2\n", "line 2: literal 2 after the closing 0"),
+        for (text, expected, part) in [
+            ("", Kind::NoVerdict, ""),
+            ("|  Variables: 4 |\nSATISFIABLE\n", Kind::NoVerdict, ""),
+            (
+                "s SATISFIABLE\ns UNSATISFIABLE",
+                Kind::SecondVerdict,
+                "line 2",
+            ),
+            ("s PERHAPS", Kind::UnknownVerdict, "line 1: \"s PERHAPS\""),
+            ("s SATISFIABLE ", Kind::UnknownVerdict, "\"s SATISFIABLE \""),
+            ("s SATISFIABLE\nv 1 x 0", Kind::NotLiteral, "line 2: \"x\""),
+            (
+                "SAT\n1 2147483648 0",
+                Kind::NotLiteral,
+                "line 2: \"2147483648\"",
+            ),
+            ("SAT\n1 0 2\n", Kind::AfterClosing, "line 2: 2"),
         ] {
             let error = read(text).unwrap_err();
-            assert!(error.contains(part), "{error}");
+            assert_eq!(error.kind, expected);
+            assert!(error.to_string().contains(part), "{error}");
         }
     }
 
@@ -173,6 +264,7 @@ mod tests {
         assert_eq!(entries(&[-2, 1], 4), Ok(vec![1, -2]));
         assert_eq!(entries(&[3], 4), Ok(vec![0, 0, 3]));
         assert_eq!(entries(&[9, 1, i32::MIN], 2), Ok(vec![1, 0, 9, i32::MIN]));
-        assert!(entries(&[1, -1], 1).is_err());
+        let error = entries(&[1, -1], 1).unwrap_err();
+        assert_eq!(error.kind, Kind::Contradiction);
     }
 }

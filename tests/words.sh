@@ -1,0 +1,443 @@
+#!/usr/bin/env bash
+# What the tool, examples/solve.sh, the scripts that build and the formula program say of faults: tests/words.sh.
+#
+# Provokes every error that there is, and every refusal, by command lines. Each must end with its documented status and
+# say one line, whose first forty characters tell its kind: equal within a kind, different between kinds.
+# Installs nothing: the solvers here are scripts. RUNGLAET_LIB and RUNGLAET_PROGRAM as in examples/solve.sh.
+#
+# What stands in single quotes is for those scripts to expand.
+# shellcheck disable=SC2016
+set -u
+root=$(realpath "$(dirname "$0")/..") || exit 2
+solve=$root/examples/solve.sh
+shuttles=$("$root/tools/shuttles/build.sh") || exit 2
+program=$(realpath "${RUNGLAET_PROGRAM:-$("$root/tools/formula_program/build.sh")}") || exit 2
+library=$(realpath "${RUNGLAET_LIB:-$root/target/staticlib/librunglaet.a}") || exit 2
+export RUNGLAET_PROGRAM=$program RUNGLAET_LIB=$library
+folder=$(mktemp -d) || exit 2
+trap 'rm -rf "$folder"' EXIT
+cd "$folder" || exit 2
+
+passed=0
+failed=0
+
+# result FAULT WHAT: counts a case, which has passed where the fault is empty.
+result() {
+    if [ -z "$1" ]; then
+        passed=$((passed + 1))
+    else
+        failed=$((failed + 1))
+        echo "FAILED: $2: $1"
+    fi
+}
+
+# expect KIND STATUS COMMAND...: the command says one line, of this kind, and ends with this status. A refusal is said
+# on standard output, anything else on standard error; only a usage has more lines.
+expect() {
+    local kind=$1 status=$2 got=0 line fault=''
+    shift 2
+    "$@" >said 2>errors || got=$?
+    { grep -a '^refused ' said; grep -av '^proving ' errors; } >lines
+    line=$(head -n 1 lines | tr -d '\0')
+    [ "$kind" = Usage ] || [ "$(wc -l <lines)" -eq 1 ] || fault="not one line: $(head -c 400 lines)"
+    [ "${#line}" -ge 40 ] || fault="a short line: $line"
+    [ "$got" -eq "$status" ] || fault="status $got, not $status: $line"
+    printf '%s\t%s\n' "$kind" "${line:0:40}" >>kinds
+    result "$fault" "$kind: $*"
+}
+
+# The ways a command is run: with a text on standard input, or with a standard input or output that fails.
+fed() {
+    printf '%b' "$1" >fed
+    "${@:2}" <fed
+}
+full() { "$@" >/dev/full; }
+closed() { "$@" >&-; }
+of_folder() { "$@" </; }
+gone() { "$@" >&9; }
+# A pipe whose reader has gone.
+mkfifo pipe
+exec 8<>pipe
+exec 9>pipe
+exec 8<&-
+
+description() { printf '%s\n' "${@:2}" >"$1"; }
+description path.txt 'vertices 3' 'edge 0 1' 'edge 1 2' 'agent 0 1' 'agent 1 2'
+description pair.txt 'vertices 2' 'edge 0 1' 'agent 0 1'
+mkdir folder
+
+# Errors of the tool: files.
+expect Usage 2 "$shuttles"
+expect Usage 2 "$shuttles" check path.txt
+expect Usage 2 "$shuttles" refusal 8 9 path.txt 2 3
+expect Word 2 "$shuttles" instance $'Fl\344che.txt'
+expect Word 2 "$shuttles" check path.txt $'\377'
+expect NoFile 2 "$shuttles" instance absent.txt
+expect NoFile 2 "$shuttles" check folder/absent 2 0 1
+expect Folder 2 "$shuttles" instance folder
+expect Folder 2 "$shuttles" decode / 2
+expect Unreadable 2 "$shuttles" show /proc/self/mem 0
+expect Unreadable 2 "$shuttles" instance path.txt/absent
+expect Input 2 of_folder "$shuttles" decode path.txt 2
+expect Input 2 of_folder "$shuttles" check pair.txt 1 -
+expect Output 2 full "$shuttles" help
+expect Output 2 full "$shuttles" check path.txt 33
+expect Output 2 gone "$shuttles" instance path.txt
+
+# Errors of the tool: descriptions.
+printf 'vertices 2\n\0' >nul.txt
+printf '# Fl\344che\nvertices 2\n' >latin.txt
+printf '\357\273\277vertices 2\n' >mark8.txt
+printf '\377\376v\0' >mark16.txt
+printf '# Mac\rvertices 2\ragent 0 1\r' >mac.txt
+printf 'vertices 2\r\nagent 0 \r 1\r\n' >inside.txt
+expect NotText 2 "$shuttles" instance nul.txt
+expect NotText 2 "$shuttles" instance latin.txt
+expect ByteOrderMark 2 "$shuttles" instance mark8.txt
+expect ByteOrderMark 2 "$shuttles" instance mark16.txt
+expect ByteOrderMark 2 "$shuttles" show mark8.txt
+expect CarriageReturn 2 "$shuttles" instance mac.txt
+expect CarriageReturn 2 "$shuttles" check inside.txt 1
+# described KIND LINE FILE TEXT...: a description whose fault is in this line.
+described() {
+    description "$3" "${@:4}"
+    expect "$1" 2 "$shuttles" instance "$3"
+    expect "$1" 2 "$shuttles" check "$3" 1 0
+    result "$(grep -q ": line $2: .*: $3\$" errors || cat errors)" "the line of $3"
+}
+described Keyword 1 d1.txt 'vertex 2'
+described Keyword 3 d2.txt 'vertices 2' '' 'Agent 0 1'
+described NumberCount 1 d3.txt 'edge 1'
+described NumberCount 2 d4.txt '' 'agent 1 2 3'
+described NotByte 1 d5.txt 'edge 0 256'
+described NotByte 2 d6.txt 'vertices 3' 'agent -1 x'
+described Vertices 1 d7.txt 'grid 16 16'
+described Vertices 2 d8.txt 'vertices 255' 'vertices 1'
+for _ in $(seq 256); do echo agent 0 0; done >agents.txt
+seq -f 'edge 0 1 # %.0f' 65536 >edges.txt
+expect Agents 2 "$shuttles" instance agents.txt
+cat agents.txt agents.txt >more.txt
+expect Agents 2 "$shuttles" show more.txt
+expect Edges 2 "$shuttles" instance edges.txt
+cat edges.txt path.txt >more.txt
+expect Edges 2 "$shuttles" instance more.txt
+
+# Errors of the tool: plans, refusals and solvers' output.
+expect PlanWord 2 "$shuttles" check path.txt 2 0 x
+expect PlanWord 2 fed '0 256' "$shuttles" encode pair.txt 1 -
+expect RefusalWord 2 "$shuttles" refusal x 1
+expect RefusalWord 2 "$shuttles" refusal 99999999999 1
+expect RefusalWord 2 "$shuttles" refusal 8 -1
+decode() { expect "$1" "$2" fed "$3" "$shuttles" decode pair.txt 1; }
+decode NoVerdict 2 ''
+decode NoVerdict 2 'c s SATISFIABLE\nSATISFIABLE\n'
+for verdict in 's' 's SAT' 's SATISFIABL' 's UNSAT\n' 's UNK' 's INDET\n' 'SA' 'UNSA\n' 'IND'; do
+    decode CutVerdict 2 "$verdict"
+done
+decode UnknownVerdict 2 's PERHAPS\n'
+decode UnknownVerdict 2 'c\ns SATISFIABLE 1\n'
+decode SecondVerdict 2 's SATISFIABLE\ns SATISFIABLE\n'
+decode SecondVerdict 2 'SAT\n1 0\nUNSAT\n'
+decode NotLiteral 2 's SATISFIABLE\nv 1 x 0\n'
+decode NotLiteral 2 'SAT\nv 1 0\n'
+decode AfterClosing 2 's SATISFIABLE\nv 1 0 2\n'
+decode AfterClosing 2 'SAT\n1 0\n2\n'
+decode Contradiction 2 's SATISFIABLE\nv 1 -1 0\n'
+decode Contradiction 2 'SAT\n-2 1 2 0\n'
+decode NoClosing 0 's SATISFIABLE\nv 1 -2 -3 4\n'
+decode NoClosing 0 'SAT\n4 -3 -2 1 9'
+decode GaveUp 2 's UNKNOWN\n'
+decode GaveUp 2 'INDET\n'
+decode GaveUp 2 's INDETERMINATE\n'
+
+# Refusals, with the place in the reader's terms.
+# told TERMS: the place was told like this.
+told() { result "$(grep -aqF -- ": $1 (place " said || cat said)" "$1"; }
+# refuse NUMBER TERMS COMMAND...: refused so, with the place told like this.
+refuse() {
+    expect "refusal $1" 1 "${@:3}"
+    told "$2"
+}
+# bytes OCTAL...: a file of instance bytes.
+bytes() { printf '%b' "$(printf '\\0%s' "$@")" >bytes.bin; }
+bytes 2 1
+refuse 1 '2 bytes given, the sizes take 4' "$shuttles" check bytes.bin 1
+bytes 2 1 0
+refuse 1 '3 bytes given, the sizes take 4' "$shuttles" input bytes.bin 1
+description r.txt 'agent 0 0'
+refuse 2 'the description has 0 vertices' "$shuttles" check r.txt 1
+bytes 101 1 0 0
+refuse 2 'the instance bytes (the file is no text) say 65 vertices' "$shuttles" check bytes.bin x
+description r.txt 'vertices 2'
+refuse 3 'the description has 0 agents and 2 vertices' "$shuttles" input r.txt 1
+bytes 2 3 0 0
+refuse 3 'the instance bytes (the file is no text) say 3 agents and 2 vertices' "$shuttles" check bytes.bin 1
+description r.txt 'vertices 2' 'agent 0 1' 'edge 0 1' 'edge 0 1'
+refuse 4 'the description has 2 edges, and 2 vertices make 1 pair' "$shuttles" check r.txt 1
+bytes 3 1 0 10
+refuse 4 'the instance bytes (the file is no text) say 2048 edges, and 3 vertices make 3 pairs' "$shuttles" check bytes.bin 1
+bytes 2 1 1 0 0 1 0
+refuse 5 '7 bytes given, 1 edge and 1 agent need 8' "$shuttles" check bytes.bin 1
+bytes 2 1 1 0 0 1 0 1 1
+refuse 5 '9 bytes given, 1 edge and 1 agent need 8' "$shuttles" encode bytes.bin 1
+description r.txt 'vertices 3' 'agent 0 1' 'edge 2 2'
+refuse 6 'edge 2-2 (line 3), both ends are one vertex' "$shuttles" check r.txt 1
+description r.txt 'grid 1 3' 'agent 0 1' 'edge 9 2'
+refuse 6 'edge 2-9 (line 3), the map has only vertices 0 to 2' "$shuttles" check r.txt 1
+bytes 2 1 1 0 1 0 0 1
+refuse 6 'edge 1-0, the higher end comes first' "$shuttles" check bytes.bin 1
+description r.txt 'grid 1 3' 'agent 0 1' 'edge 2 1'
+refuse 7 'edge 1-2 (line 3) is there already (line 1)' "$shuttles" check r.txt 1
+bytes 3 1 2 0 1 0 2 1 0 1
+refuse 7 'edge 0-1 comes after edge 1-2' "$shuttles" check bytes.bin 1
+description r.txt 'vertices 2' 'agent 0 0' '# the other' 'agent 0 1'
+refuse 8 'agent 1 (line 4) starts at vertex 0, as agent 0 (line 2) does' "$shuttles" check r.txt 1
+description r.txt 'vertices 2' 'agent 5 0' 'agent 0 1'
+refuse 8 'agent 0 (line 2) starts at vertex 5, the map has only vertices 0 to 1' "$shuttles" check r.txt 1
+description r.txt 'vertices 2' 'agent 0 1' 'agent 1 1'
+refuse 9 'agent 1 (line 3) has its goal at vertex 1, as agent 0 (line 2) does' "$shuttles" check r.txt 1
+bytes 1 1 0 0 0 1
+refuse 9 'agent 0 has its goal at vertex 1, the map has only vertex 0' "$shuttles" check bytes.bin 1
+for horizon in 33 256 -1 02 +2 x '' 99999999999999999999; do
+    refuse 10 "\"$horizon\" was given" "$shuttles" check path.txt "$horizon" 0 1
+done
+refuse 10 '"256" was given' "$shuttles" input path.txt 256
+refuse 10 '"-1" was given' "$shuttles" encode path.txt -1 0 1
+refuse 10 '"02" was given' fed 's UNSATISFIABLE\n' "$shuttles" decode path.txt 02
+refuse 13 '3 vertices given, 2 agents at times 0 to 1 need 4' "$shuttles" check path.txt 1  0 1  0
+refuse 13 '0 vertices given, 1 agent at times 0 to 0 need 1' "$shuttles" encode pair.txt 0
+refuse 14 '3 entries given, 1 agent on 2 vertices at times 0 to 1 need 4' fed 'SAT\n1 -2 -3 0\n' "$shuttles" decode pair.txt 1
+refuse 14 '5 entries given, 1 agent on 2 vertices at times 0 to 1 need 4' fed 'SAT\n1 2 3 4 5 0\n' "$shuttles" decode pair.txt 1
+refuse 17 'agent 1 (line 5) at time 1: at vertex 3, the map has only vertices 0 to 2' "$shuttles" check path.txt 1  0 1  0 3
+refuse 17 'agent 0 (line 3) at time 0: at vertex 255, the map has only vertices 0 to 1' "$shuttles" encode pair.txt 1  255  1
+refuse 18 'agent 1 (line 5) at time 0: at vertex 2, its start is vertex 1' "$shuttles" check path.txt 1  0 2  0 2
+refuse 18 'agent 0 (line 3) at time 0: at vertex 1, its start is vertex 0' "$shuttles" check pair.txt 1  1  1
+refuse 19 'agent 0 (line 4) at time 1: from vertex 0 to vertex 2' "$shuttles" check path.txt 1  0 1  2 1
+refuse 19 'agent 1 (line 5) at time 2: from vertex 2 to vertex 0' "$shuttles" check path.txt 2  0 1  0 2  0 0
+refuse 20 'agent 0 (line 4) at time 1: from vertex 0 to vertex 1, where agent 1 (line 5) was at time 0' "$shuttles" check path.txt 1  0 1  1 2
+refuse 20 'agent 1 (line 5) at time 1: from vertex 1 to vertex 0, where agent 0 (line 4) was at time 0' "$shuttles" check path.txt 1  0 1  0 0
+description r.txt 'vertices 3' 'edge 0 1' 'edge 1 2' 'agent 0 1' 'agent 2 2'
+refuse 21 'agent 1 (line 5) at time 1: at vertex 1, and so is agent 0 (line 4)' "$shuttles" check r.txt 1  0 2  1 1
+refuse 21 'agent 1 (line 5) at time 2: at vertex 1, and so is agent 0 (line 4)' "$shuttles" encode r.txt 2  0 2  0 2  1 1
+refuse 22 'agent 0 (line 3) at time 0: at vertex 0, its goal is vertex 1' "$shuttles" check pair.txt 0  0
+refuse 22 'agent 0 (line 4) at time 1: at vertex 0, its goal is vertex 1' "$shuttles" check path.txt 1  0 1  0 1
+# valuation NUMBER TERMS ENTRIES: refused so, for the pair at horizon 1.
+valuation() { refuse "$1" "$2" fed "SAT\n$3 0\n" "$shuttles" decode pair.txt 1; }
+valuation 23 'entry 2 must be 3 or -3, for agent 0 (line 3) at vertex 0 at time 1; the solver left it out' '1 -2 4'
+valuation 23 'entry 0 must be 1 or -1, for agent 0 (line 3) at vertex 0 at time 0; the solver left it out' '-2 -3 4'
+valuation 24 'clause 0 of family A (each agent begins at its start), for agent 0 (line 3) at vertex 0 at time 0' '-1 -2 -3 -4'
+valuation 24 'clause 1 of family B (each agent ends at its goal), for agent 0 (line 3) at vertex 1 at time 1' '1 -2 3 -4'
+valuation 24 'clause 5 of family D (no agent is at two vertices at one time), for agent 0 (line 3) at vertices 0 and 1 at time 1' '1 -2 3 4'
+# Those that the library does not give for what the tool asks of it.
+for number in 11 12 15 16; do
+    expect "refusal $number" 0 "$shuttles" refusal "$number" 24
+    expect "refusal $number" 0 "$shuttles" refusal "$number" 8 path.txt 2
+done
+expect 'refusal 20' 0 "$shuttles" refusal 20 2
+told 'the place is a byte of the plan'
+expect 'refusal 20' 0 "$shuttles" refusal 20 2 path.txt
+told 'agent 0 (line 4) at time 1'
+expect 'refusal 24' 0 "$shuttles" refusal 24 33 path.txt 1
+told 'clause 33 of family G (no agent enters a vertex where another stood as the step began), for agent 0 (line 4) at vertex 1 at time 1, where agent 1 (line 5) is at time 0'
+for number in 0 25 36 4294967295; do
+    expect "refusal $number" 0 "$shuttles" refusal "$number" 1
+    expect "refusal $number" 0 "$shuttles" refusal "$number" 18446744073709551615 path.txt 2
+done
+
+# solve.sh, with a solver that does what FAKE says; $2 is the formula and $3 the file for the result.
+mkdir fake bare
+printf '#!/bin/sh\neval "$FAKE"\n' >fake/minisat
+chmod +x fake/minisat
+ln -s /usr/bin/* bare 2>/dev/null
+rm -f bare/{cargo,rt,cadical,kissat,minisat,picosat,cryptominisat5}
+# with FAKE COMMAND...: nothing on the path but the fake solver; no cargo and no rt either.
+with() { env FAKE="$1" PATH="$folder/fake:$folder/bare" "${@:2}"; }
+plan='printf "SAT\n1 -2 -3 4 0\n" >$3; exit 10'
+# solves STATUS FAKE LAST COMMAND...: the command ends with this status and this last line, and nothing is complained of.
+solves() {
+    local got=0 fault=''
+    with "$2" "${@:4}" >said 2>&1 || got=$?
+    [ "$got $(tail -n 1 said)" = "$1 $3" ] || fault="status $got: $(cat said)"
+    ! grep -qE '^(shuttles|shuttles/build\.sh|solve\.sh): ' said || fault="a complaint: $(cat said)"
+    result "$fault" "${*:4}"
+}
+solves 0 "$plan" 'plan passes: makespan 1, cost 1' "$solve" pair.txt 1
+solves 0 "$plan" 'plan passes: makespan 1, cost 1' env LIMIT=9 KEEP=kept "$solve" pair.txt 1
+solves 3 'echo UNSAT >$3; exit 20' 'no plan of makespan 1' "$solve" pair.txt 1
+solves 0 "$plan" 'plan passes: makespan 1, cost 1' "$solve" <(cat pair.txt) 1
+
+expect solve-words 2 with "$plan" "$solve"
+expect solve-words 2 with "$plan" "$solve" pair.txt 1 2
+expect solve-limit 2 with "$plan" env LIMIT=x "$solve" pair.txt 1
+expect solve-limit 2 with "$plan" env LIMIT=0 "$solve" pair.txt 1
+expect solve-unknown-solver 2 with "$plan" env SOLVER=glucose "$solve" pair.txt 1
+expect solve-unknown-solver 2 with "$plan" env SOLVER='cadical kissat' "$solve" pair.txt 1
+expect solve-absent-solver 2 with "$plan" env SOLVER=kissat "$solve" pair.txt 1
+expect solve-absent-solver 2 with "$plan" env SOLVER=picosat "$solve" pair.txt 1
+expect solve-no-solver 2 env PATH="$folder/bare" "$solve" pair.txt 1
+expect solve-no-solver 2 env PATH="$folder/bare" SOLVER= "$solve" path.txt 2
+expect solve-program 2 with "$plan" env RUNGLAET_PROGRAM=absent "$solve" pair.txt 1
+expect solve-program 2 with "$plan" env RUNGLAET_PROGRAM=folder "$solve" pair.txt 1
+expect solve-program 2 with "$plan" env RUNGLAET_PROGRAM=pair.txt "$solve" pair.txt 1
+expect solve-keep 2 with "$plan" env KEEP=pair.txt "$solve" pair.txt 1
+expect solve-keep 2 with "$plan" env KEEP=/proc/folder "$solve" pair.txt 1
+expect solve-temporary 2 with "$plan" env TMPDIR=absent "$solve" pair.txt 1
+expect solve-temporary 2 with "$plan" env TMPDIR=/proc "$solve" pair.txt 1
+mkdir -p taken/formula.cnf
+expect solve-files 2 with "$plan" env KEEP=taken "$solve" pair.txt 1
+expect solve-files 2 with "$plan" env KEEP=/proc "$solve" pair.txt 1
+expect solve-output 2 full with "$plan" "$solve" pair.txt 1
+expect solve-output 2 full with "$plan" "$solve" pair.txt 33
+expect solve-output 2 gone with "$plan" "$solve" pair.txt 1
+expect solve-closed 2 closed with "$plan" "$solve" pair.txt 1
+expect solve-closed 2 closed with "$plan" "$solve" absent.txt 1
+
+# solve.sh and what the tool says.
+expect NoFile 2 with "$plan" "$solve" absent.txt 1
+expect Folder 2 with "$plan" "$solve" folder 1
+expect NotText 2 with "$plan" "$solve" nul.txt 1
+expect ByteOrderMark 2 with "$plan" "$solve" mark8.txt 1
+expect CarriageReturn 2 with "$plan" "$solve" mac.txt 1
+expect Keyword 2 with "$plan" "$solve" d1.txt 1
+description r.txt 'vertices 2' 'agent 0 1' 'agent 1 1'
+refuse 9 'agent 1 (line 3) has its goal at vertex 1, as agent 0 (line 2) does' with "$plan" "$solve" r.txt 99
+for horizon in 33 256 -1 02 x 99999999999999999999; do
+    refuse 10 "\"$horizon\" was given" with "$plan" "$solve" pair.txt "$horizon"
+done
+refuse 14 '2 entries given, 1 agent on 2 vertices at times 0 to 1 need 4' with 'printf "SAT\n1 -2 0\n" >$3; exit 10' "$solve" pair.txt 1
+expect CutVerdict 2 with 'echo s SAT >$3; exit 10' "$solve" pair.txt 1
+expect NoVerdict 2 with 'exit 20' "$solve" pair.txt 1
+
+# solve.sh and the formula program.
+# prints SCRIPT: a program in the formula program's place, which can call it as "$program".
+prints() {
+    printf '#!/bin/sh\nprogram=%q\n%s\n' "$program" "$1" >prints
+    chmod +x prints
+    expect "$2" "$3" with "$plan" env RUNGLAET_PROGRAM=./prints "$solve" pair.txt 1
+}
+prints 'cat' solve-no-formula 2
+prints 'exit 1' solve-no-formula 2
+prints 'exit 2' solve-program-failed 2
+prints '"$program"; kill -9 $$' solve-program-failed 2
+prints '"$program" | head -n 5' solve-not-whole 2
+prints '"$program" | head -c 30' solve-not-whole 2
+prints '"$program" | head -c -1' solve-not-whole 2
+prints '"$program" | head -c -2; echo' solve-not-whole 2
+prints '"$program"; echo 1 0' solve-not-whole 2
+prints '"$program"; printf 1' solve-not-whole 2
+prints '"$program" | sed 3d' solve-not-whole 2
+prints 'echo p cnf 4 x' solve-not-whole 2
+prints 'echo c refused 8 6; exit 1' 'refusal 8' 1
+prints 'echo c refused 9 7; exit 1' 'refusal 9' 1
+
+# solve.sh and the solver's end.
+ends() { expect "$1" 2 with "$2" env LIMIT="${3:-}" "$solve" pair.txt 1; }
+ends solve-time 'exec sleep 9' 1
+ends solve-time 'kill -XCPU $$'
+ends solve-killed 'kill -KILL $$'
+ends solve-killed 'kill -TERM $$' 9
+ends solve-killed 'kill -SEGV $$'
+ends solve-gave-up 'exit 0'
+ends solve-gave-up 'echo INDET >$3; exit 0'
+ends solve-gave-up 'echo s INDETERMINATE >$3; exit 15'
+ends solve-not-started 'exit 126'
+ends solve-not-started 'exit 127'
+ends solve-status 'exit 1'
+ends solve-status 'exit 255'
+ends solve-status 'exit 124'
+ends solve-disagreement 'echo UNSAT >$3; exit 10'
+ends solve-disagreement 'printf "SAT\n1 -2 -3 4 0\n" >$3; exit 20'
+ends GaveUp 'echo INDET >$3; exit 10'
+
+# tools/shuttles/build.sh. The tool that is built needs no cargo; a copy of the sources has nothing built.
+solves 0 '' "$shuttles" "$root/tools/shuttles/build.sh"
+mkdir copy
+(cd "$root" && tar -c --exclude target tools examples) | tar -x -C copy
+build=copy/tools/shuttles/build.sh
+builds() { expect "$1" 2 env PATH="$folder/extra:$folder/fake:$folder/bare" RUNGLAET_LIB="$2" "${@:3}"; }
+mkdir extra
+builds build-no-rt '' "$build"
+builds build-no-rt '' copy/examples/solve.sh pair.txt 1
+builds build-no-cargo "$library" "$build"
+builds build-no-cargo "$library" copy/examples/solve.sh pair.txt 1
+printf '#!/bin/sh\necho no proof\nexit 1\n' | tee extra/rt >extra/cargo
+chmod +x extra/rt extra/cargo
+builds build-rt-failed '' "$build"
+builds build-rt-failed '' copy/examples/solve.sh pair.txt 1
+builds build-cargo-failed "$library" "$build"
+builds build-cargo-failed "$library" copy/examples/solve.sh pair.txt 1
+builds build-no-library absent "$build"
+builds build-no-library folder "$solve" pair.txt 1
+builds build-no-archive pair.txt "$build"
+builds build-no-archive mark16.txt "$solve" pair.txt 1
+rm -r copy/target
+echo >copy/target
+builds build-no-folder '' "$build"
+builds build-no-folder "$library" copy/examples/solve.sh pair.txt 1
+
+# tools/formula_program/build.sh, likewise.
+rm copy/target
+rm extra/*
+build=copy/tools/formula_program/build.sh
+builds program-no-rt '' "$build"
+builds program-no-rt "$library" "$build"
+printf '#!/bin/sh\necho no proof\nexit 1\n' >extra/rt
+chmod +x extra/rt
+builds program-rt-failed '' "$build"
+builds program-rt-failed "$library" "$build"
+mkdir -p copy/target/staticlib
+echo >copy/target/staticlib/libformula_printer.a
+builds program-no-compiler '' env CC=absent "$build"
+builds program-no-compiler '' env CC=folder/absent "$build"
+printf '#!/bin/sh\nexit 1\n' >extra/cc
+chmod +x extra/cc
+builds program-link-failed '' "$build"
+builds program-link-failed '' env CC="$folder/extra/cc" "$build"
+rm extra/rt
+builds program-link-no-rt '' "$build"
+builds program-link-no-rt '' env CC="$folder/extra/cc" "$build"
+rm -r copy/target
+echo >copy/target
+builds program-no-folder '' "$build"
+builds program-no-folder "$library" "$build"
+
+# The formula program.
+printf '\1\2\1\1\0\0\1\0\1' >input.bin
+runs() { "$program" <"${1:-input.bin}"; }
+expect program-input 2 runs /
+expect program-input 2 eval '"$program" <&-'
+expect program-output 2 full runs
+expect program-output 2 closed runs
+
+# Every kind has one beginning, and every beginning one kind.
+sort -u kinds >pairs
+many=$(cut -f 1 pairs | uniq -d)
+result "${many:+$many}" "kinds with several beginnings"
+shared=$(cut -f 2 pairs | sort | uniq -d)
+result "${shared:+$shared}" "beginnings of several kinds"
+
+# Every error and every refusal that the sources have was seen here.
+sed -n 's/^    [A-Z][A-Za-z]*: "\(.*\)",$/shuttles: \1/p' "$root/tools/shuttles/src/errors.rs" >errors
+sed -n 's/^    (\([0-9]*\), "\(.*\)$/refused \1: \2/p' "$root/tools/shuttles/src/refusals.rs" >refusals
+grep -o 'stop ".*' "$root/examples/solve.sh" | sed 's/stop "/solve.sh: /' >solve
+grep -o 'stop ".*' "$root/tools/shuttles/build.sh" | sed 's|stop "|shuttles/build.sh: |' >build
+grep -o 'stop ".*' "$root/tools/formula_program/build.sh" | sed 's|stop "|formula_program/build.sh: |' >program
+cut -f 2 pairs >seen
+for source in errors refusals solve build program; do
+    [ -s "$source" ] || echo nothing >"$source"
+    result "$(cut -c 1-40 "$source" | sort -u | grep -vxF -f seen)" "never said here, of $source"
+done
+
+# README's table has the tool's words.
+sed -n 's/^| \([0-9]*\) | \(.*\) | .* |$/refused \1: \2: /p' "$root/README.md" | grep -v '^refused 0:' >table
+[ -s table ] || echo nothing >table
+while read -r line; do
+    number=${line#refused }
+    number=${number%%:*}
+    said=$("$shuttles" refusal "$number" 0) || said=''
+    [[ $said == "$line"* ]] && fault='' || fault="$said"
+    result "$fault" "README: $line"
+done <table
+
+echo "words: $(wc -l <kinds) lines of $(cut -f 1 pairs | uniq | wc -l) kinds, $passed passed, $failed failed"
+[ "$failed" -eq 0 ]

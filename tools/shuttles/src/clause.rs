@@ -1,0 +1,195 @@
+//! What a clause of the formula says, told from the library's own clause.
+
+use crate::horizon::Horizon;
+use crate::map::Map;
+
+/// X(t,a,v): agent a is at vertex v at time t.
+#[derive(Debug, Clone, Copy, PartialEq, Eq)]
+pub struct Variable {
+    pub time: usize,
+    pub agent: usize,
+    pub vertex: usize,
+}
+
+/// The variable with this number, 1 + (t·k + a)·n + v. Nothing else in the tool knows how variables are numbered.
+pub fn variable(map: &Map, number: usize) -> Option<Variable> {
+    let index = number.checked_sub(1)?;
+    let row = index.checked_div(map.vertices())?;
+    Some(Variable {
+        time: row.checked_div(map.agents())?,
+        agent: row.checked_rem(map.agents())?,
+        vertex: index % map.vertices(),
+    })
+}
+
+/// The family of a clause, in words, and the agents, vertices and times of the clause.
+pub fn told(map: &Map, horizon: &Horizon, number: u64) -> Option<String> {
+    let mut words = [0; 66];
+    let answer = runglaet::clause(&map.bytes, horizon.value, number, &mut words);
+    if answer.number != 0 {
+        return None;
+    }
+    let literals: Option<Vec<(bool, Variable)>> = words
+        .iter()
+        .take_while(|&&word| word != 0)
+        .map(|&word| Some((word > 0, variable(map, word.unsigned_abs() as usize)?)))
+        .collect();
+    let (family, here) = family(map, number, &literals?)?;
+    Some(format!("clause {number} of family {family}, for {here}"))
+}
+
+/// The family shows in the literals' signs, agents and times; A and B alone only in the clause's number.
+fn family(map: &Map, number: u64, literals: &[(bool, Variable)]) -> Option<(&'static str, String)> {
+    let (starts, ends) = (map.agents() as u64, 2 * map.agents() as u64);
+    let agent = |x: Variable| map.agent(x.agent);
+    Some(match *literals {
+        [(true, x)] if number < starts => (
+            "A (each agent begins at its start)",
+            format!("{} at vertex {} at time {}", agent(x), x.vertex, x.time),
+        ),
+        [(true, x)] if number < ends => (
+            "B (each agent ends at its goal)",
+            format!("{} at vertex {} at time {}", agent(x), x.vertex, x.time),
+        ),
+        [(true, x), ..] => (
+            "C (each agent is at some vertex at each time)",
+            format!(
+                "{} at vertices 0 to {} at time {}",
+                agent(x),
+                literals.len() - 1,
+                x.time
+            ),
+        ),
+        [(false, x), (false, y)] if (x.time, x.agent) == (y.time, y.agent) => (
+            "D (no agent is at two vertices at one time)",
+            format!(
+                "{} at vertices {} and {} at time {}",
+                agent(x),
+                x.vertex,
+                y.vertex,
+                x.time
+            ),
+        ),
+        [(false, x), (false, y)] if x.time == y.time => (
+            "E (no two agents are at one vertex at one time)",
+            format!(
+                "{} and {} at vertex {} at time {}",
+                agent(x),
+                agent(y),
+                x.vertex,
+                x.time
+            ),
+        ),
+        [(false, x), (false, y)] => (
+            "G (no agent enters a vertex where another stood as the step began)",
+            format!(
+                "{} at vertex {} at time {}, where {} is at time {}",
+                agent(y),
+                y.vertex,
+                y.time,
+                agent(x),
+                x.time
+            ),
+        ),
+        [(false, x), (true, y), ..] => (
+            "F (each agent waits or crosses an edge in each step)",
+            format!(
+                "{} from vertex {} at time {} to {} at time {}",
+                agent(x),
+                x.vertex,
+                x.time,
+                either(&literals[1..]),
+                y.time
+            ),
+        ),
+        _ => return None,
+    })
+}
+
+/// The vertices of some literals: `vertex 1`, `vertex 1 or 2`, `vertex 1, 2 or 5`.
+fn either(literals: &[(bool, Variable)]) -> String {
+    let vertices: Vec<String> = literals.iter().map(|x| x.1.vertex.to_string()).collect();
+    match vertices.split_last() {
+        Some((last, [])) => format!("vertex {last}"),
+        Some((last, more)) => format!("vertex {} or {last}", more.join(", ")),
+        None => String::new(),
+    }
+}
+
+#[cfg(test)]
+mod tests {
+    use super::*;
+    use crate::description;
+
+    /// Every clause of the path with two agents at m 1; what it says is from document 01's table.
+    #[test]
+    fn every_family() {
+        let text = "vertices 3\nedge 0 1\nedge 1 2\nagent 0 1\nagent 1 2";
+        let map = description::map(text).unwrap();
+        let horizon = Horizon::read("1");
+        let told = |number| told(&map, &horizon, number);
+        let families: String = (0..)
+            .map_while(told)
+            .map(|text| text.split(' ').nth(4).unwrap().to_string())
+            .collect();
+        let counts = [
+            ("A", 2),
+            ("B", 2),
+            ("C", 4),
+            ("D", 12),
+            ("E", 6),
+            ("F", 6),
+            ("G", 6),
+        ];
+        let expected: String = counts
+            .iter()
+            .map(|(family, count)| family.repeat(*count))
+            .collect();
+        assert_eq!(families, expected);
+        for (number, here) in [
+            (1, "agent 1 (line 5) at vertex 1 at time 0"),
+            (2, "agent 0 (line 4) at vertex 1 at time 1"),
+            (5, "agent 1 (line 5) at vertices 0 to 2 at time 0"),
+            (9, "agent 0 (line 4) at vertices 0 and 2 at time 0"),
+            (
+                25,
+                "agent 0 (line 4) and agent 1 (line 5) at vertex 2 at time 1",
+            ),
+            (
+                27,
+                "agent 0 (line 4) from vertex 1 at time 0 to vertex 1, 0 or 2 at time 1",
+            ),
+            (
+                31,
+                "agent 1 (line 5) from vertex 2 at time 0 to vertex 2 or 1 at time 1",
+            ),
+            (
+                32,
+                "agent 0 (line 4) at vertex 0 at time 1, where agent 1 (line 5) is at time 0",
+            ),
+        ] {
+            assert!(
+                told(number).unwrap().ends_with(&format!(", for {here}")),
+                "{here}"
+            );
+        }
+    }
+
+    /// With one vertex, one agent and m 0, families A, B and C have the same clause.
+    #[test]
+    fn one_vertex() {
+        let map = description::map("vertices 1\nagent 0 0").unwrap();
+        let told: Vec<String> = (0..)
+            .map_while(|number| told(&map, &Horizon::read("0"), number))
+            .map(|text| text[..20].to_string())
+            .collect();
+        assert_eq!(
+            told,
+            [
+                "clause 0 of family A",
+                "clause 1 of family B",
+                "clause 2 of family C"
+            ]
+        );
+    }
+}

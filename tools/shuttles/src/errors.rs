@@ -1,0 +1,106 @@
+//! The tool's own errors. A kind has fixed words, and they come first, so that lines can be grouped by their first
+//! forty characters; then come the details, and at the very end the file's path.
+
+use std::fmt;
+
+/// The kinds, a line each: its name and its words.
+macro_rules! kinds {
+    ($($kind:ident: $words:literal,)*) => {
+        #[derive(Debug, Clone, Copy, PartialEq, Eq)]
+        pub enum Kind {
+            $($kind,)*
+        }
+
+        impl Kind {
+            #[cfg(test)]
+            pub const ALL: &'static [Kind] = &[$(Kind::$kind,)*];
+
+            fn words(self) -> &'static str {
+                match self {
+                    $(Kind::$kind => $words,)*
+                }
+            }
+        }
+    };
+}
+
+kinds! {
+    Usage: "the command is not known, or it has too few or too many words",
+    Word: "a word of the command is not a text in UTF-8",
+    NoFile: "there is no file of the name that was given",
+    Folder: "a folder was given where a file is needed",
+    Unreadable: "a file is there, but it cannot be read",
+    Input: "what comes on standard input cannot be read",
+    Output: "standard output takes no more, the result is lost",
+
+    NotText: "the description is not a text in UTF-8",
+    ByteOrderMark: "a byte order mark stands before the description; save it without one",
+    CarriageReturn: "a carriage return stands inside a line of the description",
+    Keyword: "a line of the description begins with an unknown word",
+    NumberCount: "too few or too many numbers in a line of the description",
+    NotByte: "a number of the description is not a whole one from 0 to 255",
+    Vertices: "too many vertices in the description, one byte counts to 255",
+    Edges: "too many edges in the description, two bytes count to 65535",
+    Agents: "too many agents in the description, one byte counts to 255",
+
+    PlanWord: "a word of the plan is not a whole number from 0 to 255",
+    RefusalWord: "the number and the place of a refusal must be whole numbers",
+
+    NoVerdict: "the solver's output has no verdict, neither a line such as \"s SATISFIABLE\" nor minisat's \"SAT\"",
+    CutVerdict: "the verdict in the solver's output is cut short",
+    UnknownVerdict: "the solver's verdict is none of those that solvers give",
+    SecondVerdict: "a second verdict stands in the solver's output",
+    NotLiteral: "a word of the solver's valuation is not a literal",
+    AfterClosing: "a literal stands after the closing 0 of the valuation",
+    Contradiction: "a variable and its negative are both in the valuation",
+    NoClosing: "the solver's valuation has no closing 0, it may be cut short",
+    GaveUp: "the solver gave up, so it is not known if there is a plan",
+}
+
+#[derive(Debug, PartialEq, Eq)]
+pub struct Error {
+    pub kind: Kind,
+    details: Option<String>,
+    path: Option<String>,
+}
+
+impl Kind {
+    pub fn alone(self) -> Error {
+        Error {
+            kind: self,
+            details: None,
+            path: None,
+        }
+    }
+
+    pub fn with(self, details: impl fmt::Display) -> Error {
+        Error {
+            details: Some(details.to_string()),
+            ..self.alone()
+        }
+    }
+
+    /// The details are in a line, counted from 1.
+    pub fn in_line(self, line: usize, details: impl fmt::Display) -> Error {
+        self.with(format_args!("line {line}: {details}"))
+    }
+}
+
+impl Error {
+    pub fn in_file(self, path: &str) -> Error {
+        Error {
+            path: Some(path.to_string()),
+            ..self
+        }
+    }
+}
+
+impl fmt::Display for Error {
+    fn fmt(&self, f: &mut fmt::Formatter) -> fmt::Result {
+        write!(f, "shuttles: {}", self.kind.words())?;
+        for more in self.details.iter().chain(&self.path) {
+            write!(f, ": {more}")?;
+        }
+        Ok(())
+    }
+}

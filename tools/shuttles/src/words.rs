@@ -1,0 +1,65 @@
+//! All that the tool says of faults, held against each other: people group the lines by their first forty characters.
+
+use crate::description;
+use crate::errors::Kind;
+use crate::horizon::Horizon;
+use crate::places::Subject;
+use crate::refusals::{describe, REFUSALS};
+use runglaet::Answer;
+use std::collections::HashMap;
+
+/// Lines of every kind of error, each with its kind.
+fn errors() -> Vec<(String, String)> {
+    let mut lines = Vec::new();
+    for &kind in Kind::ALL {
+        for error in [
+            kind.alone(),
+            kind.with("details").in_file("a/path"),
+            kind.in_line(7, "\"x\"").in_file("another"),
+        ] {
+            lines.push((format!("{kind:?}"), error.to_string()));
+        }
+    }
+    lines
+}
+
+/// Lines of every refusal, and of two that have no words, each at several places and with its number.
+fn refusals(subjects: &[Subject]) -> Vec<(String, String)> {
+    let mut lines = Vec::new();
+    let numbers = REFUSALS.iter().map(|refusal| refusal.0);
+    for number in numbers.chain([0, u32::MAX]) {
+        for second in [0, 2, 5, 17, u64::MAX] {
+            for &subject in subjects {
+                let line = describe(Answer { number, second }, subject);
+                assert!(line.ends_with(&format!(" (place {second})")), "{line}");
+                lines.push((number.to_string(), line));
+            }
+        }
+    }
+    lines
+}
+
+#[test]
+fn the_first_forty_characters_tell_the_kind_and_nothing_else() {
+    let map = description::map("grid 2 2\nagent 0 3\nagent 9 3").unwrap();
+    let horizon = Horizon::read("2");
+    let sizes = Subject {
+        map: Some(&map),
+        horizon: Some(&horizon),
+        ..Subject::default()
+    };
+    let contents = Subject {
+        plan: Some(&[0, 3, 1, 1, 1, 9]),
+        entries: Some(&[1, -2, 7, 0, 8, 9]),
+        ..sizes
+    };
+    let mut lines = errors();
+    lines.extend(refusals(&[Subject::default(), sizes, contents]));
+    let mut kinds = HashMap::new();
+    for (kind, line) in &lines {
+        assert!(line.chars().count() >= 40, "{line}");
+        let beginning: String = line.chars().take(40).collect();
+        assert_eq!(kinds.entry(beginning).or_insert(kind), &kind, "{line}");
+    }
+    assert_eq!(kinds.len(), Kind::ALL.len() + REFUSALS.len() + 2);
+}
