@@ -88,7 +88,37 @@ fn print_block(
     write_piece(text, gathered + more)
 }
 
-// A family, block by block.
+// The blocks of t.
+fn print_step(
+    words: &mut [i32],
+    text: &mut [u8],
+    texts: &[u8],
+    s: Sizes,
+    starts: &[u8; 16],
+    goals: &[u8; 16],
+    table: &[u8],
+    which: usize,
+    t: usize,
+    gathered: usize,
+) -> Gathered
+    requires { ⌜ Block (now words) (now text) × Texts (variableCount s) (now texts) × (gathered < 65536) ⌝ }
+    requires { ⌜ Ready (heldIn s (now starts) (now goals) (now table)) × (4096 ≤ length (now table)) ⌝ }
+    requires { ⌜ (which < 7) × (t < times s which) ⌝ }
+    ensures { λ r. ⌜ r .at < 65536 ⌝ }
+{
+    let end = counts::blocks_at(s, which);
+    let mut at = gathered;
+    for x in 0..end {
+        let so_far = print_block(words, text, texts, s, starts, goals, table, which, t, x, at);
+        if !so_far.ok {
+            return so_far;
+        }
+        at = so_far.at;
+    }
+    Gathered { ok: true, at }
+}
+
+// A family.
 fn print_family(
     words: &mut [i32],
     text: &mut [u8],
@@ -105,23 +135,10 @@ fn print_family(
     requires { ⌜ which < 7 ⌝ }
     ensures { λ r. ⌜ r .at < 65536 ⌝ }
 {
-    let blocks = counts::blocks_at(s, which);
-    let end = counts::times_of(s, which) * blocks;
+    let end = counts::times_of(s, which);
     let mut at = gathered;
-    for i in 0..end {
-        let so_far = print_block(
-            words,
-            text,
-            texts,
-            s,
-            starts,
-            goals,
-            table,
-            which,
-            i / blocks,
-            i % blocks,
-            at,
-        );
+    for t in 0..end {
+        let so_far = print_step(words, text, texts, s, starts, goals, table, which, t, at);
         if !so_far.ok {
             return so_far;
         }
