@@ -11,7 +11,7 @@ esac
 write=$#
 cd "$(dirname "$0")/.."
 . tests/interface/library.sh
-program=$(made RUNGLAET_PROGRAM target/bin/formula_program "rt check formula_program")
+program=$(status_program)
 build interface
 build independent
 now=$(LC_ALL=C date -u '+%-d %B %Y, %H:%M UTC')

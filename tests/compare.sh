@@ -1,8 +1,9 @@
 #!/usr/bin/env bash
 # Compares the proved program `comparison` with the independent one on fresh cases.
 #   tests/compare.sh SEED PIECES COUNT
-# Each piece has its own seed, SEED and up, and COUNT random instances. Before them come all small instances (up to 4 vertices, 2 agents,
-# horizon 2), all clauses of every eleventh, all plans of tiny ones and all sign patterns of some with at most 16 variables.
+# Each piece has its own seed, SEED and up, and COUNT random instances. Before them come all small instances (up to 4
+# vertices, 2 agents, horizon 2), all clauses of every eleventh, all plans of tiny ones and all sign patterns of some
+# with at most 16 variables.
 # RUNGLAET_COMPARISON: the program, if it is not target/bin/comparison.
 set -eu
 cd "$(dirname "$0")/.."
@@ -37,7 +38,7 @@ while [ "$i" -lt "$pieces" ]; do
     piece random $((seed + i)) "$count"
     i=$((i + 1))
 done
-awk '{ total += $3; times[$1, $2] += $3 }
+awk '{ times[$1, $2] += $3 }
     END {
         split("writer clause plan decoder encoder", name, " ")
         for (kind = 1; kind <= 5; kind++) {
@@ -46,6 +47,6 @@ awk '{ total += $3; times[$1, $2] += $3 }
                 if ((kind, number) in times) line = line " " number ":" times[kind, number]
             print name[kind] line
         }
-        print total " cases agree"
     }' "$work/times"
-awk '{ s += $1 } END { print s + 0 " skipped, as expected" }' "$work/skips"
+echo "$(awk '{ s += $3 } END { print s + 0 }' "$work/times") cases agree," \
+    "$(awk '{ s += $1 } END { print s + 0 }' "$work/skips") skipped as expected"

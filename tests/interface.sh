@@ -1,11 +1,14 @@
 #!/usr/bin/env bash
 # The library against the independent program, through the C interface: tests/interface.sh [SEED [COUNT [FIRST]]].
+# Before it, from C: document 01's examples and null pointers (c_check.c), and the stack that the calls use (stack.c).
 # RUNGLAET_LIB: the library, if it is not target/staticlib/librunglaet.a.
 set -eu
 cd "$(dirname "$0")/.."
 . tests/interface/library.sh
 build interface
-gcc -std=c11 -O2 -Wall -Wextra -Wpedantic -Werror -Iinclude tests/interface/c_check.c "$RUNGLAET_LIB" \
-    -o tests/interface/target/c_check
-tests/interface/target/c_check
+for name in c_check stack; do
+    gcc -std=c11 -O2 -Wall -Wextra -Wpedantic -Werror -Iinclude -pthread "tests/interface/$name.c" "$RUNGLAET_LIB" \
+        -o "tests/interface/target/$name"
+    "tests/interface/target/$name"
+done
 tests/interface/target/release/compare "$@"

@@ -1,13 +1,23 @@
 #!/usr/bin/env bash
 # Solvers from Debian's packages on formulas that the formula program printed; outside the gate.
 #
-# Installs the solvers (as root), solves the cases of the table with each, and compares with the answer known
-# beforehand. A plan must pass the plan check, and its own valuation must decode to it again.
-# INSTALL=no takes the solvers that are there. RUNGLAET_LIB and RUNGLAET_PROGRAM as in examples/solve.sh.
+# Solves every example of the table in examples/README.md and the cases below with each solver installed, and compares
+# with the answer known beforehand. A plan must pass the plan check, and its own valuation must decode to it again.
+# INSTALL=yes installs the solvers first (as root). RUNGLAET_LIB and RUNGLAET_PROGRAM as in examples/solve.sh.
+# Status 77: no solver is installed, and the table alone was read.
 set -u
+solvers="cadical kissat minisat picosat cryptominisat5"
 root=$(cd "$(dirname "$0")/.." && pwd)
 folder=$(mktemp -d)
 trap 'rm -rf "$folder"' EXIT
+# Seconds that a solver may take for a case; the slowest takes one or two.
+limit=120
+failed=0
+
+fail() {
+    echo "FAILED: $*"
+    failed=$((failed + 1))
+}
 
 # Descriptions for this test only.
 cp "$root"/examples/*.txt "$folder"
@@ -21,25 +31,52 @@ printf '%s\n' 'vertices 4' 'edge 0 1' 'edge 1 2' 'edge 2 3' 'edge 0 3' \
     for ((a = 0; a < 16; a++)); do echo "agent $a $((63 - a))"; done
 } >"$folder/complete.txt"
 
-# Example, horizon, answer.
-cases() {
-    grep -v '^ *#' <<'END'
-# One agent crosses one edge: it needs one step, and may wait in any other.
-pair 0 UNSAT
-pair 1 SAT
-pair 2 SAT
-pair 32 SAT
-# Agent 0 enters vertex 1 only after agent 1 has left it: two steps.
-path 0 UNSAT
-path 1 UNSAT
-path 2 SAT
-path 3 SAT
-# Both vertices are always occupied: nobody ever moves.
-exchange 0 UNSAT
-exchange 1 UNSAT
-exchange 2 UNSAT
-exchange 5 UNSAT
-exchange 32 UNSAT
+# The table's lines under its heading.
+table() {
+    awk '/^\| *Description *\|.*Has a plan at horizon *\|$/ { inside = 1; next }
+        inside && !/^\|/ { exit }
+        inside && !/^[-| ]*$/' "$root/examples/README.md"
+}
+
+# table_cases: example, horizon and answer for each line of the table, in "$folder/cases".
+# "h and above": no plan at any horizon below h, one at h, at h + 1 and at the highest. "none": none at some, up to it.
+table_cases() {
+    local line example horizon first
+    # shellcheck disable=SC2016  # The backquotes are the table's.
+    local pattern='^\| `([A-Za-z0-9_-]+)\.txt` \| [^|]+ \| (none|(0|[1-9][0-9]?) and above) \|$'
+    while IFS= read -r line; do
+        if ! [[ $line =~ $pattern ]] || [ "${BASH_REMATCH[3]:-0}" -gt 32 ]; then
+            fail "examples/README.md: this line of the table cannot be read: $line"
+            continue
+        fi
+        example=${BASH_REMATCH[1]} first=${BASH_REMATCH[3]}
+        echo "$example" >>"$folder/named"
+        if [ ! -f "$root/examples/$example.txt" ]; then
+            fail "examples/README.md: the table names $example.txt, which is not there"
+            continue
+        fi
+        if [ "${BASH_REMATCH[2]}" = none ]; then
+            for horizon in 0 1 2 5 12 32; do echo "$example $horizon UNSAT"; done
+        else
+            for ((horizon = 0; horizon < first; horizon++)); do echo "$example $horizon UNSAT"; done
+            printf '%s\n' "$first" $((first < 32 ? first + 1 : 32)) 32 | sort -nu | sed "s/.*/$example & SAT/"
+        fi >>"$folder/cases"
+    done < <(table)
+}
+
+: >"$folder/named"
+: >"$folder/cases"
+table_cases
+[ -s "$folder/named" ] || fail "examples/README.md: no table with the column 'Has a plan at horizon'"
+for file in "$root"/examples/*.txt; do
+    example=$(basename "$file" .txt)
+    times=$(grep -cxF -e "$example" "$folder/named")
+    [ "$times" -eq 1 ] || fail "examples/README.md: $example.txt stands $times times in the table, not once"
+done
+echo "table: $(wc -l <"$folder/named") examples, $failed failed"
+
+# Cases that the table does not have.
+grep -v '^ *#' >>"$folder/cases" <<'END'
 # The start is the goal.
 stay 0 SAT
 stay 32 SAT
@@ -50,25 +87,13 @@ apart 32 UNSAT
 ring 1 UNSAT
 ring 2 UNSAT
 ring 3 SAT
-# Opposite corners are 6 apart; all four agents can go round the border the same way.
-grid4 5 UNSAT
-grid4 6 SAT
-grid4 7 SAT
-# West and east are 7 apart; with 7 or 8 steps no shuttle can leave its row and come back, and two cannot pass in one
-# row; at 10 a plan was found, and whoever has arrived may wait.
-grid8 6 UNSAT
-grid8 7 UNSAT
-grid8 8 UNSAT
-grid8 10 SAT
-grid8 12 SAT
 # The largest formula. Every vertex is one step from every other, and all goals are vacant.
 complete 0 UNSAT
 complete 1 SAT
 complete 32 SAT
 END
-}
 
-if [ "${INSTALL:-yes}" != no ]; then
+if [ "${INSTALL:-no}" = yes ]; then
     export DEBIAN_FRONTEND=noninteractive
     apt-get update >"$folder/apt.log" 2>&1 || { tail -n 3 "$folder/apt.log"; echo "solvers.sh: apt-get update failed"; }
     for package in minisat cadical picosat cryptominisat kissat; do
@@ -83,16 +108,25 @@ if [ "${INSTALL:-yes}" != no ]; then
     done
 fi
 
+installed=
+for solver in $solvers; do
+    if command -v "$solver" >/dev/null; then installed="$installed $solver"; fi
+done
+if [ -z "$installed" ]; then
+    [ "$failed" -eq 0 ] || exit 1
+    echo "solvers: skipped, none is installed of: $solvers (INSTALL=yes installs Debian's)"
+    exit 77
+fi
+
 # Builds first, so that the runs below have nothing to say on standard error.
 shuttles=$("$root/tools/shuttles/build.sh") || exit 1
+if [ -n "${RUNGLAET_PROGRAM:-}" ]; then
+    RUNGLAET_PROGRAM=$(realpath -e "$RUNGLAET_PROGRAM") || exit 1
+fi
 
 ran=0
-failed=0
 plans=0
-solvers=0
-for solver in cadical kissat minisat picosat cryptominisat5; do
-    command -v "$solver" >/dev/null || continue
-    solvers=$((solvers + 1))
+for solver in $installed; do
     while read -r example horizon expected; do
         ran=$((ran + 1))
         run=$folder/run
@@ -100,8 +134,8 @@ for solver in cadical kissat minisat picosat cryptominisat5; do
         mkdir "$run"
         begin=$(date +%s%N)
         status=0
-        SOLVER=$solver KEEP=$run "$root/examples/solve.sh" "$folder/$example.txt" "$horizon" \
-            >"$run/shown" 2>"$run/errors" || status=$?
+        SOLVER=$solver LIMIT=$limit KEEP=$run "$root/examples/solve.sh" "$folder/$example.txt" "$horizon" \
+            </dev/null >"$run/shown" 2>"$run/errors" || status=$?
         took=$((($(date +%s%N) - begin) / 1000000))
         last=$(tail -n 1 "$run/shown")
         case $status in
@@ -128,7 +162,7 @@ for solver in cadical kissat minisat picosat cryptominisat5; do
         fi
         echo "$solver $example $horizon: $answer ($took ms)${fault:+ FAILED: $fault: $last $(head -c 300 "$run/errors")}"
         [ -z "$fault" ] || failed=$((failed + 1))
-    done < <(cases)
+    done <"$folder/cases"
 done
-echo "solvers: $solvers solvers, $ran cases, $plans plans, $failed failed"
-[ "$solvers" -gt 0 ] && [ "$failed" -eq 0 ]
+echo "solvers:$installed; $ran cases, $plans plans, $failed failed"
+[ "$failed" -eq 0 ]

@@ -1,12 +1,13 @@
-/* Each call once or more on the examples of document 01, from C. */
+/* Each call once or more on the examples of document 01, and with null pointers, from C. */
 #include "runglaet.h"
 
 #include <stdio.h>
 #include <string.h>
 
-static int failures = 0;
+static int asked = 0, failures = 0;
 
 static void expect(const char *what, int holds) {
+    asked++;
     if (!holds) {
         printf("c_check: wrong: %s\n", what);
         failures++;
@@ -17,8 +18,51 @@ static int says(runglaet_answer answer, uint32_t number, uint64_t second) {
     return answer.number == number && answer.second == second;
 }
 
+static const uint8_t pair[8] = {2, 1, 1, 0, 0, 1, 0, 1};
+
+/* A null pointer with length 0 is an empty slice: the answers are those of document 01 for lengths of 0, and the slice
+ * that is there stays as it was. */
+static void null_pointers(void) {
+    static const uint8_t moves[2] = {0, 1};
+    static const int32_t satisfying[4] = {1, -2, -3, 4};
+    int32_t words[24], before[24];
+    uint8_t plan[2] = {200, 201};
+    for (int i = 0; i < 24; i++) words[i] = before[i] = 1000 + i;
+
+    runglaet_written written = runglaet_write_formula(NULL, 0, 1, words, 24);
+    expect("writer, no instance: 1, place 0", written.number == 1 && written.second == 0 && written.clauses == 0);
+    written = runglaet_write_formula(pair, sizeof pair, 1, NULL, 0);
+    expect("writer, no words: 12, place 24", written.number == 12 && written.second == 24 && written.clauses == 0);
+    written = runglaet_write_formula(NULL, 0, 1, NULL, 0);
+    expect("writer, neither: 1, place 0", written.number == 1 && written.second == 0 && written.clauses == 0);
+
+    expect("clause, no instance: 1, place 0", says(runglaet_clause(NULL, 0, 1, 0, words, 24), 1, 0));
+    expect("clause 0, no words: 12, place 2", says(runglaet_clause(pair, sizeof pair, 1, 0, NULL, 0), 12, 2));
+    expect("clause 7, no words: 12, place 4", says(runglaet_clause(pair, sizeof pair, 1, 7, NULL, 0), 12, 4));
+    expect("clause 8, no words: 11, place 8", says(runglaet_clause(pair, sizeof pair, 1, 8, NULL, 0), 11, 8));
+    expect("clause, neither: 1, place 0", says(runglaet_clause(NULL, 0, 1, 0, NULL, 0), 1, 0));
+
+    expect("check, no instance: 1, place 0", says(runglaet_check_plan(NULL, 0, 1, moves, 2), 1, 0));
+    expect("check, no plan: 13, place 0", says(runglaet_check_plan(pair, sizeof pair, 1, NULL, 0), 13, 0));
+    expect("check, neither: 1, place 0", says(runglaet_check_plan(NULL, 0, 1, NULL, 0), 1, 0));
+
+    expect("decoder, no instance: 1, place 0", says(runglaet_decode(NULL, 0, 1, satisfying, 4, plan, 2), 1, 0));
+    expect("decoder, no entries: 14, place 0", says(runglaet_decode(pair, sizeof pair, 1, NULL, 0, plan, 2), 14, 0));
+    expect("decoder, no plan: 15, place 2", says(runglaet_decode(pair, sizeof pair, 1, satisfying, 4, NULL, 0), 15, 2));
+    expect("decoder, neither: 14, place 0", says(runglaet_decode(pair, sizeof pair, 1, NULL, 0, NULL, 0), 14, 0));
+    expect("decoder, nothing: 1, place 0", says(runglaet_decode(NULL, 0, 1, NULL, 0, NULL, 0), 1, 0));
+
+    expect("encoder, no instance: 1, place 0", says(runglaet_encode(NULL, 0, 1, moves, 2, words, 24), 1, 0));
+    expect("encoder, no plan: 13, place 0", says(runglaet_encode(pair, sizeof pair, 1, NULL, 0, words, 24), 13, 0));
+    expect("encoder, no entries: 16, place 4", says(runglaet_encode(pair, sizeof pair, 1, moves, 2, NULL, 0), 16, 4));
+    expect("encoder, neither: 13, place 0", says(runglaet_encode(pair, sizeof pair, 1, NULL, 0, NULL, 0), 13, 0));
+    expect("encoder, nothing: 1, place 0", says(runglaet_encode(NULL, 0, 1, NULL, 0, NULL, 0), 1, 0));
+
+    expect("the words as they were", memcmp(words, before, sizeof words) == 0);
+    expect("the plan's bytes as they were", plan[0] == 200 && plan[1] == 201);
+}
+
 int main(void) {
-    static const uint8_t pair[8] = {2, 1, 1, 0, 0, 1, 0, 1};
     static const int32_t formula[24] = {1,  0,  4, 0,  1,  2, 0,  3, 4, 0,  -1, -2,
                                         0, -3, -4, 0, -1,  3, 4,  0, -2, 4,  3,  0};
     int32_t words[25], before[25];
@@ -75,6 +119,7 @@ int main(void) {
     static const uint8_t repeated[12] = {3, 2, 2, 0, 0, 0, 1, 1, 0, 1, 1, 2};
     expect("edge 0-1 twice: 7, place 5", says(runglaet_check_plan(repeated, sizeof repeated, 1, follow, 4), 7, 5));
 
-    if (failures == 0) printf("c_check: all examples hold\n");
+    null_pointers();
+    printf("c_check: %d answers, %d wrong\n", asked, failures);
     return failures != 0;
 }

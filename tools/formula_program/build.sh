@@ -19,7 +19,13 @@ stamp=$root/target/formula_program/built-from
 mkdir -p "$root/target/formula_program" 2>/dev/null ||
     stop "no folder can be made for what is built: $root/target/formula_program"
 
-if [ ! -e "$library" ]; then
+# older PATH: it is not there, or rt is at hand and a source of the crates has changed since.
+older() {
+    [ ! -e "$1" ] || { command -v rt >/dev/null &&
+        [ -n "$(find "$root/crates" \( -name '*.rt' -o -name '*.antt' \) -newer "$1" -print -quit 2>/dev/null)" ]; }
+}
+
+if older "$library"; then
     log=$root/target/formula_printer.log
     command -v rt >/dev/null || stop "rt is missing on the path, and the program is yet to be proved: $library"
     echo "proving the formula program, which takes some minutes; log: $log" >&2

@@ -16,9 +16,15 @@ tool=$root/target/shuttles/release/shuttles
 stamp=$root/target/shuttles/built-from
 mkdir -p "$root/target/shuttles" 2>/dev/null || stop "the folder for what is built cannot be made: $root/target/shuttles"
 
+# older PATH: it is not there, or rt is at hand and a source of the crates has changed since.
+older() {
+    [ ! -e "$1" ] || { command -v rt >/dev/null &&
+        [ -n "$(find "$root/crates" \( -name '*.rt' -o -name '*.antt' \) -newer "$1" -print -quit 2>/dev/null)" ]; }
+}
+
 if [ -z "${RUNGLAET_LIB:-}" ]; then
     RUNGLAET_LIB=$root/target/staticlib/librunglaet.a
-    if [ ! -e "$RUNGLAET_LIB" ]; then
+    if older "$RUNGLAET_LIB"; then
         log=$root/target/staticlib.log
         command -v rt >/dev/null || stop "rt is not on the path, and the library is yet to be proved: $RUNGLAET_LIB"
         echo "proving the library, which takes some minutes; log: $log" >&2

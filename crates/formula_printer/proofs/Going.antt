@@ -1,4 +1,4 @@
--- The invariant of a loop of the printer: turn i of n is next, both buffers have kept their lengths, and less than a piece is gathered.
+-- The invariant of each loop of the printer: turn i of n is next, both buffers have kept their lengths, and less than a piece is gathered.
 use mathlib.Core.Path.{_≡_}
 use mathlib.Core.List.{List}
 use Prim.Native.Nat.{ℕ, _≤_, _<_}

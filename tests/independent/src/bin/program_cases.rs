@@ -2,9 +2,11 @@
 //!
 //! `program_cases stored FORMULA_TEXT CRATES` writes the stored input and
 //! output of the crates formula_program and program_runs in the folder CRATES.
-//! `program_cases compare FORMULA_TEXT PROGRAM [SEED [COUNT]]` runs both
-//! programs on the stored inputs, on those around the limit and on COUNT random
-//! ones, and compares what they print.
+//! `program_cases compare [--no-status] FORMULA_TEXT PROGRAM [SEED [COUNT]]`
+//! runs both programs on the stored inputs, on those around the limit and on
+//! COUNT random ones, and compares what they print. PROGRAM must say nothing on
+//! standard error and end with status 0 for a formula and 1 for a refusal; with
+//! --no-status it must end with 0 each time.
 
 #![forbid(unsafe_code)]
 
@@ -156,6 +158,7 @@ fn run(program: &Path, input: &[u8], piece: usize) -> io::Result<Output> {
     let mut child = Command::new(program)
         .stdin(Stdio::piped())
         .stdout(Stdio::piped())
+        .stderr(Stdio::piped())
         .spawn()?;
     if let Some(mut stdin) = child.stdin.take() {
         for (i, bytes) in input.chunks(piece).enumerate() {
@@ -256,32 +259,45 @@ fn first_difference(expected: &[u8], printed: &[u8]) -> String {
     }
 }
 
-/// Compares on one input, and stops at a difference; gives the number answered.
-fn compare_one(
-    formula_text: &Path,
-    program: &Path,
-    input: &[u8],
-    piece: usize,
-) -> io::Result<usize> {
-    let (text, number) = expected(formula_text, input)?;
-    let output = run(program, input, piece)?;
-    if output.stdout != text || !output.status.success() {
-        println!("DIFFERENCE, {}", short(input));
-        println!("{}", output.status);
-        if output.stdout != text {
-            println!("{}", first_difference(&text, &output.stdout));
-        }
-        exit(1);
-    }
-    Ok(number)
+/// What is compared.
+struct Programs<'a> {
+    formula_text: &'a Path,
+    program: &'a Path,
+    /// Does the program's status tell a formula from a refusal?
+    has_status: bool,
 }
 
-fn compare(formula_text: &Path, program: &Path, seed: u64, count: usize) -> io::Result<()> {
+impl Programs<'_> {
+    /// Compares on one input, and stops at a difference; gives the number answered.
+    fn compare(&self, input: &[u8], piece: usize) -> io::Result<usize> {
+        let (text, number) = expected(self.formula_text, input)?;
+        let status = i32::from(self.has_status && number != 0);
+        let output = run(self.program, input, piece)?;
+        if output.stdout != text
+            || output.status.code() != Some(status)
+            || !output.stderr.is_empty()
+        {
+            println!("DIFFERENCE, {}", short(input));
+            println!("{}, expected {status}", output.status);
+            if output.stdout != text {
+                println!("{}", first_difference(&text, &output.stdout));
+            }
+            println!(
+                "standard error: {}",
+                String::from_utf8_lossy(&output.stderr)
+            );
+            exit(1);
+        }
+        Ok(number)
+    }
+}
+
+fn compare(programs: &Programs, seed: u64, count: usize) -> io::Result<()> {
     println!("seed {seed}, {count} random inputs");
     let clock = Instant::now();
     let mut times = [0; HIGHEST + 1];
     let mut one = |input: &[u8], piece: usize| -> io::Result<()> {
-        times[compare_one(formula_text, program, input, piece)?] += 1;
+        times[programs.compare(input, piece)?] += 1;
         Ok(())
     };
     for input in stored().iter().chain(&limits()) {
@@ -312,19 +328,28 @@ fn number(words: &[String], at: usize, default: u64) -> u64 {
 }
 
 fn main() {
-    let words: Vec<String> = env::args().skip(1).collect();
+    let mut words: Vec<String> = env::args().skip(1).collect();
+    let no_status = words.get(1).is_some_and(|word| word == "--no-status");
+    if no_status {
+        words.remove(1);
+    }
     let names: Vec<&str> = words.iter().map(String::as_str).collect();
     let done = match names[..] {
-        ["stored", formula_text, crates] => store(formula_text.as_ref(), crates.as_ref()),
-        ["compare", formula_text, program, ..] if names.len() <= 5 => compare(
-            formula_text.as_ref(),
-            program.as_ref(),
-            number(&words, 3, 1),
-            number(&words, 4, 10_000) as usize,
-        ),
+        ["stored", formula_text, crates] if !no_status => {
+            store(formula_text.as_ref(), crates.as_ref())
+        }
+        ["compare", formula_text, program, ..] if names.len() <= 5 => {
+            let programs = Programs {
+                formula_text: formula_text.as_ref(),
+                program: program.as_ref(),
+                has_status: !no_status,
+            };
+            let (seed, count) = (number(&words, 3, 1), number(&words, 4, 10_000));
+            compare(&programs, seed, count as usize)
+        }
         _ => {
             eprintln!(
-                "program_cases stored FORMULA_TEXT CRATES, or program_cases compare FORMULA_TEXT PROGRAM [SEED [COUNT]]"
+                "program_cases stored FORMULA_TEXT CRATES, or program_cases compare [--no-status] FORMULA_TEXT PROGRAM [SEED [COUNT]]"
             );
             exit(2);
         }

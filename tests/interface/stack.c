@@ -1,0 +1,202 @@
+/* How much stack each call uses: the calls run on a painted stack, and what is no longer painted was used.
+ *
+ * The inputs are the largest ones: 64 vertices, all 2016 edges, 16 agents, horizon 32. Each call is made with inputs
+ * that it accepts and with some that it refuses late, and its answers are compared with those of document 01. */
+#define _POSIX_C_SOURCE 200809L
+#include "runglaet.h"
+
+#include <pthread.h>
+#include <stdio.h>
+#include <stdlib.h>
+#include <sys/wait.h>
+#include <unistd.h>
+
+/* What the header promises is enough for any call. */
+#define PROMISED 12288
+
+enum { N = 64, K = 16, E = N * (N - 1) / 2, M = 32, ROWS = M + 1 };
+enum { PLAN = ROWS * K, VARIABLES = PLAN * N };
+
+/* Clauses and words of families A to G, from the table of document 01. */
+enum {
+    A = K, B = K, C = ROWS * K, D = ROWS * K * N * (N - 1) / 2, EE = ROWS * N * K * (K - 1) / 2, F = M * K * N,
+    G = M * K * (K - 1) * N,
+    CLAUSES = A + B + C + D + EE + F + G,
+    WORDS = 2 * K + 2 * K + C * (N + 1) + 3 * D + 3 * EE + M * K * (3 * N + 2 * E) + 3 * G,
+    /* The lowest clause that SWAPS below falsifies: of family G with t M-1, a K-2, b K-1, and v the goal of a. */
+    SWAPPED = CLAUSES - G + (((M - 1) * K + K - 2) * (K - 1) + K - 2) * N + N - 1 - (K - 2)
+};
+
+static uint8_t instance[4 + 2 * E + 2 * K], decoded[PLAN];
+static int32_t words[WORDS], encoded[VARIABLES];
+
+/* Two plans and their valuations. PASSES: every vertex is one step from every other, so all agents go to their goals in
+ * the first step and wait there. SWAPS: the last two go to each other's goal and exchange places in the last step. */
+enum { PASSES, SWAPS };
+static uint8_t plans[2][PLAN];
+static int32_t valuations[2][VARIABLES];
+
+static void fill(void) {
+    instance[0] = N;
+    instance[1] = K;
+    instance[2] = E & 255;
+    instance[3] = E >> 8;
+    int j = 4;
+    for (int low = 0; low < N; low++)
+        for (int high = low + 1; high < N; high++, j++) {
+            instance[j] = (uint8_t)low;
+            instance[j + E] = (uint8_t)high;
+        }
+    for (int a = 0; a < K; a++) {
+        instance[4 + 2 * E + a] = (uint8_t)a;
+        instance[4 + 2 * E + K + a] = (uint8_t)(N - 1 - a);
+        int other = a == K - 1 ? K - 2 : a == K - 2 ? K - 1 : a;
+        for (int t = 0; t < ROWS; t++) {
+            plans[PASSES][t * K + a] = (uint8_t)(t == 0 ? a : N - 1 - a);
+            plans[SWAPS][t * K + a] = (uint8_t)(t == 0 ? a : t < M ? N - 1 - other : N - 1 - a);
+        }
+    }
+    for (int p = 0; p < 2; p++)
+        for (int i = 0; i < VARIABLES; i++) valuations[p][i] = plans[p][i / N] == i % N ? i + 1 : -(i + 1);
+}
+
+typedef enum { WRITER, CLAUSE, CHECK, DECODER, ENCODER } call;
+
+/* One call: which one, with which horizon, plan or clause number and length of its last slice, and the answer that it
+ * must give. */
+typedef struct {
+    call which;
+    const char *what;
+    uint64_t horizon, chosen;
+    size_t length;
+    uint32_t number;
+    uint64_t second;
+} run;
+
+static runglaet_written make(const run *r) {
+    const uint8_t *plan = plans[r->chosen == SWAPS];
+    const int32_t *entries = valuations[r->chosen == SWAPS];
+    runglaet_answer answer = {0, 0};
+    switch (r->which) {
+    case WRITER: return runglaet_write_formula(instance, sizeof instance, r->horizon, words, r->length);
+    case CLAUSE:
+        answer = runglaet_clause(instance, sizeof instance, r->horizon, r->chosen, words, r->length);
+        break;
+    case CHECK: answer = runglaet_check_plan(instance, sizeof instance, r->horizon, plan, r->length); break;
+    case DECODER:
+        answer = runglaet_decode(instance, sizeof instance, r->horizon, entries, VARIABLES, decoded, r->length);
+        break;
+    case ENCODER:
+        answer = runglaet_encode(instance, sizeof instance, r->horizon, plan, PLAN, encoded, r->length);
+        break;
+    }
+    return (runglaet_written){answer.number, answer.second, 0};
+}
+
+/* The stack of the thread that makes the calls. */
+enum { SIZE = 1 << 20 };
+static _Alignas(4096) unsigned char stack[SIZE];
+
+typedef struct {
+    const run *r;
+    unsigned char paint;
+    runglaet_written answer;
+    size_t used;
+} measurement;
+
+/* Paints all that lies below the stack pointer, makes the call, and looks how far down the paint is gone. The few bytes
+ * of `make` count as the call's. */
+static void *measure(void *argument) {
+    measurement *m = argument;
+    volatile unsigned char *top, *p;
+    __asm__ volatile("mov %%rsp, %0" : "=r"(top));
+    for (p = stack; p < top; p++) *p = m->paint;
+    m->answer = make(m->r);
+    for (p = stack; p < top && *p == m->paint; p++) {
+    }
+    m->used = (size_t)(top - p);
+    return NULL;
+}
+
+static void stop(const char *what) {
+    printf("stack: %s\n", what);
+    exit(1);
+}
+
+/* The bytes used by one call, whose answer must be the expected one. */
+static size_t used(const run *r, unsigned char paint) {
+    measurement m = {r, paint, {0, 0, 0}, 0};
+    pthread_attr_t attributes;
+    pthread_t thread;
+    if (pthread_attr_init(&attributes) != 0 || pthread_attr_setstack(&attributes, stack, SIZE) != 0 ||
+        pthread_create(&thread, &attributes, measure, &m) != 0 || pthread_join(thread, NULL) != 0)
+        stop("no thread with a stack of its own");
+    pthread_attr_destroy(&attributes);
+    uint64_t clauses = r->which == WRITER && r->number == 0 ? CLAUSES : 0;
+    if (m.answer.number != r->number || m.answer.second != r->second || m.answer.clauses != clauses) {
+        printf("stack: %s: wrong answer, %u %llu\n", r->what, (unsigned)m.answer.number,
+               (unsigned long long)m.answer.second);
+        exit(1);
+    }
+    return m.used;
+}
+
+/* A process of its own for each call: the first time, the dynamic linker may look up memcpy and memset on the caller's
+ * stack. Two paints, since a byte may hold one of them by chance. */
+static size_t measured(const run *r) {
+    int ends[2], status;
+    size_t first, again, other;
+    if (pipe(ends) != 0) stop("no pipe");
+    fflush(stdout);
+    pid_t child = fork();
+    if (child < 0) stop("no process");
+    if (child == 0) {
+        first = used(r, 0xA5);
+        again = used(r, 0x3C);
+        other = used(r, 0xA5);
+        if (other > again) again = other;
+        if (again > first) first = again;
+        printf("stack: %-46s %5zu bytes, %5zu the first time\n", r->what, again, first);
+        fflush(stdout);
+        _exit(write(ends[1], &first, sizeof first) != sizeof first);
+    }
+    close(ends[1]);
+    if (waitpid(child, &status, 0) != child || status != 0 || read(ends[0], &first, sizeof first) != sizeof first)
+        stop("a measurement failed");
+    close(ends[0]);
+    return first;
+}
+
+int main(void) {
+    static const run runs[] = {
+        {WRITER, "writer, accepted", M, 0, WORDS, 0, WORDS},
+        {WRITER, "writer, slice too short", M, 0, WORDS - 1, 12, WORDS},
+        {WRITER, "writer, horizon 33", M + 1, 0, WORDS, 10, 0},
+        {CLAUSE, "clause of family A", M, 0, WORDS, 0, 2},
+        {CLAUSE, "clause of family B", M, A, WORDS, 0, 2},
+        {CLAUSE, "clause of family C", M, A + B, WORDS, 0, N + 1},
+        {CLAUSE, "clause of family D", M, A + B + C + D - 1, WORDS, 0, 3},
+        {CLAUSE, "clause of family E", M, A + B + C + D + EE - 1, WORDS, 0, 3},
+        {CLAUSE, "clause of family F", M, A + B + C + D + EE + F - 1, WORDS, 0, N + 2},
+        {CLAUSE, "clause of family G", M, CLAUSES - 1, WORDS, 0, 3},
+        {CLAUSE, "clause, no such number", M, CLAUSES, WORDS, 11, CLAUSES},
+        {CLAUSE, "clause, slice too short", M, CLAUSES - 1, 2, 12, 3},
+        {CHECK, "plan check, accepted", M, PASSES, PLAN, 0, K},
+        {CHECK, "plan check, occupied vertex in the last step", M, SWAPS, PLAN, 20, M * K + K - 2},
+        {CHECK, "plan check, plan too short", M, PASSES, PLAN - 1, 13, PLAN - 1},
+        {DECODER, "decoder, accepted", M, PASSES, PLAN, 0, PLAN},
+        {DECODER, "decoder, falsified clause of family G", M, SWAPS, PLAN, 24, SWAPPED},
+        {DECODER, "decoder, slice too short", M, PASSES, PLAN - 1, 15, PLAN},
+        {ENCODER, "encoder, accepted", M, PASSES, VARIABLES, 0, VARIABLES},
+        {ENCODER, "encoder, occupied vertex in the last step", M, SWAPS, VARIABLES, 20, M * K + K - 2},
+        {ENCODER, "encoder, slice too short", M, PASSES, VARIABLES - 1, 16, VARIABLES},
+    };
+    size_t most = 0;
+    fill();
+    for (size_t i = 0; i < sizeof runs / sizeof *runs; i++) {
+        size_t bytes = measured(&runs[i]);
+        if (bytes > most) most = bytes;
+    }
+    printf("stack: at most %zu bytes, promised are %d%s\n", most, PROMISED, most > PROMISED ? ": TOO MANY" : "");
+    return most > PROMISED;
+}
