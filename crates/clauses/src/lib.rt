@@ -6,7 +6,8 @@ use variables::Vertex;
 ghost use mathlib.Core.Path.{_≡_};
 ghost use mathlib.Core.Bool.{cond};
 ghost use mathlib.Core.List.{[], _∷_};
-ghost use Prim.Native.Nat.{_+_, _≤_, _<_};
+ghost use Prim.Native.Nat.{_+_, _%_, _≤_, _<_};
+ghost use lib.Dec.{eqb};
 ghost use lib.ListN.{length};
 ghost use Rattle.lists.specs.Slice.{Wrote};
 ghost use Rattle.formula.specs.Variables.{X, ¬X};
@@ -68,14 +69,11 @@ pub fn put_somewhere(f: &mut [i32], s: Sizes, t: Step, a: Agent) -> usize
     n + 1
 }
 
-// 1 where a test holds, 0 where it fails.
-fn one_if(test: bool) -> usize
-    ensures { λ r. ⌜ r ≡ cond test 1 0 ⌝ }
+// 1 where a byte is a mark, else 0: its lowest bit, so that no test is asked for.
+fn mark_of(byte: u8) -> usize
+    ensures { λ r. ⌜ r ≡ cond (eqb (byte % 2) 1) 1 0 ⌝ }
 {
-    if test {
-        return 1;
-    }
-    0
+    (byte % 2) as usize
 }
 
 // X(t,a,w) for each w that is marked, rising, and the 0. Each literal is stored, and the next one over it where its w is not marked,
@@ -90,7 +88,7 @@ fn put_near(f: &mut [i32], s: Sizes, near: &[u8], from: usize, t: Step, a: Agent
     let mut at: usize = 0;
     for w in 0..n {
         f[at] = positive(s, t, a, Vertex(w));
-        at += one_if(near[from + w] == 1);
+        at += mark_of(near[from + w]);
     }
     f[at] = 0;
     at + 1

@@ -1,5 +1,5 @@
 -- What the families are given, as the code has it: the sizes, the rows of starts and goals, and a table of 64 bytes for each vertex
--- v, whose byte w is 1 where w is a neighbour of v.
+-- v, whose byte w has the lowest bit 1 where w is a neighbour of v.
 use mathlib.Core.List.{List}
 use Prim.Native.Nat.{ℕ, _*_, _<_}
 use Rattle.instance.specs.declared.Sizes.{Sizes}

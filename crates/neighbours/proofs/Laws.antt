@@ -3,7 +3,7 @@ use mathlib.Core.Path.{_≡_, refl, sym, _∙_, ap, subst}
 use mathlib.Core.Logic.{by-cases}
 use mathlib.Core.List.{List}
 use mathlib.Core.Bool.{Bool, true, false, _&&_, _||_, cond}
-use Prim.Native.Nat.{ℕ, _+_, _*_, _<_}
+use Prim.Native.Nat.{ℕ, _+_, _*_, _%_, _<_}
 use native.Mathlib.Decide.{ℕ-discrete}
 use native.Mathlib.Omega.{arith}
 use borrow.Author.Tests.{eq-eqb, ne-eqb}
@@ -37,28 +37,28 @@ both x y v w e f = rw (eq-eqb x v e, eq-eqb y w f)
 
 -- an edge between x and y, marked in a table of 64 bytes a vertex
 pub table-more : (l : List ℕ) (x y v w : ℕ) (old : Bool) → x < 64 → y < 64 → v < 64 → w < 64 → length l ≡ 4096
-    → eqb (getD l (64 * v + w) 0) 1 ≡ old
-    → eqb (getD (set (set l (64 * x + y) 1) (64 * y + x) 1) (64 * v + w) 0) 1
+    → eqb (getD l (64 * v + w) 0 % 2) 1 ≡ old
+    → eqb (getD (set (set l (64 * x + y) 1) (64 * y + x) 1) (64 * v + w) 0 % 2) 1
     ≡ (old || (eqb x v && eqb y w || eqb x w && eqb y v))
 table-more l x y v w old hx hy hv hw n e =
     by-cases (ℕ-discrete (64 * v + w) (64 * y + x))
     (λ s.
     let a : y ≡ v = omega arith in
     let b : x ≡ w = omega arith in
-    ap (λ (i : ℕ). eqb (getD (set (set l (64 * x + y) 1) (64 * y + x) 1) i 0) 1) s
-    ∙ ap (λ (z : ℕ). eqb z 1) (getD-set-same (set l (64 * x + y) 1) (64 * y + x) 1 0 (simp length-set (omega arith)))
+    ap (λ (i : ℕ). eqb (getD (set (set l (64 * x + y) 1) (64 * y + x) 1) i 0 % 2) 1) s
+    ∙ ap (λ (z : ℕ). eqb (z % 2) 1) (getD-set-same (set l (64 * x + y) 1) (64 * y + x) 1 0 (simp length-set (omega arith)))
     ∙ sym (rw (both x y w v b a, or-true, or-true)))
     (λ d.
-    ap (λ (z : ℕ). eqb z 1) (getD-set-other (set l (64 * x + y) 1) (64 * y + x) (64 * v + w) 1 0 d)
+    ap (λ (z : ℕ). eqb (z % 2) 1) (getD-set-other (set l (64 * x + y) 1) (64 * y + x) (64 * v + w) 1 0 d)
     ∙ by-cases (ℕ-discrete (64 * v + w) (64 * x + y))
     (λ s.
     let a : x ≡ v = omega arith in
     let b : y ≡ w = omega arith in
-    ap (λ (i : ℕ). eqb (getD (set l (64 * x + y) 1) i 0) 1) s
-    ∙ ap (λ (z : ℕ). eqb z 1) (getD-set-same l (64 * x + y) 1 0 (omega arith))
+    ap (λ (i : ℕ). eqb (getD (set l (64 * x + y) 1) i 0 % 2) 1) s
+    ∙ ap (λ (z : ℕ). eqb (z % 2) 1) (getD-set-same l (64 * x + y) 1 0 (omega arith))
     ∙ sym (rw (both x y v w a b, or-true)))
     (λ f.
-    ap (λ (z : ℕ). eqb z 1) (getD-set-other l (64 * x + y) (64 * v + w) 1 0 f)
+    ap (λ (z : ℕ). eqb (z % 2) 1) (getD-set-other l (64 * x + y) (64 * v + w) 1 0 f)
     ∙ e
     ∙ sym (rw (not-both x y v w (λ p q. f (rw (p, q))), not-both x y w v (λ p q. d (rw (p, q))), or-none))))
 
@@ -77,12 +77,12 @@ and-comm false true = refl
 and-comm false false = refl
 
 -- one mark in a row
-mark-one : (l : List ℕ) (test : Bool) (y w : ℕ) (old : Bool) → y < length l → eqb (getD l w 0) 1 ≡ old
-    → eqb (getD (cond test (set l y 1) l) w 0) 1 ≡ (old || test && eqb y w)
+mark-one : (l : List ℕ) (test : Bool) (y w : ℕ) (old : Bool) → y < length l → eqb (getD l w 0 % 2) 1 ≡ old
+    → eqb (getD (cond test (set l y 1) l) w 0 % 2) 1 ≡ (old || test && eqb y w)
 mark-one l true y w old h e =
     by-cases (ℕ-discrete w y)
-    (λ s. rw (s, eq-eqb y y refl, or-true) (ap (λ (z : ℕ). eqb z 1) (getD-set-same l y 1 0 h)))
-    (λ d. rw (ne-eqb y w (λ s. d (sym s)), or-end) (ap (λ (z : ℕ). eqb z 1) (getD-set-other l y w 1 0 d) ∙ e))
+    (λ s. rw (s, eq-eqb y y refl, or-true) (ap (λ (z : ℕ). eqb (z % 2) 1) (getD-set-same l y 1 0 h)))
+    (λ d. rw (ne-eqb y w (λ s. d (sym s)), or-end) (ap (λ (z : ℕ). eqb (z % 2) 1) (getD-set-other l y w 1 0 d) ∙ e))
 mark-one l false y w old h e = rw or-end e
 
 cond-length : (l : List ℕ) (test : Bool) (y : ℕ) → length (cond test (set l y 1) l) ≡ length l
@@ -98,13 +98,13 @@ module _ (l l′ l″ : List ℕ) (x y v : ℕ) (hx : x < 64) (hy : y < 64) (n :
   pub second-length : length l″ ≡ 64
   second-length = ap length e″ ∙ cond-length l′ (eqb y v) x ∙ marked-length l l′ (eqb x v) y n e′
 
-  pub row-more : (w : ℕ) (old : Bool) → eqb (getD l w 0) 1 ≡ old
-      → eqb (getD l″ w 0) 1 ≡ (old || (eqb x v && eqb y w || eqb x w && eqb y v))
+  pub row-more : (w : ℕ) (old : Bool) → eqb (getD l w 0 % 2) 1 ≡ old
+      → eqb (getD l″ w 0 % 2) 1 ≡ (old || (eqb x v && eqb y w || eqb x w && eqb y v))
   row-more w old e =
-      let one : eqb (getD l′ w 0) 1 ≡ (old || eqb x v && eqb y w) =
-      ap (λ (k : List ℕ). eqb (getD k w 0) 1) e′ ∙ mark-one l (eqb x v) y w old (omega arith) e in
+      let one : eqb (getD l′ w 0 % 2) 1 ≡ (old || eqb x v && eqb y w) =
+      ap (λ (k : List ℕ). eqb (getD k w 0 % 2) 1) e′ ∙ mark-one l (eqb x v) y w old (omega arith) e in
       let h : x < length l′ = omega (arith, marked-length l l′ (eqb x v) y n e′) in
-      ap (λ (k : List ℕ). eqb (getD k w 0) 1) e″
+      ap (λ (k : List ℕ). eqb (getD k w 0 % 2) 1) e″
       ∙ mark-one l′ (eqb y v) x w (old || eqb x v && eqb y w) h one
       ∙ or-assoc old (eqb x v && eqb y w) (eqb y v && eqb x w)
       ∙ ap (λ (z : Bool). old || (eqb x v && eqb y w || z)) (and-comm (eqb y v) (eqb x w))
@@ -135,5 +135,5 @@ module _ (b : List ℕ) where
     both-inside j l = let q = long b c a in (omega arith, omega arith)
 
 -- zeros have no marks
-pub zeros-none : {n : ℕ} (i : ℕ) → i < n → eqb (getD (replicate n 0) i 0) 1 ≡ false
-zeros-none {n} i h = ap (λ (z : ℕ). eqb z 1) (getD-replicate n i 0 0 h)
+pub zeros-none : {n : ℕ} (i : ℕ) → i < n → eqb (getD (replicate n 0) i 0 % 2) 1 ≡ false
+zeros-none {n} i h = ap (λ (z : ℕ). eqb (z % 2) 1) (getD-replicate n i 0 0 h)

@@ -2,7 +2,7 @@
 use instance::Checked;
 ghost use mathlib.Core.Path.{_≡_};
 ghost use mathlib.Core.Bool.{cond};
-ghost use Prim.Native.Nat.{ℕ, _+_, _*_, _<_};
+ghost use Prim.Native.Nat.{ℕ, _+_, _*_, _%_, _<_};
 ghost use lib.ListN.{length, getD, set, replicate};
 ghost use lib.Dec.{eqb};
 ghost use Rattle.instance.specs.Instance.{adjacent};
@@ -23,7 +23,7 @@ fn mark_row(row: &mut [u8], b: &[u8], c: Checked, v: usize)
     requires { ⌜ Accepted (now b) c ⌝ }
     requires { ⌜ now row ≡ replicate 64 0 ⌝ }
     ensures { λ _. ⌜ length (now (row .exit)) ≡ 64 ⌝ }
-    ensures { λ _. ⌜ ((w : ℕ) → w < c .sizes .n → eqb (getD (now (row .exit)) w 0) 1 ≡ adjacent (instanceOf (now (b .entry)) c) v w) ⌝ }
+    ensures { λ _. ⌜ ((w : ℕ) → w < c .sizes .n → eqb (getD (now (row .exit)) w 0 % 2) 1 ≡ adjacent (instanceOf (now (b .entry)) c) v w) ⌝ }
 {
     let e = c.sizes.e;
     for j in 0..e {
@@ -38,7 +38,7 @@ fn mark_row(row: &mut [u8], b: &[u8], c: Checked, v: usize)
 pub fn row_of(b: &[u8], c: Checked, v: usize) -> [u8; 64]
     requires { ⌜ Accepted (now b) c ⌝ }
     ensures { λ r. ⌜ length r ≡ 64 ⌝ }
-    ensures { λ r. ⌜ ((w : ℕ) → w < c .sizes .n → eqb (getD r w 0) 1 ≡ adjacent (instanceOf (now (b .entry)) c) v w) ⌝ }
+    ensures { λ r. ⌜ ((w : ℕ) → w < c .sizes .n → eqb (getD r w 0 % 2) 1 ≡ adjacent (instanceOf (now (b .entry)) c) v w) ⌝ }
 {
     let mut row = [0u8; 64];
     mark_row(&mut row, b, c, v);
@@ -50,7 +50,7 @@ pub fn mark_table(table: &mut [u8], b: &[u8], c: Checked)
     requires { ⌜ Accepted (now b) c ⌝ }
     requires { ⌜ now table ≡ replicate 4096 0 ⌝ }
     ensures { λ _. ⌜ length (now (table .exit)) ≡ 4096 ⌝ }
-    ensures { λ _. ⌜ ((v w : ℕ) → v < c .sizes .n → w < c .sizes .n → eqb (getD (now (table .exit)) (64 * v + w) 0) 1 ≡ adjacent (instanceOf (now (b .entry)) c) v w) ⌝ }
+    ensures { λ _. ⌜ ((v w : ℕ) → v < c .sizes .n → w < c .sizes .n → eqb (getD (now (table .exit)) (64 * v + w) 0 % 2) 1 ≡ adjacent (instanceOf (now (b .entry)) c) v w) ⌝ }
 {
     let e = c.sizes.e;
     for j in 0..e {

@@ -21,7 +21,7 @@ abbrev μ-loop : tie.MeasureT-loop
 
 loop-again : tie.Need-loop-again Inv-loop μ-loop
 loop-again c =
-    rw (toZ-ofZ (sfits-of (c .before .before .positive .ok)), c .before .before .positive .ensures, c .one-if .ensures)
+    rw (toZ-ofZ (sfits-of (c .before .before .positive .ok)), c .before .before .positive .ensures, c .mark-of .ensures)
     (closing-next (c .before .before .before .before .loop .inv) (c .before .before .before .loop-test .taken) (marked (c .before .before .before .before .before .before .args .near .now) (c .before .before .before .before .before .before .args .from) (c .before .before .before .before .loop .w)) _ refl)
 
 add-at : tie.Need-add-at Inv-loop μ-loop

@@ -1,7 +1,7 @@
 -- `neighbours::mark_row` meets its contract. The invariant says what the turns so far have done. Assumes nothing.
 use mathlib.Core.Path.{_≡_, sym, _∙_, ap, ap₂}
 use mathlib.Core.Bool.{_&&_, _||_}
-use Prim.Native.Nat.{ℕ, _-_, _≤_, _<_}
+use Prim.Native.Nat.{ℕ, _-_, _%_, _≤_, _<_}
 use native.Mathlib.Omega.{arith}
 use native.Mathlib.Numerals.{add-one}
 use borrow.Author.Needs.{needs}
@@ -15,7 +15,7 @@ use Rattle.neighbours.proofs.mark_row.Statement.{statement}
 use Rattle.neighbours.proofs.mark_row.Tie as tie
 
 abbrev Inv-loop : tie.InvT-loop
-Inv-loop row₀ b v e j₀ row j = (j ≤ e) × ((length row ≡ 64) × ((w : ℕ) → w < 64 → eqb (getD row w 0) 1 ≡ some j (joined b v w)))
+Inv-loop row₀ b v e j₀ row j = (j ≤ e) × ((length row ≡ 64) × ((w : ℕ) → w < 64 → eqb (getD row w 0 % 2) 1 ≡ some j (joined b v w)))
 
 abbrev μ-loop : tie.MeasureT-loop
 μ-loop row₀ b v e j₀ row j = e - j

@@ -2,7 +2,7 @@
 use mathlib.Core.Path.{_≡_, refl, sym, _∙_, ap, ap₂}
 use mathlib.Core.List.{List}
 use mathlib.Core.Bool.{_&&_, _||_}
-use Prim.Native.Nat.{ℕ, _+_, _-_, _*_, _≤_, _<_}
+use Prim.Native.Nat.{ℕ, _+_, _-_, _*_, _%_, _≤_, _<_}
 use native.Mathlib.Omega.{arith}
 use native.Mathlib.Numerals.{add-one}
 use borrow.Author.Needs.{needs}
@@ -16,7 +16,7 @@ use Rattle.neighbours.proofs.mark_table.Statement.{statement}
 use Rattle.neighbours.proofs.mark_table.Tie as tie
 
 abbrev Inv-loop : tie.InvT-loop
-Inv-loop table₀ b e j₀ table j = (j ≤ e) × ((length table ≡ 4096) × ((v w : ℕ) → v < 64 → w < 64 → eqb (getD table (64 * v + w) 0) 1 ≡ some j (joined b v w)))
+Inv-loop table₀ b e j₀ table j = (j ≤ e) × ((length table ≡ 4096) × ((v w : ℕ) → v < 64 → w < 64 → eqb (getD table (64 * v + w) 0 % 2) 1 ≡ some j (joined b v w)))
 
 abbrev μ-loop : tie.MeasureT-loop
 μ-loop table₀ b e j₀ table j = e - j
@@ -31,7 +31,7 @@ ends c =
 
 loop-holds : tie.Need-loop-holds Inv-loop μ-loop
 loop-holds c =
-    (omega arith, (ap length (c .before .before .pre .1) ∙ refl, λ v w p q. ap (λ (l : List ℕ). eqb (getD l (64 * v + w) 0) 1) (c .before .before .pre .1) ∙ zeros-none {n = 4096} (64 * v + w) (omega arith)))
+    (omega arith, (ap length (c .before .before .pre .1) ∙ refl, λ v w p q. ap (λ (l : List ℕ). eqb (getD l (64 * v + w) 0 % 2) 1) (c .before .before .pre .1) ∙ zeros-none {n = 4096} (64 * v + w) (omega arith)))
 
 add-wide : tie.Need-add-wide Inv-loop μ-loop
 add-wide c = let i = both-inside (c .before .before .before .before .args .b .now) (c .before .before .before .before .args .c) (c .before .before .before .before .pre .0) (c .before .loop .j) (omega arith) in omega arith
