@@ -1,5 +1,7 @@
--- What is to be printed, as a function of the input. No contract can speak of output: the stored runs and the comparisons test the
--- programs against it.
+-- What is to be printed, as a function of the input, and the exit status. No contract can speak of output: the stored runs and the
+-- comparisons test the programs against it.
+use mathlib.Core.Path.{_≡_}
+use mathlib.Core.Logic.{_⊎_}
 use mathlib.Core.List.{List}
 use Prim.Native.Nat.{ℕ}
 use lib.ListN.{getD, take, drop}
@@ -15,7 +17,18 @@ answerText b m =
     byNumber (instanceAnswer b m .number) (formulaText (formula (instance b m)))
     (refusalText (instanceAnswer b m .number) (instanceAnswer b m .second))
 
+-- The exit status of an instance and a horizon where all of the text was written: 0 for a formula, 1 for a refusal.
+unfoldable pub answerStatus : List ℕ → ℕ → ℕ
+answerStatus b m = byNumber (instanceAnswer b m .number) 0 1
+
+-- it is answered, or 2 where a write failed
+abbrev pub Ends : ℕ → ℕ → Type 0
+Ends status r = (r ≡ status) ⊎ (r ≡ 2)
+
 -- of an input: one byte m, then the instance; an empty one counts as m 0 and an empty instance
+unfoldable pub inputStatus : List ℕ → ℕ
+inputStatus input = answerStatus (drop 1 input) (getD input 0 0)
+
 unfoldable pub inputText : List ℕ → List ℕ
 inputText input = answerText (drop 1 input) (getD input 0 0)
 

@@ -13,6 +13,7 @@ ghost use Rattle.families.specs.Held.{heldIn, Ready};
 ghost use Rattle.dimacs.specs.Text.{wordsText};
 ghost use Rattle.dimacs.specs.Table.{Begins, Texts, Within, Pairs};
 ghost use Rattle.formula_printer.specs.Room.{Room, Block};
+ghost use Rattle.formula_printer.specs.Output.{answerStatus, Ends, inputStatus};
 
 // The exit status: the formula was printed, the instance was refused, or a read or a write failed.
 pub const DONE: u32 = 0;
@@ -206,7 +207,9 @@ fn print_refusal(text: &mut [u8], number: usize, place: usize) -> bool
 }
 
 // The status given, or that of a failure where not all was written.
-fn status_of(written: bool, status: u32) -> u32 {
+fn status_of(written: bool, status: u32) -> u32
+    ensures { λ r. ⌜ Ends status r ⌝ }
+{
     if written {
         return status;
     }
@@ -216,6 +219,7 @@ fn status_of(written: bool, status: u32) -> u32 {
 // Asks 1 to 10 of the instance, and prints the refusal or the formula. Answers the exit status.
 fn print_answer(words: &mut [i32], text: &mut [u8], texts: &mut [u8], b: &[u8], m: usize) -> u32
     requires { ⌜ Room (now words) (now text) (now texts) ⌝ }
+    ensures { λ r. ⌜ Ends (answerStatus (now (b .entry)) m) r ⌝ }
 {
     let i = instance_check::check_instance(b, m);
     let answer = i.answer;
@@ -233,6 +237,7 @@ fn print_answer(words: &mut [i32], text: &mut [u8], texts: &mut [u8], b: &[u8], 
 // exit status.
 pub fn print_input(words: &mut [i32], text: &mut [u8], texts: &mut [u8], input: &[u8]) -> u32
     requires { ⌜ Room (now words) (now text) (now texts) ⌝ }
+    ensures { λ r. ⌜ Ends (inputStatus (now (input .entry))) r ⌝ }
 {
     if input.len() == 0 {
         return print_answer(words, text, texts, input, 0);
