@@ -6,7 +6,7 @@
 # RUNGLAET_LIB      the static library, RUNGLAET_PROGRAM the formula program; otherwise the repository's own
 # KEEP              a folder for instance.bin, input.bin, formula.cnf and output.txt; otherwise they are removed
 #
-# Exit status: 0 a plan that passes; 1 refused by the library; 3 no plan of this makespan; 2 anything else.
+# Exit status: 0 a plan that passes; 1 refused by the library; 3 no plan of this makespan; 2 anything else, a signal too.
 #
 # A refusal is a line on standard output, any other failure one on standard error. The first forty characters of either
 # tell its kind; details come behind, and a path comes last.
@@ -28,8 +28,22 @@ quietly() {
     { "$@" 2>&3 3>&-; } 3>&2 2>/dev/null
 }
 
-# A reader of standard output that has gone is a write that fails.
-trap '' PIPE
+# A reader of standard output that has gone is a write that fails, and so is a file that may not grow. Another signal also
+# ends the solver, once it runs.
+trap '' PIPE XFSZ
+exec 4>&2
+solver=''
+# shellcheck disable=SC2317  # A trap calls it.
+interrupted() {
+    [ -z "$solver" ] || kill "$solver" 2>/dev/null
+    # While the script waits, the shell's words go nowhere; this line does not.
+    exec 2>&4
+    stop "this run was ended by a signal before its result: $1"
+}
+for signal in HUP INT TERM; do
+    # shellcheck disable=SC2064  # The name is meant as it is now.
+    trap "interrupted $signal" "$signal"
+done
 { true 9>&1; } 2>/dev/null || stop "standard output is closed, so no result could be shown"
 
 # What was given.
@@ -76,6 +90,12 @@ output=$folder/output.txt
 (true >"$instance" && true >"$input" && true >"$formula" && true >"$output") 2>/dev/null ||
     stop "the files of this run cannot be written into their folder: $folder"
 
+# room: there is still room for files of this run; where there is none, what was written last may be cut short.
+room() {
+    head -c 8192 /dev/zero >"$folder/room" 2>/dev/null || stop "there is no room left for the files of this run; free some or set TMPDIR: $folder"
+    rm -f "$folder/room"
+}
+
 # A description from a pipe can be read only once.
 if [ -p "$description" ]; then
     cat -- "$description" >"$folder/description.txt" || exit 2
@@ -83,20 +103,25 @@ if [ -p "$description" ]; then
 fi
 
 # The instance, and with the horizon before it what the formula program reads. The tool says itself what went wrong.
+room
 "$shuttles" instance "$description" >"$instance" || exit 2
 status=0
-"$shuttles" input "$description" "$horizon" >"$input" || status=$?
+refusal=$("$shuttles" input "$description" "$horizon" 2>&1 >"$input") || status=$?
 case $status in
-0) ;;
+0) room ;;
 1)
-    say "$(cat "$input")"
+    say "$refusal"
     exit 1
     ;;
-*) exit 2 ;;
+*)
+    printf '%s\n' "$refusal" >&2
+    exit 2
+    ;;
 esac
 
 # The formula. The program refuses nothing that the library accepts, but it is asked all the same.
 quietly "$RUNGLAET_PROGRAM" <"$input" >"$formula" || status=$?
+room
 [ "$status" -le 1 ] || stop "the formula program failed, so there is no formula: status $status: $RUNGLAET_PROGRAM"
 first='' second='' variables='' clauses=''
 read -r first second variables clauses <"$formula"
@@ -119,15 +144,20 @@ whole() {
 whole || stop "the formula is not whole, so no solver was asked: $clauses clauses in its header, $(wc -l <"$formula") lines in all: $RUNGLAET_PROGRAM"
 say "$(basename -- "$description"), horizon $horizon: $variables variables, $clauses clauses, $SOLVER"
 
-# The solver. Its exit status is 10 for satisfiable and 20 for unsatisfiable.
+# The solver, beside this script, which can so be ended. Its exit status is 10 for satisfiable and 20 for unsatisfiable.
+case $SOLVER in
+cadical | kissat) command=("$SOLVER" -q "$formula") printed=$output ;;
+minisat) command=(minisat -verb=0 "$formula" "$output") printed=/dev/null ;;
+picosat) command=(picosat "$formula") printed=$output ;;
+cryptominisat5) command=(cryptominisat5 --verb 0 "$formula") printed=$output ;;
+esac
 solved=0
 SECONDS=0
-case $SOLVER in
-cadical | kissat) quietly "${limit[@]}" "$SOLVER" -q "$formula" >"$output" || solved=$? ;;
-minisat) quietly "${limit[@]}" minisat -verb=0 "$formula" "$output" >/dev/null || solved=$? ;;
-picosat) quietly "${limit[@]}" picosat "$formula" >"$output" || solved=$? ;;
-cryptominisat5) quietly "${limit[@]}" cryptominisat5 --verb 0 "$formula" >"$output" || solved=$? ;;
-esac
+(exec "${limit[@]}" "${command[@]}" >"$printed" 4>&-) &
+solver=$!
+{ wait "$solver"; } 2>/dev/null || solved=$?
+solver=''
+room
 
 # Why the solver ended without a verdict, and what to do.
 no_verdict() {

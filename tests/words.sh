@@ -348,6 +348,14 @@ ends solve-status 'exit 124'
 ends solve-disagreement 'echo UNSAT >$3; exit 10'
 ends solve-disagreement 'printf "SAT\n1 -2 -3 4 0\n" >$3; exit 20'
 ends GaveUp 'echo INDET >$3; exit 10'
+ends solve-signal 'kill -TERM $PPID; exec sleep 9'
+ends solve-signal 'kill -HUP $PPID; exec sleep 9'
+result "$(pgrep -f '^sleep 9$')" "a solver that outlived its run"
+
+# solve.sh where files can't grow, as on a full disk.
+small() { (ulimit -f "$1" && "${@:2}"); }
+expect solve-room 2 small 1 with "$plan" "$solve" pair.txt 1
+expect solve-room 2 small 7 with "$plan" "$solve" path.txt 2
 
 # tools/shuttles/build.sh. The tool that is built needs no cargo; a copy of the sources has nothing built.
 solves 0 '' "$shuttles" "$root/tools/shuttles/build.sh"
@@ -420,8 +428,9 @@ result "${shared:+$shared}" "beginnings of several kinds"
 sed -n 's/^    [A-Z][A-Za-z]*: "\(.*\)",$/shuttles: \1/p' "$root/tools/shuttles/src/errors.rs" >errors
 sed -n 's/^    (\([0-9]*\), "\(.*\)$/refused \1: \2/p' "$root/tools/shuttles/src/refusals.rs" >refusals
 grep -o 'stop ".*' "$root/examples/solve.sh" | sed 's/stop "/solve.sh: /' >solve
-grep -o 'stop ".*' "$root/tools/shuttles/build.sh" | sed 's|stop "|shuttles/build.sh: |' >build
-grep -o 'stop ".*' "$root/tools/formula_program/build.sh" | sed 's|stop "|formula_program/build.sh: |' >program
+grep -oE '(stop |no_cargo=)"[^$].*' "$root/tools/shuttles/build.sh" | sed -E 's/^(stop |no_cargo=)"/shuttles\/build.sh: /' >build
+grep -oE '(stop |no_compiler=)"[^$].*' "$root/tools/formula_program/build.sh" |
+    sed -E 's/^(stop |no_compiler=)"/formula_program\/build.sh: /' >program
 cut -f 2 pairs >seen
 for source in errors refusals solve build program; do
     [ -s "$source" ] || echo nothing >"$source"

@@ -19,15 +19,15 @@ stamp=$root/target/formula_program/built-from
 mkdir -p "$root/target/formula_program" 2>/dev/null ||
     stop "no folder can be made for what is built: $root/target/formula_program"
 
-# older PATH: it is not there, or rt is at hand and a source of the crates has changed since.
-older() {
-    [ ! -e "$1" ] || { command -v rt >/dev/null &&
-        [ -n "$(find "$root/crates" \( -name '*.rt' -o -name '*.antt' \) -newer "$1" -print -quit 2>/dev/null)" ]; }
-}
+# shellcheck source=tools/common.sh
+. "$root/tools/common.sh"
 
+cc=${CC:-cc}
+no_compiler="no C compiler of this name, and the program is yet to be linked: $cc"
 if older "$library"; then
     log=$root/target/formula_printer.log
     command -v rt >/dev/null || stop "rt is missing on the path, and the program is yet to be proved: $library"
+    command -v "$cc" >/dev/null || stop "$no_compiler"
     echo "proving the formula program, which takes some minutes; log: $log" >&2
     # `rt check` proves on all processors; then only the library is left to be written.
     (cd "$root" && rt check formula_printer && rt staticlib formula_printer) >"$log" 2>&1 ||
@@ -39,8 +39,7 @@ sum() { cat "$here/main.c" "$library" "$program" 2>/dev/null | cksum; }
 
 if [ ! -x "$program" ] || [ "$(sum)" != "$(cat "$stamp" 2>/dev/null)" ]; then
     log=$root/target/formula_program.log
-    cc=${CC:-cc}
-    command -v "$cc" >/dev/null || stop "no C compiler of this name, and the program is yet to be linked: $cc"
+    command -v "$cc" >/dev/null || stop "$no_compiler"
     command -v rt >/dev/null || stop "linking needs rt, which is not on the path: $program"
     # The toolchain's C code behind the library that says why a read or a write failed.
     behind=$(dirname "$(rt doc)")/../lib/libos_c.a

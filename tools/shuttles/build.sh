@@ -14,19 +14,18 @@ stop() {
 root=$(realpath "$(dirname "$(realpath "$0")")/../..") || exit 2
 tool=$root/target/shuttles/release/shuttles
 stamp=$root/target/shuttles/built-from
+no_cargo="cargo is not on the path, and the tool is yet to be built: $tool"
 mkdir -p "$root/target/shuttles" 2>/dev/null || stop "the folder for what is built cannot be made: $root/target/shuttles"
 
-# older PATH: it is not there, or rt is at hand and a source of the crates has changed since.
-older() {
-    [ ! -e "$1" ] || { command -v rt >/dev/null &&
-        [ -n "$(find "$root/crates" \( -name '*.rt' -o -name '*.antt' \) -newer "$1" -print -quit 2>/dev/null)" ]; }
-}
+# shellcheck source=tools/common.sh
+. "$root/tools/common.sh"
 
 if [ -z "${RUNGLAET_LIB:-}" ]; then
     RUNGLAET_LIB=$root/target/staticlib/librunglaet.a
     if older "$RUNGLAET_LIB"; then
         log=$root/target/staticlib.log
         command -v rt >/dev/null || stop "rt is not on the path, and the library is yet to be proved: $RUNGLAET_LIB"
+        command -v cargo >/dev/null || stop "$no_cargo"
         echo "proving the library, which takes some minutes; log: $log" >&2
         # `rt check` proves on all processors; then only the library is left to be written.
         (cd "$root" && rt check runglaet && rt staticlib runglaet) >"$log" 2>&1 ||
@@ -50,7 +49,7 @@ sum() {
 
 if [ ! -x "$tool" ] || [ "$(sum)" != "$(cat "$stamp" 2>/dev/null)" ]; then
     log=$root/target/shuttles.log
-    command -v cargo >/dev/null || stop "cargo is not on the path, and the tool is yet to be built: $tool"
+    command -v cargo >/dev/null || stop "$no_cargo"
     cargo build --quiet --release --offline --manifest-path "$root/tools/shuttles/Cargo.toml" \
         --target-dir "$root/target/shuttles" >"$log" 2>&1 || stop "the tool could not be built, see what cargo said: $log"
     sum >"$stamp"

@@ -2,7 +2,7 @@
 //!
 //! Only what has no place in the bytes is an error here. All else is left to the library and its refusals.
 
-use crate::errors::{Error, Kind};
+use crate::errors::{quoted, Error, Kind};
 use crate::map::{Lines, Map};
 
 /// What the lines read so far have described.
@@ -16,9 +16,6 @@ struct Described {
 }
 
 pub fn map(text: &str) -> Result<Map, Error> {
-    if text.starts_with('\u{feff}') {
-        return Err(Kind::ByteOrderMark.with("UTF-8"));
-    }
     let mut described = Described::default();
     for (i, line) in text.lines().enumerate() {
         described.read(i + 1, line)?;
@@ -55,7 +52,10 @@ impl Described {
                 self.agents.push((start, goal, number));
             }
             _ => {
-                let details = format!("{keyword:?} is none of vertices, grid, edge and agent");
+                let details = format!(
+                    "{} is none of vertices, grid, edge and agent",
+                    quoted(keyword)
+                );
                 return Err(Kind::Keyword.in_line(number, details));
             }
         }
@@ -121,7 +121,10 @@ fn bytes<const COUNT: usize>(
     let mut numbers = [0; COUNT];
     for ((number, name), word) in numbers.iter_mut().zip(form.split(' ').skip(1)).zip(words) {
         *number = word.parse().map_err(|_| {
-            Kind::NotByte.in_line(line, format_args!("{name} of \"{form}\" is {word:?}"))
+            Kind::NotByte.in_line(
+                line,
+                format_args!("{name} of \"{form}\" is {}", quoted(word)),
+            )
         })?;
     }
     Ok(numbers)
@@ -198,7 +201,6 @@ mod tests {
                 Kind::CarriageReturn,
                 "line 1: ",
             ),
-            ("\u{feff}vertices 2", Kind::ByteOrderMark, ""),
         ] {
             let error = map(text).err().unwrap();
             assert_eq!(error.kind, kind);

@@ -34,7 +34,7 @@ kinds! {
     Output: "standard output takes no more, the result is lost",
 
     NotText: "the description is not a text in UTF-8",
-    ByteOrderMark: "a byte order mark stands before the description; save it without one",
+    ByteOrderMark: "a byte order mark stands before the text; save it as UTF-8 without one",
     CarriageReturn: "a carriage return stands inside a line of the description",
     Keyword: "a line of the description begins with an unknown word",
     NumberCount: "too few or too many numbers in a line of the description",
@@ -55,6 +55,18 @@ kinds! {
     Contradiction: "a variable and its negative are both in the valuation",
     NoClosing: "the solver's valuation has no closing 0, it may be cut short",
     GaveUp: "the solver gave up, so it is not known if there is a plan",
+}
+
+/// A word or a line as it was given, in quotes; of a long one the beginning.
+pub fn quoted(text: &str) -> String {
+    const LONGEST: usize = 60;
+    let beginning: String = text.chars().take(LONGEST).collect();
+    let more = if beginning.len() < text.len() {
+        " and more"
+    } else {
+        ""
+    };
+    format!("{beginning:?}{more}")
 }
 
 #[derive(Debug, PartialEq, Eq)]

@@ -8,10 +8,11 @@ mod map;
 mod places;
 mod refusals;
 mod solver_output;
+mod streams;
 #[cfg(test)]
 mod words;
 
-use errors::{Error, Kind};
+use errors::{quoted, Error, Kind};
 use horizon::Horizon;
 use map::Map;
 use places::Subject;
@@ -76,11 +77,14 @@ fn run(words: &[&str]) -> Outcome {
             refusal(number, place, subject)
         }
         ["help" | "--help" | "-h"] => said(USAGE.to_string(), DONE),
-        _ => Err(Kind::Usage.with(format_args!("{:?}\n{USAGE}", words.join(" ")))),
+        _ => Err(Kind::Usage.with(format_args!("{}\n{USAGE}", quoted(&words.join(" "))))),
     }
 }
 
 fn written(text: &[u8], status: u8) -> Result<u8, Error> {
+    if !streams::output_was_open() {
+        return Err(Kind::Output.with("it is closed"));
+    }
     let mut out = std::io::stdout().lock();
     out.write_all(text)
         .and_then(|()| out.flush())
@@ -89,8 +93,8 @@ fn written(text: &[u8], status: u8) -> Result<u8, Error> {
 }
 
 /// Where standard error takes nothing, the exit status still tells.
-fn complain(error: &Error) {
-    let _ = writeln!(std::io::stderr(), "{error}");
+fn complain(line: &impl std::fmt::Display) {
+    let _ = writeln!(std::io::stderr(), "{line}");
 }
 
 fn make_instance(path: &str) -> Outcome {
@@ -101,7 +105,9 @@ fn input(instance: &str, horizon: &str) -> Outcome {
     let (map, horizon) = (map::read(instance)?, Horizon::read(horizon));
     let answer = instance_answer(&map, &horizon);
     if answer.number != 0 {
-        return refused(answer, about(&map, &horizon));
+        // Standard output is for bytes alone.
+        complain(&refusals::describe(answer, about(&map, &horizon)));
+        return Ok((Vec::new(), REFUSED));
     }
     let mut bytes = vec![horizon.value as u8];
     bytes.extend(map.bytes);
@@ -117,22 +123,29 @@ fn decode(instance: &str, horizon: &str, numbers: bool) -> Outcome {
     }
     match solver_output::read(&standard_input()?)? {
         Verdict::Satisfiable { literals, closed } => {
+            let entries = solver_output::entries(&literals, map.variables(&horizon))?;
+            if !closed && entries.len() < map.variables(&horizon) {
+                return Err(Kind::NoClosing.with(format_args!(
+                    "{} of {} variables given",
+                    entries.len(),
+                    map.variables(&horizon)
+                )));
+            }
             if !closed {
                 complain(&Kind::NoClosing.alone());
             }
-            decode_literals(&map, &horizon, &literals, numbers)
+            decode_entries(&map, &horizon, &entries, numbers)
         }
         Verdict::Unsatisfiable => said(format!("no plan of makespan {}\n", horizon.word), NO_PLAN),
         Verdict::Unknown => Err(Kind::GaveUp.alone()),
     }
 }
 
-fn decode_literals(map: &Map, horizon: &Horizon, literals: &[i32], numbers: bool) -> Outcome {
-    let entries = solver_output::entries(literals, map.variables(horizon))?;
+fn decode_entries(map: &Map, horizon: &Horizon, entries: &[i32], numbers: bool) -> Outcome {
     let mut plan = vec![0; map.plan_bytes(horizon)];
-    let answer = runglaet::decode(&map.bytes, horizon.value, &entries, &mut plan);
+    let answer = runglaet::decode(&map.bytes, horizon.value, entries, &mut plan);
     if answer.number != 0 {
-        let entries = Some(&entries[..]);
+        let entries = Some(entries);
         return refused(
             answer,
             Subject {
@@ -257,16 +270,20 @@ fn numbers_of(map: &Map, plan: &[u8]) -> String {
 }
 
 fn standard_input() -> Result<String, Error> {
+    if !streams::input_was_open() {
+        return Err(Kind::Input.with("it is closed"));
+    }
     let mut bytes = Vec::new();
     std::io::stdin()
         .read_to_end(&mut bytes)
         .map_err(|error| Kind::Input.with(error))?;
+    map::marked(&bytes)?;
     Ok(String::from_utf8_lossy(&bytes).into_owned())
 }
 
 fn whole<Number: std::str::FromStr>(word: &str) -> Result<Number, Error> {
     word.parse()
-        .map_err(|_| Kind::RefusalWord.with(format_args!("{word:?}")))
+        .map_err(|_| Kind::RefusalWord.with(quoted(word)))
 }
 
 fn plan_of(words: &[&str]) -> Result<Vec<u8>, Error> {
@@ -274,10 +291,11 @@ fn plan_of(words: &[&str]) -> Result<Vec<u8>, Error> {
         ["-"] => standard_input()?,
         _ => words.join(" "),
     };
-    text.split_whitespace()
-        .map(|word| {
+    (1..)
+        .zip(text.split_whitespace())
+        .map(|(i, word)| {
             word.parse()
-                .map_err(|_| Kind::PlanWord.with(format_args!("{word:?}")))
+                .map_err(|_| Kind::PlanWord.with(format_args!("word {i}: {}", quoted(word))))
         })
         .collect()
 }

@@ -17,9 +17,11 @@ pub struct Lines {
 }
 
 /// A description, or instance bytes: whatever is text throughout is a description. No accepted instance is a text,
-/// since its fourth byte, the high byte of its at most 2016 edges, is at most 7.
+/// since its fourth byte, the high byte of its at most 2016 edges, is at most 7; nor does one begin as UTF-16 does,
+/// since its first byte is at most 64.
 pub fn read(path: &str) -> Result<Map, Error> {
     let bytes = file(path)?;
+    marked(&bytes).map_err(|error| error.in_file(path))?;
     match text_of(&bytes) {
         Some(text) => description::map(text).map_err(|error| error.in_file(path)),
         None => Ok(Map { bytes, lines: None }),
@@ -29,12 +31,19 @@ pub fn read(path: &str) -> Result<Map, Error> {
 /// A description and nothing else.
 pub fn read_description(path: &str) -> Result<Map, Error> {
     let bytes = file(path)?;
-    let text = text_of(&bytes).ok_or_else(|| match bytes[..] {
-        [0xff, 0xfe, ..] | [0xfe, 0xff, ..] => Kind::ByteOrderMark.with("UTF-16"),
-        _ => Kind::NotText.alone(),
-    });
-    text.and_then(description::map)
+    marked(&bytes)
+        .and_then(|()| text_of(&bytes).ok_or(Kind::NotText.alone()))
+        .and_then(description::map)
         .map_err(|error| error.in_file(path))
+}
+
+/// An error where a byte order mark comes first.
+pub fn marked(bytes: &[u8]) -> Result<(), Error> {
+    match bytes {
+        [0xff, 0xfe, ..] | [0xfe, 0xff, ..] => Err(Kind::ByteOrderMark.with("UTF-16")),
+        [0xef, 0xbb, 0xbf, ..] => Err(Kind::ByteOrderMark.with("UTF-8")),
+        _ => Ok(()),
+    }
 }
 
 fn file(path: &str) -> Result<Vec<u8>, Error> {
@@ -133,6 +142,14 @@ mod tests {
         ] {
             assert_eq!(text_of(bytes), None);
         }
+    }
+
+    #[test]
+    fn byte_order_marks() {
+        for bytes in [&b"\xef\xbb\xbfvertices 2"[..], b"\xff\xfev\0", b"\xfe\xff\0v"] {
+            assert_eq!(marked(bytes).unwrap_err().kind, Kind::ByteOrderMark);
+        }
+        assert_eq!(marked(b"\x02\x01\x01\x00"), Ok(()));
     }
 
     #[test]

@@ -1,6 +1,7 @@
 //! The place of a refusal in the reader's terms. Each function says nothing where what it needs is not known.
 
 use crate::clause;
+use crate::errors::quoted;
 use crate::horizon::Horizon;
 use crate::map::Map;
 use std::cmp::Ordering;
@@ -168,7 +169,7 @@ fn endpoint(
 // The horizon, and what is too short or too long
 
 pub fn horizon(subject: Subject, _: usize) -> Option<String> {
-    Some(format!("{:?} was given", subject.horizon?.word))
+    Some(format!("{} was given", quoted(&subject.horizon?.word)))
 }
 
 pub fn clause_count(_: Subject, clauses: usize) -> Option<String> {

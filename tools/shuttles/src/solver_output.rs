@@ -1,6 +1,6 @@
 //! Reading what a solver printed: the format of the SAT competitions, or minisat's result file.
 
-use crate::errors::{Error, Kind};
+use crate::errors::{quoted, Error, Kind};
 
 #[derive(Debug, PartialEq, Eq)]
 pub enum Verdict {
@@ -58,11 +58,11 @@ fn word_removed<'a>(line: &'a str, word: &str) -> Option<&'a str> {
 fn verdict(text: &str) -> Result<(usize, &str), Error> {
     let mut found = None;
     for (i, line) in lines(text) {
-        if !is_verdict(line).map_err(|kind| kind.in_line(i, format_args!("{line:?}")))? {
+        if !is_verdict(line).map_err(|kind| kind.in_line(i, quoted(line)))? {
             continue;
         }
         if found.replace((i, line)).is_some() {
-            return Err(Kind::SecondVerdict.in_line(i, format_args!("{line:?}")));
+            return Err(Kind::SecondVerdict.in_line(i, quoted(line)));
         }
     }
     found.ok_or(Kind::NoVerdict.alone())
@@ -93,7 +93,7 @@ fn valuation(text: &str, values: &[(usize, &str)]) -> Result<(Vec<i32>, bool), E
             }
             let literal: i32 = word
                 .parse()
-                .map_err(|_| Kind::NotLiteral.in_line(i, format_args!("{word:?}")))?;
+                .map_err(|_| Kind::NotLiteral.in_line(i, quoted(word)))?;
             if closed {
                 return Err(Kind::AfterClosing.in_line(i, word));
             }
