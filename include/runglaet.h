@@ -9,6 +9,12 @@
  * is asked: refusals 12, 15 and 16 give what is needed. No two slices of a call may overlap. Each call uses less than
  * 12 KiB of stack. The calls share nothing, so several threads may call at once.
  *
+ * An instance is bytes: n vertices, k agents, e edges (two bytes, the low one first); the low ends of all edges, then
+ * their high ends, sorted by low end and then by high end; the starts of all agents, then their goals. Vertices, agents
+ * and times are numbered from 0. A plan has a row for each time from 0 to the horizon m, a byte for each agent: byte
+ * t * k + a is the vertex of agent a at time t. Variable 1 + (t * k + a) * n + v says that agent a is at vertex v at time
+ * t; there are n * k * (m + 1) of them, and a valuation has an entry for each.
+ *
  * Questions are numbered as in README.md. Words and entries are signed 32-bit numbers.
  */
 #ifndef RUNGLAET_H
