@@ -88,16 +88,6 @@ word-size x = refl
 pub length-word : (w x : ℕ) → x < 10 ^ suc w → length (wordText (pos x)) ≤ suc (suc w)
 length-word w x h = omega (arith, ap length (word-size x), length-append (decimal x) (after (pos x) ∷ []), length-most w x h)
 
-pub word-negative : (w : ℤ) → ltZ w (pos 0) ≡ true → wordText w ≡ (45 ∷ []) ++ wordText (pos (natAbs w))
-unfolding wordText signed
-word-negative (pos zero) e = let z : _≡_ {A = ℕ} 0 1 = cc in absurd (let f : ⊥ = omega arith in f)
-word-negative (pos (suc n)) e = absurd (let h = ltb-true (suc n) 0 e in let f : ⊥ = omega arith in f)
-word-negative (negsuc n) e = refl
-
-pub word-positive : (w : ℤ) → ltZ w (pos 0) ≡ false → w ≡ pos (natAbs w)
-word-positive (pos n) e = refl
-word-positive (negsuc n) e = let z : _≡_ {A = ℕ} 0 1 = cc in absurd (let f : ⊥ = omega arith in f)
-
 pub end-space : (x : ℕ) → (x ≡ 0 → ⊥) → 32 ≡ after (pos x)
 end-space zero d = absurd (d refl)
 end-space (suc x) d = refl
