@@ -2,7 +2,6 @@
 use mathlib.Core.Path.{sym, ap}
 use borrow.Author.Tests.{ne-eqb}
 use Rattle.formula.specs.Blocks.{paired}
-use borrow.Author.Needs.{needs}
 use Rattle.formula_printer.proofs.is_paired.Statement.{statement}
 use Rattle.formula_printer.proofs.is_paired.Tie as tie
 

@@ -1,7 +1,6 @@
 -- `formula_printer::status_of` meets its contract, case by case. Assumes nothing.
 use mathlib.Core.Path.{refl}
 use mathlib.Core.Logic.{inl, inr}
-use borrow.Author.Needs.{needs}
 use Rattle.formula_printer.proofs.status_of.Statement.{statement}
 use Rattle.formula_printer.proofs.status_of.Tie as tie
 
