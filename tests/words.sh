@@ -348,9 +348,20 @@ ends solve-status 'exit 124'
 ends solve-disagreement 'echo UNSAT >$3; exit 10'
 ends solve-disagreement 'printf "SAT\n1 -2 -3 4 0\n" >$3; exit 20'
 ends GaveUp 'echo INDET >$3; exit 10'
-ends solve-signal 'kill -TERM $PPID; exec sleep 9'
-ends solve-signal 'kill -HUP $PPID; exec sleep 9'
-result "$(pgrep -f '^sleep 9$')" "a solver that outlived its run"
+# A signal ends the solver too: it has said who it is, and is gone soon after.
+for signal in TERM HUP; do
+    rm -f solver
+    ends solve-signal "echo \$\$ >$folder/solver; kill -$signal \$PPID; exec sleep 9"
+    fault='the solver never ran'
+    if [ -s solver ]; then
+        for _ in {1..40}; do
+            kill -0 "$(cat solver)" 2>/dev/null || break
+            sleep 0.05
+        done
+        kill -0 "$(cat solver)" 2>/dev/null && fault='it outlived its run' || fault=''
+    fi
+    result "$fault" "the solver of a run ended by $signal"
+done
 
 # solve.sh where files can't grow, as on a full disk.
 small() { (ulimit -f "$1" && "${@:2}"); }
