@@ -131,7 +131,8 @@ fn write_e(n: usize, k: usize, block: &mut [i32]) {
 fn write_f(instance: &Instance, block: &mut [i32]) {
     let mut words = block.iter_mut();
     let up = (instance.k * instance.n) as i32;
-    for (v, mut near) in (1..).zip(instance.neighbours()).take(instance.n) {
+    let near = &instance.neighbours()[..instance.n];
+    for (v, mut near) in (1..).zip(near.iter().copied()) {
         let mut put = |word| words.next().map(|place| *place = word);
         put(-v);
         put(up + v);

@@ -85,20 +85,78 @@ impl<'a> Instance<'a> {
 
     /// Bit w of word v says that an edge joins v and w.
     pub fn neighbours(&self) -> [u64; 64] {
+        if self.low.len() >= MANY {
+            return neighbours_of_many(self.low, self.high);
+        }
         let mut words = [0; 64];
-        let mut highs = self.high;
-        for run in self.low.chunk_by(u8::eq) {
-            let v = run[0] & 63;
-            let (ends, rest) = highs.split_at(run.len());
-            let mut above = 0;
-            for &w in ends {
-                above |= 1 << (w & 63);
-                words[usize::from(w & 63)] |= 1 << v;
-            }
-            words[usize::from(v)] |= above;
-            highs = rest;
+        for (&v, &w) in self.low.iter().zip(self.high) {
+            words[usize::from(v & 63)] |= bit(w);
+            words[usize::from(w & 63)] |= bit(v);
         }
         words
+    }
+}
+
+/// From so many edges on, the words are faster to turn than to mark from both ends.
+const MANY: usize = 192;
+
+fn bit(v: u8) -> u64 {
+    1 << (v & 63)
+}
+
+/// First the neighbours above each vertex. Its word stays at hand until the low end changes.
+#[inline(never)]
+fn neighbours_of_many(low: &[u8], high: &[u8]) -> [u64; 64] {
+    let mut words = [0; 64];
+    let (mut v, mut above) = (0, 0);
+    let (lows, last_lows) = low.as_chunks::<8>();
+    let (highs, last_highs) = high.as_chunks::<8>();
+    for (lows, highs) in lows.iter().zip(highs) {
+        // Low ends rise: where the first and the last are v, all eight are.
+        if lows[0] == v && lows[7] == v {
+            above = highs.iter().fold(above, |above, &w| above | bit(w));
+            continue;
+        }
+        for (&low, &w) in lows.iter().zip(highs) {
+            if low != v {
+                words[usize::from(v & 63)] = above;
+                (v, above) = (low, 0);
+            }
+            above |= bit(w);
+        }
+    }
+    words[usize::from(v & 63)] = above;
+    for (&v, &w) in last_lows.iter().zip(last_highs) {
+        words[usize::from(v & 63)] |= bit(w);
+    }
+    let mut below = words;
+    turn(&mut below);
+    for (word, below) in words.iter_mut().zip(below) {
+        *word |= below;
+    }
+    words
+}
+
+/// Exchanges bit w of word v and bit v of word w, for all v and w, by squares of bits.
+fn turn(words: &mut [u64; 64]) {
+    turn_squares::<32>(words, 0x0000_0000_FFFF_FFFF);
+    turn_squares::<16>(words, 0x0000_FFFF_0000_FFFF);
+    turn_squares::<8>(words, 0x00FF_00FF_00FF_00FF);
+    turn_squares::<4>(words, 0x0F0F_0F0F_0F0F_0F0F);
+    turn_squares::<2>(words, 0x3333_3333_3333_3333);
+    turn_squares::<1>(words, 0x5555_5555_5555_5555);
+}
+
+/// In each square of twice SIDE bits, exchanges the high bits of the first words and the low bits of the last.
+#[inline(always)]
+fn turn_squares<const SIDE: usize>(words: &mut [u64; 64], low: u64) {
+    for square in words.chunks_exact_mut(2 * SIDE) {
+        let (first, last) = square.split_at_mut(SIDE);
+        for (first, last) in first.iter_mut().zip(last) {
+            let changed = (*first >> SIDE ^ *last) & low;
+            *first ^= changed << SIDE;
+            *last ^= changed;
+        }
     }
 }
 

@@ -11,7 +11,7 @@ mod valuation;
 
 pub use clause::clause;
 pub use formula::{write_formula, write_formula_straight};
-pub use plan::check_plan;
+pub use plan::{check_instance, check_plan};
 pub use valuation::{decode, encode};
 
 use independent::Answer;

@@ -3,11 +3,20 @@
 use super::answer;
 use super::instance::{refuse, Instance};
 use independent::Answer;
+use std::hint::black_box;
 
 pub fn check_plan(instance: &[u8], horizon: u64, plan: &[u8]) -> Answer {
     answer(Instance::read(instance, horizon).and_then(|instance| {
         check_length(&instance, plan)?;
         check_rows(&instance, plan)
+    }))
+}
+
+/// The instance check with the words of neighbours, then question 13 alone.
+pub fn check_instance(instance: &[u8], horizon: u64, plan: &[u8]) -> Answer {
+    answer(Instance::read(instance, horizon).and_then(|instance| {
+        black_box(&instance.neighbours());
+        check_length(&instance, plan).map(|()| 0)
     }))
 }
 

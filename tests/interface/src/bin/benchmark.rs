@@ -1,9 +1,14 @@
 //! Times the library, the best plain Rust forms and the independent program on the same inputs.
 //!
-//! benchmark PROGRAM BEST_TEXT FORMULA_TEXT: the formula program, proved, in its best Rust form, and independent.
+//! benchmark PROGRAM BEST_TEXT FORMULA_TEXT [NOW BEFORE]: the formula program, proved, in its best Rust form, and
+//! independent; and this program linked with the library and with an earlier one, to be measured beside each other.
+//!
+//! benchmark --answer CALL INSTANCE, benchmark --time CALL INSTANCE: what one call of the library answers, or its time.
 
 #![forbid(unsafe_code)]
 
+#[path = "../before.rs"]
+mod before;
 #[path = "../best/mod.rs"]
 mod best;
 
@@ -68,7 +73,12 @@ fn sample(repeat: u32, mut call: impl FnMut()) -> f64 {
 }
 
 /// The best sample of each of COUNT forms, taken in turn after a warm-up.
-fn times<const COUNT: usize>(mut call: impl FnMut(usize)) -> [f64; COUNT] {
+fn times<const COUNT: usize>(call: impl FnMut(usize)) -> [f64; COUNT] {
+    times_within(COMPARISON_TIME, call)
+}
+
+/// The same, for so long at least.
+fn times_within<const COUNT: usize>(least: Duration, mut call: impl FnMut(usize)) -> [f64; COUNT] {
     let repeats: [u32; COUNT] = std::array::from_fn(|form| {
         sample(1, || call(form));
         let once = sample(3, || call(form)).max(1.0);
@@ -77,7 +87,7 @@ fn times<const COUNT: usize>(mut call: impl FnMut(usize)) -> [f64; COUNT] {
     let mut best = [f64::INFINITY; COUNT];
     let clock = Instant::now();
     let mut samples = 0;
-    while samples < SAMPLES || clock.elapsed() < COMPARISON_TIME {
+    while samples < SAMPLES || clock.elapsed() < least {
         samples += 1;
         for form in 0..COUNT {
             best[form] = best[form].min(sample(repeats[form], || call(form)));
@@ -207,12 +217,22 @@ fn writer(table: &mut Table, input: &Input) {
 
 /// The plan check, with an empty plan that stops it right after the instance check, by question 13.
 fn instance_check(table: &mut Table, input: &Input) {
-    let times = times(|form| {
-        let said = PLAN_CHECKS[form](black_box(&input.instance), input.m, black_box(&[]));
+    let [library, without, independent] = PLAN_CHECKS;
+    let with_words: PlanCheck = |instance, m, plan| {
+        let answer = best::check_instance(instance, m, plan);
+        (answer.number, answer.second)
+    };
+    let forms = [library, with_words, independent, without];
+    let [ours, best, independent, without] = times(|form| {
+        let said = forms[form](black_box(&input.instance), input.m, black_box(&[]));
         assert_eq!(said, (13, 0));
     });
     let note = "  by a plan check, refused by 13";
-    table.row("instance check", input, times, Some(1.5), note);
+    let row = [ours, best, independent];
+    table.row("instance check", input, row, Some(1.5), note);
+    let note = "  against a check without words";
+    let row = [ours, without, independent];
+    table.row("instance check", input, row, None, note);
 }
 
 fn plan_check(table: &mut Table, input: &Input) {
@@ -318,11 +338,23 @@ fn program(table: &mut Table, input: &Input, programs: &[PathBuf; 3], file: &Pat
 }
 
 fn main() {
-    let paths: Vec<PathBuf> = std::env::args_os().skip(1).map(PathBuf::from).collect();
+    let mut paths: Vec<PathBuf> = std::env::args_os().skip(1).map(PathBuf::from).collect();
+    let texts: Vec<&str> = paths.iter().filter_map(|path| path.to_str()).collect();
+    if let [asked @ (before::ANSWER | before::TIME), call, instance] = texts[..] {
+        return before::print_call(asked == before::TIME, call, instance);
+    }
+    let beside = if paths.len() == 5 {
+        paths.split_off(3)
+    } else {
+        Vec::new()
+    };
     let Ok(programs) = <[PathBuf; 3]>::try_from(paths) else {
-        eprintln!("usage: benchmark PROGRAM BEST_TEXT FORMULA_TEXT");
+        eprintln!("usage: benchmark PROGRAM BEST_TEXT FORMULA_TEXT [NOW BEFORE]");
         std::process::exit(2);
     };
+    if let [now, before] = &beside[..] {
+        before::agree(now, before);
+    }
     let compared = compare_calls(CASES);
     compare_program(&programs[1], PROGRAM_CASES);
     println!(
@@ -349,5 +381,8 @@ fn main() {
     match table.missed {
         0 => println!("\nall targets met"),
         missed => println!("\ntargets missed: {missed}"),
+    }
+    if let [now, before] = &beside[..] {
+        before::compare(now, before);
     }
 }

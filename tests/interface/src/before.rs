@@ -1,0 +1,207 @@
+//! The library beside an earlier one. Both export the same names, so this program is linked with each of them, and the
+//! two run in turn.
+
+use crate::{inputs, time, times_within, Input, Table};
+use interface as library;
+use interface::input::{valuation, Parts};
+use std::fmt::Debug;
+use std::hash::{DefaultHasher, Hash, Hasher};
+use std::hint::black_box;
+use std::path::Path;
+use std::process::{exit, Command, Stdio};
+use std::time::Duration;
+
+/// The most that a call may take of its time with the earlier library. A call that is not here has no target.
+const TARGETS: [(&str, &str, f64); 5] = [
+    ("writer", "grid", 0.8),
+    ("writer", "largest", 1.0),
+    ("plan check", "largest", 0.8),
+    ("decoder", "largest", 1.0),
+    ("one clause F", "largest", 1.0),
+];
+
+/// Each program runs so often for a call, and samples it for so long at least.
+const TURNS: usize = 20;
+const CALL_TIME: Duration = Duration::from_millis(30);
+
+/// How a program is asked for its answer, and for its time.
+pub const ANSWER: &str = "--answer";
+pub const TIME: &str = "--time";
+
+/// Prints what is seen of a call.
+type Print = fn(&Row);
+
+/// The calls, in the order of the table.
+const CALLS: [(&str, Print); 6] = [
+    ("writer", writer),
+    ("instance check", instance_check),
+    ("plan check", plan_check),
+    ("decoder", decoder),
+    ("encoder", encoder),
+    ("one clause F", clause),
+];
+
+/// The input that a call gets, and whether it is timed.
+struct Row {
+    input: Input,
+    timed: bool,
+}
+
+impl Row {
+    /// Prints the best time of the call, or else its answer and a sum over what it leaves in the slice.
+    fn print<T: Hash, A: Debug>(&self, mut lent: Vec<T>, call: impl Fn(&mut [T]) -> A) {
+        if self.timed {
+            let [best] = times_within(CALL_TIME, |_| {
+                black_box(call(&mut lent));
+            });
+            println!("{best}");
+        } else {
+            let answer = call(&mut lent);
+            let mut sum = DefaultHasher::new();
+            lent.hash(&mut sum);
+            println!("{answer:?}, sum {:016x}", sum.finish());
+        }
+    }
+}
+
+/// What a program that is asked for a call does: it prints a line, or two for both clauses.
+pub fn print_call(timed: bool, call: &str, instance: &str) {
+    let (_, print) = CALLS.iter().find(|known| known.0 == call).expect("a call");
+    let mut inputs = inputs().into_iter();
+    let input = inputs.find(|input| input.name == instance);
+    print(&Row {
+        input: input.expect("an instance"),
+        timed,
+    });
+}
+
+fn writer(row: &Row) {
+    let (instance, m) = (&row.input.instance[..], row.input.m);
+    let needed = library::write_formula(instance, m, &mut []).second;
+    row.print(vec![1; needed as usize], |words| {
+        library::write_formula(black_box(instance), m, words)
+    });
+}
+
+/// By a plan check, refused by 13.
+fn instance_check(row: &Row) {
+    let (instance, m) = (&row.input.instance[..], row.input.m);
+    row.print::<u8, _>(Vec::new(), |_| {
+        library::check_plan(black_box(instance), m, black_box(&[]))
+    });
+}
+
+fn plan_check(row: &Row) {
+    let (instance, m, plan) = (&row.input.instance[..], row.input.m, &row.input.plan[..]);
+    row.print::<u8, _>(Vec::new(), |_| {
+        library::check_plan(black_box(instance), m, black_box(plan))
+    });
+}
+
+fn decoder(row: &Row) {
+    let (instance, m, plan) = (&row.input.instance[..], row.input.m, &row.input.plan[..]);
+    let entries = valuation(usize::from(instance[0]), plan);
+    row.print(vec![200; plan.len()], |plan| {
+        library::decode(black_box(instance), m, black_box(&entries), plan)
+    });
+}
+
+fn encoder(row: &Row) {
+    let (instance, m, plan) = (&row.input.instance[..], row.input.m, &row.input.plan[..]);
+    row.print(vec![0; usize::from(instance[0]) * plan.len()], |entries| {
+        library::encode(black_box(instance), m, black_box(plan), entries)
+    });
+}
+
+/// The middle and the last clause of family F, a line for each.
+fn clause(row: &Row) {
+    let (instance, m) = (&row.input.instance[..], row.input.m);
+    let counts = Parts::of(instance).clause_counts(m as usize);
+    let first: u64 = counts[..5].iter().sum();
+    for number in [first + counts[5] / 2, first + counts[5] - 1] {
+        row.print(vec![1; 66], |words| {
+            library::clause(black_box(instance), m, black_box(number), words)
+        });
+    }
+}
+
+/// The lines that a program prints for a call. It is copied first: where the pages of a file lie in memory may change a
+/// time by some hundredths, and stays the same from run to run.
+fn seen(program: &Path, asked: &str, call: &str, instance: &str) -> Vec<String> {
+    let copy = program.with_extension("copy");
+    std::fs::copy(program, &copy).expect("the program is copied");
+    let output = Command::new(&copy)
+        .args([asked, call, instance])
+        .stderr(Stdio::inherit())
+        .output()
+        .expect("it runs");
+    std::fs::remove_file(&copy).expect("the copy is removed");
+    assert!(output.status.success(), "{asked} {call} {instance} fails");
+    let text = String::from_utf8(output.stdout).expect("it prints text");
+    text.lines().map(String::from).collect()
+}
+
+/// Every call with the name of every instance.
+fn rows() -> impl Iterator<Item = (&'static str, &'static str)> {
+    let names = inputs().map(|input| input.name);
+    CALLS
+        .into_iter()
+        .flat_map(move |(call, _)| names.map(|name| (call, name)))
+}
+
+/// Ends the benchmark if the program with the earlier library gives another answer or leaves other words.
+pub fn agree(now: &Path, before: &Path) {
+    for (call, instance) in rows() {
+        let [now, before] = [now, before].map(|program| seen(program, ANSWER, call, instance));
+        if now != before {
+            eprintln!("the earlier library does otherwise: {call}, {instance}");
+            eprintln!("now {now:?}, before {before:?}");
+            exit(1);
+        }
+    }
+}
+
+/// The second table.
+pub fn compare(now: &Path, before: &Path) {
+    println!("\nThe earlier library gave the same answers and words. The best of {TURNS} turns:\n");
+    println!(
+        "{:<14} {:<8} {:>9} {:>9} {:>6} {:>6}",
+        "call", "instance", "now", "before", "ratio", "target"
+    );
+    let mut table = Table::default();
+    let mut targets = 0;
+    for (call, instance) in rows() {
+        // Of both clauses of family F the one that is dearer now.
+        let best = best_times([now, before], call, instance);
+        let dearer = best.into_iter().max_by(|x, y| x[0].total_cmp(&y[0]));
+        let [now, before] = dearer.expect("a time");
+        let target = TARGETS.iter().find(|x| (x.0, x.1) == (call, instance));
+        targets += usize::from(target.is_some());
+        let (target, verdict) = table.judge(now / before, target.map(|x| x.2));
+        let row = format!(
+            "{call:<14} {instance:<8} {:>9} {:>9} {:>6.2} {target:>6} {verdict}",
+            time(now),
+            time(before),
+            now / before
+        );
+        println!("{}", row.trim_end());
+    }
+    assert_eq!(targets, TARGETS.len(), "a target is of no row");
+    let missed = table.missed;
+    println!("\ntargets missed against the earlier library: {missed}");
+}
+
+/// The best times of both programs, taken in turn, for each line that they print.
+fn best_times(programs: [&Path; 2], call: &str, instance: &str) -> Vec<[f64; 2]> {
+    let mut best = Vec::new();
+    for _ in 0..TURNS {
+        for (side, program) in programs.into_iter().enumerate() {
+            let lines = seen(program, TIME, call, instance);
+            best.resize(lines.len(), [f64::INFINITY; 2]);
+            for (best, line) in best.iter_mut().zip(lines) {
+                best[side] = best[side].min(line.parse().expect("a time"));
+            }
+        }
+    }
+    best
+}
