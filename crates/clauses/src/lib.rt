@@ -4,16 +4,14 @@ use variables::Agent;
 use variables::Step;
 use variables::Vertex;
 ghost use mathlib.Core.Path.{_≡_};
-ghost use mathlib.Core.Bool.{cond};
 ghost use mathlib.Core.List.{[], _∷_};
-ghost use Prim.Native.Nat.{_+_, _%_, _≤_, _<_};
-ghost use lib.Dec.{eqb};
+ghost use Prim.Native.Nat.{_^_, _≤_, _<_};
 ghost use lib.ListN.{length};
-ghost use Rattle.lists.specs.Slice.{Wrote};
+ghost use Rattle.lists.specs.Slice.{filled, Wrote};
+ghost use Rattle.bits.specs.Bits.{set?};
 ghost use Rattle.formula.specs.Variables.{X, ¬X};
 ghost use Rattle.formula.specs.Formula.{line, somewhere, nearby, onward};
 ghost use Rattle.instance.specs.Limits.{Limits};
-ghost use Rattle.clauses.specs.Lines.{marked};
 
 // The literal X(t,a,v).
 pub fn positive(s: Sizes, t: Step, a: Agent, v: Vertex) -> i32
@@ -69,48 +67,79 @@ pub fn put_somewhere(f: &mut [i32], s: Sizes, t: Step, a: Agent) -> usize
     n + 1
 }
 
-// 1 where a byte is a mark, else 0: its lowest bit, so that no test is asked for.
-fn mark_of(byte: u8) -> usize
-    ensures { λ r. ⌜ r ≡ cond (eqb (byte % 2) 1) 1 0 ⌝ }
-{
-    (byte % 2) as usize
-}
-
-// X(t,a,w) for each w that is marked, rising, and the 0. Each literal is stored, and the next one over it where its w is not marked,
-// so that the loop has no branch.
-fn put_near(f: &mut [i32], s: Sizes, near: &[u8], from: usize, t: Step, a: Agent) -> usize
+// X(t,a,w) for each bit w of a word, rising, and the 0: from the lowest bit to the highest.
+fn put_few(f: &mut [i32], s: Sizes, word: u64, t: Step, a: Agent)
     requires { ⌜ Limits s ⌝ }
-    requires { ⌜ (t .0 ≤ s .m) × (a .0 < s .k) × (from + s .n ≤ length (now near)) ⌝ }
-    requires { ⌜ length (line (nearby s (marked (now near) from) (t .0) (a .0))) ≤ length (now f) ⌝ }
-    ensures { λ r. ⌜ Wrote (line (nearby s (marked (now (near .entry)) from) (t .0) (a .0))) (now (f .entry)) (now (f .exit)) r ⌝ }
+    requires { ⌜ (t .0 ≤ s .m) × (a .0 < s .k) × (word < 2 ^ s .n) ⌝ }
+    requires { ⌜ length (line (nearby s (set? word) (t .0) (a .0))) ≤ length (now f) ⌝ }
+    ensures { λ _. ⌜ now (f .exit) ≡ filled (line (nearby s (set? word) (t .0) (a .0))) (now (f .entry)) ⌝ }
 {
-    let n = s.n;
+    let mut rest = word;
     let mut at: usize = 0;
-    for w in 0..n {
+    while rest != 0 {
+        let w = u64::trailing_zeros(rest) as usize;
         f[at] = positive(s, t, a, Vertex(w));
-        at += mark_of(near[from + w]);
+        at += 1;
+        rest = rest & (rest - 1);
     }
     f[at] = 0;
-    at + 1
 }
 
-// A clause of family F: agent a at v at time t keeps v or goes to a vertex that is marked.
-pub fn put_onward(
-    f: &mut [i32],
-    s: Sizes,
-    near: &[u8],
-    from: usize,
-    t: Step,
-    a: Agent,
-    v: Vertex,
-) -> usize
+// The same, from one vertex that is no neighbour to the next: those between them are written by a loop without a test, which the
+// compiler takes several at a time.
+fn put_many(f: &mut [i32], s: Sizes, word: u64, t: Step, a: Agent)
     requires { ⌜ Limits s ⌝ }
-    requires { ⌜ (t .0 < s .m) × (a .0 < s .k) × (v .0 < s .n) × (from + s .n ≤ length (now near)) ⌝ }
-    requires { ⌜ length (line (onward s (marked (now near) from) (t .0) (a .0) (v .0))) ≤ length (now f) ⌝ }
-    ensures { λ r. ⌜ Wrote (line (onward s (marked (now (near .entry)) from) (t .0) (a .0) (v .0))) (now (f .entry)) (now (f .exit)) r ⌝ }
+    requires { ⌜ (t .0 ≤ s .m) × (a .0 < s .k) × (word < 2 ^ s .n) ⌝ }
+    requires { ⌜ length (line (nearby s (set? word) (t .0) (a .0))) ≤ length (now f) ⌝ }
+    ensures { λ _. ⌜ now (f .exit) ≡ filled (line (nearby s (set? word) (t .0) (a .0))) (now (f .entry)) ⌝ }
+{
+    let n = s.n;
+    let mut gaps = bits::others(word, n);
+    let mut at: usize = 0;
+    let mut w: usize = 0;
+    while gaps != 0 {
+        let gap = u64::trailing_zeros(gaps) as usize;
+        while w < gap {
+            f[at] = positive(s, t, a, Vertex(w));
+            at += 1;
+            w += 1;
+        }
+        w = gap + 1;
+        gaps = gaps & (gaps - 1);
+    }
+    while w < n {
+        f[at] = positive(s, t, a, Vertex(w));
+        at += 1;
+        w += 1;
+    }
+    f[at] = 0;
+}
+
+// The same, by whichever is faster: where more than three of four vertices are neighbours on the average, or not.
+fn put_near(f: &mut [i32], s: Sizes, word: u64, t: Step, a: Agent)
+    requires { ⌜ Limits s ⌝ }
+    requires { ⌜ (t .0 ≤ s .m) × (a .0 < s .k) × (word < 2 ^ s .n) ⌝ }
+    requires { ⌜ length (line (nearby s (set? word) (t .0) (a .0))) ≤ length (now f) ⌝ }
+    ensures { λ _. ⌜ now (f .exit) ≡ filled (line (nearby s (set? word) (t .0) (a .0))) (now (f .entry)) ⌝ }
+{
+    if 3 * s.n * s.n < 8 * s.e {
+        put_many(f, s, word, t, a);
+        return;
+    }
+    put_few(f, s, word, t, a);
+}
+
+// A clause of family F: agent a at v at time t keeps v or goes to a neighbour, that is to a vertex whose bit is set. The ones are the
+// degree of v, and so give the length.
+pub fn put_onward(f: &mut [i32], s: Sizes, word: u64, t: Step, a: Agent, v: Vertex) -> usize
+    requires { ⌜ Limits s ⌝ }
+    requires { ⌜ (t .0 < s .m) × (a .0 < s .k) × (v .0 < s .n) × (word < 2 ^ s .n) ⌝ }
+    requires { ⌜ length (line (onward s (set? word) (t .0) (a .0) (v .0))) ≤ length (now f) ⌝ }
+    ensures { λ r. ⌜ Wrote (line (onward s (set? word) (t .0) (a .0) (v .0))) (now (f .entry)) (now (f .exit)) r ⌝ }
 {
     let next = Step(t.0 + 1);
     f[0] = negative(s, t, a, v);
     f[1] = positive(s, next, a, v);
-    2 + put_near(&mut f[2..], s, near, from, next, a)
+    put_near(&mut f[2..], s, word, next, a);
+    u64::count_ones(word) as usize + 3
 }

@@ -9,7 +9,6 @@ use lib.Dec.{eqb}
 use Rattle.answers.specs.Fault.{FirstFault}
 use Rattle.answers.proofs.Faults.{fault-ext, fault-every}
 use Rattle.instance.specs.declared.Sizes.{Sizes}
-use Rattle.instance.specs.Instance.{Instance}
 use Rattle.plan.specs.Plan.{Row, condition, condition1, condition2, condition3}
 
 -- a search from offset 0
@@ -37,7 +36,7 @@ pub shares-3 : (next : Row) (a r : ℕ) → FirstFault a (λ b. not (eqb (next (
 unfolding condition3
 shares-3 next a r f = fault-every a _ r (from-0 a next (next a) r f)
 
-pub condition-last : (I : Instance) (which : ℕ) (here next : Row) (a : ℕ) → which ≢ 0 → which ≢ 1 → condition3 next a ≡ condition I which here next a
-condition-last I zero here next a d e = absurd (d refl)
-condition-last I (suc zero) here next a d e = absurd (e refl)
-condition-last I (suc (suc which)) here next a d e = refl
+pub condition-last : (s : Sizes) (near : ℕ → ℕ → Bool) (which : ℕ) (here next : Row) (a : ℕ) → which ≢ 0 → which ≢ 1 → condition3 next a ≡ condition s near which here next a
+condition-last s near zero here next a d e = absurd (d refl)
+condition-last s near (suc zero) here next a d e = absurd (e refl)
+condition-last s near (suc (suc which)) here next a d e = refl

@@ -1,5 +1,4 @@
 // The three conditions of a valid step, asked of the bytes of a row and of the next row, and of two rows of a plan.
-use instance::Checked;
 use instance::Sizes;
 ghost use mathlib.Core.Path.{_≡_};
 ghost use mathlib.Core.Bool.{not};
@@ -7,9 +6,9 @@ ghost use Prim.Native.Nat.{suc, _+_, _<_, _≤_};
 ghost use lib.ListN.{length, getD};
 ghost use lib.Dec.{eqb};
 ghost use Rattle.answers.specs.Fault.{FirstFault};
-ghost use Rattle.instance.specs.Instance.{adjacent};
-ghost use Rattle.instance.specs.Accepted.{Accepted, instanceOf};
+ghost use Rattle.instance.specs.Instance.{joined};
 ghost use Rattle.plan.specs.Plan.{row, planBytes, planRow, condition, condition1, condition2, condition3};
+ghost use Rattle.conditions.specs.Inside.{Inside};
 
 // The first of `count` agents, whose bytes stand from an offset on, that stands on x, or `count`.
 pub fn first_on(p: &[u8], from: usize, count: usize, x: u8) -> usize
@@ -24,18 +23,18 @@ pub fn first_on(p: &[u8], from: usize, count: usize, x: u8) -> usize
     count
 }
 
-// Condition 1 of agent a: it keeps its vertex or crosses an edge?
-fn condition_1(b: &[u8], c: Checked, here: &[u8], next: &[u8], a: usize) -> bool
-    requires { ⌜ Accepted (now b) c ⌝ }
+// Condition 1 of agent a: it keeps its vertex or crosses an edge, that is to a vertex whose bit is set?
+fn condition_1(near: &[u64; 64], here: &[u8], next: &[u8], a: usize) -> bool
     requires { ⌜ (a < length (now here)) × (a < length (now next)) ⌝ }
-    ensures { λ r. ⌜ r ≡ condition1 (adjacent (instanceOf (now (b .entry)) c)) (row (now (here .entry))) (row (now (next .entry))) a ⌝ }
+    requires { ⌜ (getD (now here) a 0 < 64) × (getD (now next) a 0 < 64) ⌝ }
+    ensures { λ r. ⌜ r ≡ condition1 (joined (now (near .entry))) (row (now (here .entry))) (row (now (next .entry))) a ⌝ }
 {
     let v = numbers::wide(here[a]);
     let w = numbers::wide(next[a]);
     if v == w {
         return true;
     }
-    edges::is_edge(b, c.sizes.e, v, w)
+    bits::has_bit(near[v], w)
 }
 
 // Condition 2 of agent a: it keeps its vertex, or goes to one on which no agent stood?
@@ -62,28 +61,27 @@ fn condition_3(next: &[u8], a: usize) -> bool
 }
 
 // The condition with a number, from 0, of agent a.
-fn passes(b: &[u8], c: Checked, which: usize, here: &[u8], next: &[u8], a: usize) -> bool
-    requires { ⌜ Accepted (now b) c ⌝ }
-    requires { ⌜ (c .sizes .k ≤ length (now here)) × (c .sizes .k ≤ length (now next)) × (a < c .sizes .k) ⌝ }
-    ensures { λ r. ⌜ r ≡ condition (instanceOf (now (b .entry)) c) which (row (now (here .entry))) (row (now (next .entry))) a ⌝ }
+fn passes(s: Sizes, near: &[u64; 64], which: usize, here: &[u8], next: &[u8], a: usize) -> bool
+    requires { ⌜ (s .k ≤ length (now here)) × (s .k ≤ length (now next)) × (a < s .k) ⌝ }
+    requires { ⌜ Inside (now here) × Inside (now next) ⌝ }
+    ensures { λ r. ⌜ r ≡ condition s (joined (now (near .entry))) which (row (now (here .entry))) (row (now (next .entry))) a ⌝ }
 {
     match which {
-        0 => condition_1(b, c, here, next, a),
-        1 => condition_2(c.sizes, here, next, a),
+        0 => condition_1(near, here, next, a),
+        1 => condition_2(s, here, next, a),
         _ => condition_3(next, a),
     }
 }
 
 // The first agent that fails it, or k.
-pub fn fault(b: &[u8], c: Checked, which: usize, here: &[u8], next: &[u8]) -> usize
-    requires { ⌜ Accepted (now b) c ⌝ }
-    requires { ⌜ (c .sizes .k ≤ length (now here)) × (c .sizes .k ≤ length (now next)) ⌝ }
-    ensures { λ r. ⌜ FirstFault (c .sizes .k) (condition (instanceOf (now (b .entry)) c) which (row (now (here .entry))) (row (now (next .entry)))) r ⌝ }
+fn fault(s: Sizes, near: &[u64; 64], which: usize, here: &[u8], next: &[u8]) -> usize
+    requires { ⌜ (s .k ≤ length (now here)) × (s .k ≤ length (now next)) ⌝ }
+    requires { ⌜ Inside (now here) × Inside (now next) ⌝ }
+    ensures { λ r. ⌜ FirstFault (s .k) (condition s (joined (now (near .entry))) which (row (now (here .entry))) (row (now (next .entry)))) r ⌝ }
 {
-    let s = c.sizes;
     let k = s.k;
     for a in 0..k {
-        if !passes(b, c, which, here, next, a) {
+        if !passes(s, near, which, here, next, a) {
             return a;
         }
     }
@@ -91,15 +89,14 @@ pub fn fault(b: &[u8], c: Checked, which: usize, here: &[u8], next: &[u8]) -> us
 }
 
 // The first agent that fails it between rows t and t + 1 of a plan, or k.
-pub fn step_fault(b: &[u8], c: Checked, which: usize, p: &[u8], t: usize) -> usize
-    requires { ⌜ Accepted (now b) c ⌝ }
-    requires { ⌜ (length (now p) ≡ planBytes (c .sizes)) × (t < c .sizes .m) ⌝ }
-    ensures { λ r. ⌜ FirstFault (c .sizes .k) (condition (instanceOf (now (b .entry)) c) which (planRow (c .sizes) (now (p .entry)) t) (planRow (c .sizes) (now (p .entry)) (suc t))) r ⌝ }
+pub fn step_fault(s: Sizes, near: &[u64; 64], which: usize, p: &[u8], t: usize) -> usize
+    requires { ⌜ (length (now p) ≡ planBytes s) × (t < s .m) ⌝ }
+    requires { ⌜ Inside (now p) ⌝ }
+    ensures { λ r. ⌜ FirstFault (s .k) (condition s (joined (now (near .entry))) which (planRow s (now (p .entry)) t) (planRow s (now (p .entry)) (suc t))) r ⌝ }
 {
-    let s = c.sizes;
     let k = s.k;
     let row = t * k;
     let next = row + k;
     let end = next + k;
-    fault(b, c, which, &p[row..next], &p[next..end])
+    fault(s, near, which, &p[row..next], &p[next..end])
 }

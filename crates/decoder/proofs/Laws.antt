@@ -15,7 +15,6 @@ use Rattle.answers.specs.Answers.{Question, refuse, accept, decide, clear}
 use Rattle.answers.specs.Fault.{FirstFault}
 use Rattle.answers.proofs.Laws.{clear-iff, clear-second, numbered-second, decide-iff, ask-yes, ask-no, fault-pass, fault-stop, ask-nil, ask-all}
 use Rattle.instance.specs.declared.Sizes.{Sizes}
-use Rattle.instance.specs.declared.Checked.{Checked}
 use Rattle.instance.specs.Instance.{Instance}
 use Rattle.formula.specs.Variables.{variableCount}
 use Rattle.formula.specs.Formula.{clauses, Formula, formula}
@@ -28,19 +27,11 @@ use Rattle.valuation.proofs.Families.{sat-CD}
 use Rattle.valuation.proofs.Entries.{named-places, named-size, named-at}
 use Rattle.calls.specs.Questions.{question14, question15, question23, question24}
 use Rattle.calls.specs.Calls.{decodeRest}
-use Rattle.instance.specs.Accepted.{Accepted, instanceOf}
-use Rattle.instance.proofs.Accepted.{sizes-same}
 use Rattle.calls.proofs.Valuation.{numbered-valuation, clear-valuation}
 use Rattle.satisfaction.specs.Rows.{Fault, Read}
 use Rattle.satisfaction.proofs.Families.{place-named}
 
-module _ (b : List ℕ) (c : Checked) (w : Accepted b c) (es : List ℤ) (size : ℕ) where
-  abbrev I : Instance
-  I = instanceOf b c
-
-  abbrev s : Sizes
-  s = c .sizes
-
+module _ (I : Instance) (s : Sizes) (same : s ≡ I .sizes) (es : List ℤ) (size : ℕ) where
   abbrev F : Formula
   F = formula I
 
@@ -49,9 +40,6 @@ module _ (b : List ℕ) (c : Checked) (w : Accepted b c) (es : List ℤ) (size :
 
   abbrev asked : Answer
   asked = decide (decodeRest I es size) bytes
-
-  same : s ≡ I .sizes
-  same = sizes-same b c w
 
   count-same : variableCount s ≡ F .variables
   count-same = ap variableCount same
@@ -111,12 +99,12 @@ module _ (b : List ℕ) (c : Checked) (w : Accepted b c) (es : List ℤ) (size :
             pass-24 o = ap accept bytes-same ∙ sym (pass-23 ∙ fault-pass g (refuse 24) [] bytes (omega (arith, all-count)))
 
   -- what an acceptance says
-  pub record Ready : Type 0 where
+  pub record Accepts : Type 0 where
     pub places : Places s (true? es) (named s es)
     pub fits : planBytes s ≤ size
 
-  pub ready : asked .number ≡ 0 → Ready
-  ready e =
+  pub accepted : asked .number ≡ 0 → Accepts
+  accepted e =
       let t = decide-iff (decodeRest I es size) bytes (numbered-second q14 q15 (q23 ∷ q24 ∷ []) (ask-all _ (leb bytes size) _ .1 (λ f. tt)) (numbered-valuation F es)) .0 e in
       let o = and-iff (clear q15) _ .0 (and-iff (clear q14) _ .0 t .1) .0 in
       let h = clear-valuation F es .0 (clear-second q14 q15 (q23 ∷ q24 ∷ []) o .0 t) in
@@ -128,7 +116,7 @@ module _ (b : List ℕ) (c : Checked) (w : Accepted b c) (es : List ℤ) (size :
       }
 
   -- the plan that the pass has read is the one named
-  pub planned : Ready → (p : List ℕ) → Read s es p → p ≡ namedPlan s es
+  pub planned : Accepts → (p : List ℕ) → Read s es p → p ≡ namedPlan s es
   planned y p rd =
       ext-getD 0 p (namedPlan s es) (rd .size ∙ sym (named-size s es))
       (λ i l.

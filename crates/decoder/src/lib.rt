@@ -1,22 +1,31 @@
 // The decoder: from a list of entries, of any length and with any numbers, to the plan that it names.
 use answers::Answer;
-use instance::Checked;
+use instance::Sizes;
 ghost use mathlib.Core.Path.{_≡_};
 ghost use lib.ListN.{length, take};
 ghost use Rattle.answers.specs.Answers.{decide};
 ghost use Rattle.plan.specs.Plan.{planBytes};
 ghost use Rattle.valuation.specs.Valuation.{namedPlan};
-ghost use Rattle.instance.specs.Accepted.{Accepted, instanceOf};
+ghost use Rattle.instance.specs.Instance.{Instance};
+ghost use Rattle.instance.specs.Ready.{Ready};
+ghost use Rattle.instance.specs.Shows.{Shows};
 ghost use Rattle.calls.specs.Calls.{decodeRest, decodeAnswer, decodeSlice};
 
 // Questions 14, 15, 23 and 24, for a plan slice of the given size. Where they are passed, the plan stands first in `vertices`.
-fn ask_entries(vertices: &mut [u8], b: &[u8], c: Checked, entries: &[i32], size: usize) -> Answer
-    requires { ⌜ Accepted (now b) c ⌝ }
+fn ask_entries(
+    vertices: &mut [u8],
+    s: Sizes,
+    starts: &[u8; 16],
+    goals: &[u8; 16],
+    near: &[u64; 64],
+    entries: &[i32],
+    size: usize,
+) -> Answer
+    requires { ⌜ Ready s (now starts) (now goals) (now near) ⌝ }
     requires { ⌜ length (now vertices) ≡ 528 ⌝ }
-    ensures { λ r. ⌜ r ≡ decide (decodeRest (instanceOf (now (b .entry)) c) (now (entries .entry)) size) (planBytes (instanceOf (now (b .entry)) c .sizes)) ⌝ }
-    ensures { λ r. ⌜ (length (now (vertices .exit)) ≡ 528) × (r .number ≡ 0 → (r .second ≡ planBytes (c .sizes)) × (take (planBytes (c .sizes)) (now (vertices .exit)) ≡ namedPlan (c .sizes) (now (entries .entry)))) ⌝ }
+    ensures { λ r. ⌜ ((I : Instance) → Shows I s (now (starts .entry)) (now (goals .entry)) (now (near .entry)) → (r ≡ decide (decodeRest I (now (entries .entry)) size) (planBytes (I .sizes))) × (r .number ≡ 0 → (r .second ≡ planBytes s) × (take (planBytes s) (now (vertices .exit)) ≡ namedPlan s (now (entries .entry))))) ⌝ }
+    ensures { λ _. ⌜ length (now (vertices .exit)) ≡ 528 ⌝ }
 {
-    let s = c.sizes;
     let count = counts::variable_count(s);
     let bytes = counts::plan_bytes(s);
     let len = entries.len();
@@ -39,7 +48,7 @@ fn ask_entries(vertices: &mut [u8], b: &[u8], c: Checked, entries: &[i32], size:
             second: wrong,
         };
     }
-    let f = satisfaction::clause_fault(b, c, entries, &vertices[0..bytes]);
+    let f = satisfaction::clause_fault(s, starts, goals, near, entries, &vertices[0..bytes]);
     if f < counts::clause_count(s) {
         return Answer {
             number: 24,
@@ -64,7 +73,17 @@ pub fn decode(b: &[u8], m: usize, entries: &[i32], plan: &mut [u8]) -> Answer
     }
     let c = inspection.checked;
     let mut vertices = [0u8; 528];
-    let answer = ask_entries(&mut vertices, b, c, entries, plan.len());
+    let starts = c.starts;
+    let goals = c.goals;
+    let answer = ask_entries(
+        &mut vertices,
+        c.sizes,
+        &starts,
+        &goals,
+        &c.near,
+        entries,
+        plan.len(),
+    );
     if answer.number != 0 {
         return answer;
     }

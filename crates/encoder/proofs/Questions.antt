@@ -10,10 +10,8 @@ use Rattle.lists.proofs.Tests.{and-iff, eqb-iff, leb-iff}
 use Rattle.answers.specs.declared.Answer.{Answer}
 use Rattle.answers.specs.Answers.{Question, refuse, accept, decide, clear}
 use Rattle.answers.proofs.Laws.{numbered, clear-iff, numbered-second, decide-iff, decide-count, count-free, ask-yes, ask-no, ask-nil, ask-all}
-use Rattle.instance.specs.declared.Checked.{Checked}
+use Rattle.instance.specs.declared.Sizes.{Sizes}
 use Rattle.instance.specs.Instance.{Instance}
-use Rattle.instance.specs.Accepted.{Accepted, instanceOf}
-use Rattle.instance.proofs.Accepted.{sizes-same}
 use Rattle.formula.specs.Variables.{variableCount}
 use Rattle.formula.specs.Formula.{formula}
 use Rattle.plan.specs.Plan.{planBytes}
@@ -21,18 +19,15 @@ use Rattle.calls.specs.Questions.{question13, question16}
 use Rattle.calls.specs.Calls.{planQuestions, encodeRest}
 use Rattle.calls.proofs.Plan.{numbered-plan}
 
-module _ (b : List ℕ) (c : Checked) (w : Accepted b c) (p : List ℕ) (size : ℕ) where
-  abbrev I : Instance
-  I = instanceOf b c
-
+module _ (I : Instance) (s : Sizes) (es : s ≡ I .sizes) (p : List ℕ) (size : ℕ) where
   abbrev N : ℕ
   N = formula I .variables
 
-  count-same : variableCount (c .sizes) ≡ N
-  count-same = ap variableCount (sizes-same b c w)
+  count-same : variableCount s ≡ N
+  count-same = ap variableCount es
 
-  bytes-same : planBytes (c .sizes) ≡ planBytes (I .sizes)
-  bytes-same = ap planBytes (sizes-same b c w)
+  bytes-same : planBytes s ≡ planBytes (I .sizes)
+  bytes-same = ap planBytes es
 
   abbrev q13 : Question
   q13 = question13 I p
@@ -43,33 +38,33 @@ module _ (b : List ℕ) (c : Checked) (w : Accepted b c) (p : List ℕ) (size : 
   abbrev plan : List Question
   plan = planQuestions I p
 
-  pub stop-13 : length p ≢ planBytes (c .sizes) → refuse 13 (length p) ≡ decide (encodeRest I p size) N
+  pub stop-13 : length p ≢ planBytes s → refuse 13 (length p) ≡ decide (encodeRest I p size) N
   stop-13 d = sym (ask-no (eqb (length p) (planBytes (I .sizes))) (refuse 13 (length p)) _ N (λ t. d (eqb-iff _ _ .0 t ∙ sym bytes-same)))
 
-  module _ (e : length p ≡ planBytes (c .sizes)) where
+  module _ (e : length p ≡ planBytes s) where
     pass-13 : decide (encodeRest I p size) N ≡ decide (q16 ∷ plan) N
     pass-13 = ask-yes (eqb (length p) (planBytes (I .sizes))) (refuse 13 (length p)) _ N (eqb-iff _ _ .1 (e ∙ bytes-same))
 
-    pub stop-16 : size < variableCount (c .sizes) → refuse 16 (variableCount (c .sizes)) ≡ decide (encodeRest I p size) N
+    pub stop-16 : size < variableCount s → refuse 16 (variableCount s) ≡ decide (encodeRest I p size) N
     stop-16 l =
         ap (refuse 16) count-same
         ∙ sym (pass-13 ∙ ask-no (leb N size) (refuse 16 N) _ N (λ t. let h = leb-iff N size .0 t in let f : ⊥ = omega (arith, count-same) in f))
 
-    module _ (l : variableCount (c .sizes) ≤ size) (r : Answer) (er : r ≡ decide plan 0) where
+    module _ (l : variableCount s ≤ size) (r : Answer) (er : r ≡ decide plan 0) where
       pass-16 : decide (encodeRest I p size) N ≡ decide plan N
       pass-16 = pass-13 ∙ ask-yes (leb N size) (refuse 16 N) _ N (leb-iff N size .1 (omega (arith, count-same)))
 
       pub stop-plan : r .number ≢ 0 → r ≡ decide (encodeRest I p size) N
       stop-plan d = er ∙ count-free plan 0 N (λ z. d (ap (λ (a : Answer). a .number) er ∙ z)) ∙ sym pass-16
 
-      pub pass-plan : r .number ≡ 0 → accept (variableCount (c .sizes)) ≡ decide (encodeRest I p size) N
+      pub pass-plan : r .number ≡ 0 → accept (variableCount s) ≡ decide (encodeRest I p size) N
       pass-plan z =
           let known = and-iff (numbered q13) _ .0 (numbered-plan I p) .1 in
           ap accept count-same
           ∙ sym (pass-16 ∙ decide-count plan N (decide-iff plan 0 known .0 (sym (ap (λ (a : Answer). a .number) er) ∙ z)))
 
   -- what an acceptance says
-  pub ready : decide (encodeRest I p size) N .number ≡ 0 → (length p ≡ planBytes (c .sizes)) × (variableCount (c .sizes) ≤ size)
+  pub ready : decide (encodeRest I p size) N .number ≡ 0 → (length p ≡ planBytes s) × (variableCount s ≤ size)
   ready e =
       let t = decide-iff (encodeRest I p size) N (numbered-second q13 q16 plan (ask-all _ (leb N size) _ .1 (λ f. tt)) (numbered-plan I p)) .0 e in
       let (x, y) = and-iff (clear q13) _ .0 t in

@@ -1,6 +1,5 @@
 // The encoder: the valuation of a plan.
 use answers::Answer;
-use instance::Checked;
 use instance::Sizes;
 use variables::Agent;
 use variables::Step;
@@ -19,7 +18,8 @@ ghost use Rattle.instance.specs.Limits.{Limits};
 ghost use Rattle.answers.specs.Answers.{decide};
 ghost use Rattle.plan.specs.Plan.{planBytes};
 ghost use Rattle.valuation.specs.Valuation.{entryFor, planValuation};
-ghost use Rattle.instance.specs.Accepted.{Accepted, instanceOf};
+ghost use Rattle.instance.specs.Instance.{Instance};
+ghost use Rattle.instance.specs.Shows.{Shows};
 ghost use Rattle.calls.specs.Calls.{encodeRest, encodeAnswer, encodeSlice};
 
 // The entries of agent a at time t, where it is at the given vertex: the negatives of all, then the one that is true.
@@ -70,11 +70,17 @@ fn write_valuation(z: &mut [i32], s: Sizes, p: &[u8])
 }
 
 // Questions 13, 16 and 17 to 22, for a valuation slice of the given size.
-fn ask_encoding(b: &[u8], c: Checked, p: &[u8], size: usize) -> Answer
-    requires { ⌜ Accepted (now b) c ⌝ }
-    ensures { λ r. ⌜ r ≡ decide (encodeRest (instanceOf (now (b .entry)) c) (now (p .entry)) size) (formula (instanceOf (now (b .entry)) c) .variables) ⌝ }
+fn ask_encoding(
+    s: Sizes,
+    starts: &[u8; 16],
+    goals: &[u8; 16],
+    near: &[u64; 64],
+    p: &[u8],
+    size: usize,
+) -> Answer
+    requires { ⌜ Limits s ⌝ }
+    ensures { λ r. ⌜ ((I : Instance) → Shows I s (now (starts .entry)) (now (goals .entry)) (now (near .entry)) → r ≡ decide (encodeRest I (now (p .entry)) size) (formula I .variables)) ⌝ }
 {
-    let s = c.sizes;
     let len = p.len();
     if len != counts::plan_bytes(s) {
         return Answer {
@@ -89,7 +95,7 @@ fn ask_encoding(b: &[u8], c: Checked, p: &[u8], size: usize) -> Answer
             second: count,
         };
     }
-    let answer = plan_check::ask_plan(b, c, p);
+    let answer = plan_check::ask_plan(s, starts, goals, near, p);
     if answer.number != 0 {
         return answer;
     }
@@ -110,11 +116,13 @@ pub fn encode(b: &[u8], m: usize, p: &[u8], z: &mut [i32]) -> Answer
         return refusal;
     }
     let c = inspection.checked;
-    let answer = ask_encoding(b, c, p, z.len());
+    let s = c.sizes;
+    let starts = c.starts;
+    let goals = c.goals;
+    let answer = ask_encoding(s, &starts, &goals, &c.near, p, z.len());
     if answer.number != 0 {
         return answer;
     }
-    let s = c.sizes;
     write_valuation(z, s, p);
     answer
 }

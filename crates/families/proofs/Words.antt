@@ -11,26 +11,29 @@ use Rattle.lists.specs.Loop.{all, each}
 use Rattle.lists.proofs.Tests.{and-iff, leb-iff, eqb-iff}
 use Rattle.lists.proofs.Loops.{all-append, for-all, when-all, one-all}
 use Rattle.instance.specs.declared.Sizes.{Sizes}
+use Rattle.instance.specs.Ready.{Ready}
 use Rattle.formula.specs.Variables.{index, variableCount}
 use Rattle.formula.specs.Formula.{Clause, line}
-use Rattle.formula.specs.Blocks.{Given, times, blocksAt, block, paired}
+use Rattle.formula.specs.Blocks.{Given, times, blocksAt, heldIn, block, paired}
 use Rattle.formula.proofs.Variables.{index-lt}
-use Rattle.families.specs.Held.{Ready}
 
-module _ (g : Given) (r : Ready g) where
-  open Sizes (g .sizes) using (n, k, m)
+module _ (s : Sizes) (starts goals near : List ℕ) (r : Ready s starts goals near) where
+  open Sizes s using (n, k, m)
+
+  abbrev g : Given
+  g = heldIn s starts goals near
 
   abbrev within : ℤ → Bool
-  within w = leb (natAbs w) (variableCount (g .sizes))
+  within w = leb (natAbs w) (variableCount s)
 
   -- each literal's number is at most N
-  most : (t a v : ℕ) → t < suc m → a < k → v < n → index (g .sizes) t a v < variableCount (g .sizes)
-  most = index-lt (g .sizes)
+  most : (t a v : ℕ) → t < suc m → a < k → v < n → index s t a v < variableCount s
+  most = index-lt s
 
-  literals : (j t x : ℕ) → t < times (g .sizes) j → x < blocksAt (g .sizes) j → T (all (all within) (block g j t x))
+  literals : (j t x : ℕ) → t < times s j → x < blocksAt s j → T (all (all within) (block g j t x))
   unfolding block times blocksAt
-  literals zero t x h l = simp (one-all, leb-iff) (most 0 x (g .start x) (omega arith) l (r .starts x l))
-  literals (suc zero) t x h l = simp (one-all, leb-iff) (most m x (g .goal x) (omega arith) l (r .goals x l))
+  literals zero t x h l = simp (one-all, leb-iff) (most 0 x (g .start x) (omega arith) l (r .starts-below x l))
+  literals (suc zero) t x h l = simp (one-all, leb-iff) (most m x (g .goal x) (omega arith) l (r .goals-below x l))
   literals (suc (suc zero)) t x h l = simp (for-all, one-all, leb-iff) (λ v p. most t x v h l p)
   literals (suc (suc (suc zero))) t x h l =
       simp (for-all, when-all, one-all, and-iff, leb-iff) (λ v p w q o. (most t x v h l p, (most t x w h l q, tt)))
@@ -51,7 +54,7 @@ module _ (g : Given) (r : Ready g) where
       all-append within (line c) (each line cs) .1 (all-append within c (pos 0 ∷ []) .1 (a, simp (one-all, leb-iff) (omega arith)), lines-within cs b)
 
   -- no word of a block is further from 0 than there are variables
-  pub block-within : (j t x : ℕ) → t < times (g .sizes) j → x < blocksAt (g .sizes) j → T (all within (each line (block g j t x)))
+  pub block-within : (j t x : ℕ) → t < times s j → x < blocksAt s j → T (all within (each line (block g j t x)))
   block-within j t x h l = lines-within (block g j t x) (literals j t x h l)
 
 -- ---- clauses of two literals

@@ -7,16 +7,16 @@ use variables::Variable;
 use variables::Vertex;
 ghost use mathlib.Core.Path.{_≡_};
 ghost use mathlib.Core.List.{[], _∷_};
-ghost use Prim.Native.Nat.{_+_, _*_, _≤_, _<_};
+ghost use Prim.Native.Nat.{ℕ, _+_, _*_, _^_, _≤_, _<_};
 ghost use lib.ListN.{length, getD};
 ghost use Rattle.lists.specs.Loop.{for, each};
 ghost use Rattle.lists.specs.Slice.{Wrote};
 ghost use Rattle.formula.specs.Variables.{X, highest};
 ghost use Rattle.formula.specs.Formula.{line, noTwo, blockD, blockE, blockF, blockG};
-ghost use Rattle.formula.specs.Blocks.{times, blocksAt, block, family};
+ghost use Rattle.formula.specs.Blocks.{times, blocksAt, heldIn, block, family};
+ghost use Rattle.instance.specs.Instance.{joined};
 ghost use Rattle.instance.specs.Limits.{Limits};
-ghost use Rattle.clauses.specs.Lines.{marked};
-ghost use Rattle.families.specs.Held.{heldIn, Ready};
+ghost use Rattle.instance.specs.Ready.{Ready};
 ghost use Rattle.families.specs.Runs.{nots, above, apart};
 
 // Variables at one distance from each to the next.
@@ -114,17 +114,17 @@ fn write_e(f: &mut [i32], s: Sizes, t: Step, v: Vertex) -> usize
     write_no_two(f, run)
 }
 
-// F, of time t and agent a. Row v of the table is 64 bytes.
-fn write_f(f: &mut [i32], s: Sizes, table: &[u8], t: Step, a: Agent) -> usize
-    requires { ⌜ Limits s ⌝ }
-    requires { ⌜ (t .0 < s .m) × (a .0 < s .k) × (4096 ≤ length (now table)) ⌝ }
-    requires { ⌜ length (each line (blockF s (λ v. marked (now table) (64 * v)) (t .0) (a .0))) ≤ length (now f) ⌝ }
-    ensures { λ r. ⌜ Wrote (each line (blockF s (λ v. marked (now (table .entry)) (64 * v)) (t .0) (a .0))) (now (f .entry)) (now (f .exit)) r ⌝ }
+// F, of time t and agent a.
+fn write_f(f: &mut [i32], s: Sizes, near: &[u64; 64], t: Step, a: Agent) -> usize
+    requires { ⌜ Limits s × ((v : ℕ) → v < 64 → getD (now near) v 0 < 2 ^ s .n) ⌝ }
+    requires { ⌜ (t .0 < s .m) × (a .0 < s .k) ⌝ }
+    requires { ⌜ length (each line (blockF s (joined (now near)) (t .0) (a .0))) ≤ length (now f) ⌝ }
+    ensures { λ r. ⌜ Wrote (each line (blockF s (joined (now (near .entry))) (t .0) (a .0))) (now (f .entry)) (now (f .exit)) r ⌝ }
 {
     let n = s.n;
     let mut at: usize = 0;
     for v in 0..n {
-        at += clauses::put_onward(&mut f[at..], s, table, 64 * v, t, a, Vertex(v));
+        at += clauses::put_onward(&mut f[at..], s, near[v], t, a, Vertex(v));
     }
     at
 }
@@ -173,15 +173,15 @@ pub fn write_block(
     s: Sizes,
     starts: &[u8; 16],
     goals: &[u8; 16],
-    table: &[u8],
+    near: &[u64; 64],
     which: usize,
     t: usize,
     x: usize,
 ) -> usize
-    requires { ⌜ Ready (heldIn s (now starts) (now goals) (now table)) × (4096 ≤ length (now table)) ⌝ }
+    requires { ⌜ Ready s (now starts) (now goals) (now near) ⌝ }
     requires { ⌜ (which < 7) × (t < times s which) × (x < blocksAt s which) ⌝ }
-    requires { ⌜ length (each line (block (heldIn s (now starts) (now goals) (now table)) which t x)) ≤ length (now f) ⌝ }
-    ensures { λ r. ⌜ Wrote (each line (block (heldIn s (now (starts .entry)) (now (goals .entry)) (now (table .entry))) which t x)) (now (f .entry)) (now (f .exit)) r ⌝ }
+    requires { ⌜ length (each line (block (heldIn s (now starts) (now goals) (now near)) which t x)) ≤ length (now f) ⌝ }
+    ensures { λ r. ⌜ Wrote (each line (block (heldIn s (now (starts .entry)) (now (goals .entry)) (now (near .entry))) which t x)) (now (f .entry)) (now (f .exit)) r ⌝ }
 {
     match which {
         0 => write_unit(f, s, Step(0), starts, Agent(x)),
@@ -189,7 +189,7 @@ pub fn write_block(
         2 => clauses::put_somewhere(f, s, Step(t), Agent(x)),
         3 => write_d(f, s, Step(t), Agent(x)),
         4 => write_e(f, s, Step(t), Vertex(x)),
-        5 => write_f(f, s, table, Step(t), Agent(x)),
+        5 => write_f(f, s, near, Step(t), Agent(x)),
         _ => write_g(f, s, Step(t), Agent(x)),
     }
 }
@@ -200,19 +200,19 @@ fn write_step(
     s: Sizes,
     starts: &[u8; 16],
     goals: &[u8; 16],
-    table: &[u8],
+    near: &[u64; 64],
     which: usize,
     t: usize,
 ) -> usize
-    requires { ⌜ Ready (heldIn s (now starts) (now goals) (now table)) × (4096 ≤ length (now table)) ⌝ }
+    requires { ⌜ Ready s (now starts) (now goals) (now near) ⌝ }
     requires { ⌜ (which < 7) × (t < times s which) ⌝ }
-    requires { ⌜ length (each line (for (blocksAt s which) (block (heldIn s (now starts) (now goals) (now table)) which t))) ≤ length (now f) ⌝ }
-    ensures { λ r. ⌜ Wrote (each line (for (blocksAt s which) (block (heldIn s (now (starts .entry)) (now (goals .entry)) (now (table .entry))) which t))) (now (f .entry)) (now (f .exit)) r ⌝ }
+    requires { ⌜ length (each line (for (blocksAt s which) (block (heldIn s (now starts) (now goals) (now near)) which t))) ≤ length (now f) ⌝ }
+    ensures { λ r. ⌜ Wrote (each line (for (blocksAt s which) (block (heldIn s (now (starts .entry)) (now (goals .entry)) (now (near .entry))) which t))) (now (f .entry)) (now (f .exit)) r ⌝ }
 {
     let end = counts::blocks_at(s, which);
     let mut at: usize = 0;
     for x in 0..end {
-        at += write_block(&mut f[at..], s, starts, goals, table, which, t, x);
+        at += write_block(&mut f[at..], s, starts, goals, near, which, t, x);
     }
     at
 }
@@ -223,18 +223,18 @@ pub fn write_family(
     s: Sizes,
     starts: &[u8; 16],
     goals: &[u8; 16],
-    table: &[u8],
+    near: &[u64; 64],
     which: usize,
 ) -> usize
-    requires { ⌜ Ready (heldIn s (now starts) (now goals) (now table)) × (4096 ≤ length (now table)) ⌝ }
+    requires { ⌜ Ready s (now starts) (now goals) (now near) ⌝ }
     requires { ⌜ which < 7 ⌝ }
-    requires { ⌜ length (each line (family (heldIn s (now starts) (now goals) (now table)) which)) ≤ length (now f) ⌝ }
-    ensures { λ r. ⌜ Wrote (each line (family (heldIn s (now (starts .entry)) (now (goals .entry)) (now (table .entry))) which)) (now (f .entry)) (now (f .exit)) r ⌝ }
+    requires { ⌜ length (each line (family (heldIn s (now starts) (now goals) (now near)) which)) ≤ length (now f) ⌝ }
+    ensures { λ r. ⌜ Wrote (each line (family (heldIn s (now (starts .entry)) (now (goals .entry)) (now (near .entry))) which)) (now (f .entry)) (now (f .exit)) r ⌝ }
 {
     let end = counts::times_of(s, which);
     let mut at: usize = 0;
     for t in 0..end {
-        at += write_step(&mut f[at..], s, starts, goals, table, which, t);
+        at += write_step(&mut f[at..], s, starts, goals, near, which, t);
     }
     at
 }

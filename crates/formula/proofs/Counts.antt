@@ -9,10 +9,10 @@ use lib.ListN.{length, length-append}
 use Rattle.lists.specs.Loop.{for, each, pairs}
 use Rattle.lists.proofs.Loops.{for-length, each-for, each-append, each-when}
 use Rattle.lists.proofs.Blocks.{for1-length}
-use Rattle.lists.proofs.Sums.{for-sum, sum-ext, sum-const, sum-add, above-length, others-length, when-count}
+use Rattle.lists.proofs.Sums.{for-sum, sum-ext, sum-const, sum-add, above-length, others-length}
 use Rattle.instance.specs.declared.Sizes.{Sizes}
-use Rattle.instance.specs.Instance.{Instance, adjacent, Edges}
-use Rattle.instance.proofs.Graph.{degree, handshake}
+use Rattle.instance.specs.Instance.{Instance, adjacent, degree, Edges}
+use Rattle.instance.proofs.Graph.{for-neighbours, handshake}
 use Rattle.formula.specs.Variables.{X}
 use Rattle.formula.specs.Formula.{Clause, A, B, C, D, E, F, G, clauses, formula, line, words}
 use Rattle.formula.specs.Counts.{clausesBy, wordsBy, clauseCount, wordCount}
@@ -103,7 +103,7 @@ module _ (I : Instance) where
       simp each-for
       (for-length m _ _ (λ t l. for-length k (3 * n + 2 * e) _ (λ a l.
       for-sum n _
-      ∙ sum-ext n _ (λ v. 3 + degree I v) (λ v l. rw one-line (omega (arith, when-count n (adjacent I v) (X sizes (suc t) a))))
+      ∙ sum-ext n _ (λ v. 3 + degree I v) (λ v l. rw one-line (omega (arith, for-neighbours I v (X sizes (suc t) a))))
       ∙ sum-add n (λ v. 3) (degree I)
       ∙ ap₂ _+_ (sum-const n 3 ∙ mul-comm n 3) (handshake I g)))
       ∙ sym (mul-assoc m k (3 * n + 2 * e)))

@@ -3,3 +3,4 @@ pub mod Variables
 pub mod Limits
 pub mod Places
 pub mod Blocks
+pub mod Held

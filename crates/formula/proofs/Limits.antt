@@ -14,8 +14,8 @@ use Rattle.lists.proofs.Loops.{for-all, when-all, one-all, all-append, all-mem}
 use Rattle.lists.proofs.Blocks.{for1-length}
 use Rattle.lists.proofs.Sums.{ind, when-count}
 use Rattle.instance.specs.declared.Sizes.{Sizes}
-use Rattle.instance.specs.Instance.{Instance, adjacent, Edges}
-use Rattle.instance.proofs.Graph.{adjacent-iff, degree}
+use Rattle.instance.specs.Instance.{Instance, adjacent, degree, Edges}
+use Rattle.instance.proofs.Graph.{adjacent-iff, for-neighbours}
 use Rattle.formula.specs.Variables.{X, variableCount}
 use Rattle.formula.specs.Formula.{Clause, A, B, C, D, E, F, G, clauses, line}
 use Rattle.instance.specs.Limits.{Limits}
@@ -98,7 +98,7 @@ module _ (I : Instance) (g : Edges I) where
       ⊎-elim (λ (x, y). omega arith) (λ (x, y). omega arith) o
 
   pub degree-most : (v : ℕ) → v < n → degree I v ≤ n - 1
-  degree-most v l = sum-but-one n (adjacent I v) v l (loopless v)
+  degree-most v l = rw (when-count n (adjacent I v) (λ w. w)) (sum-but-one n (adjacent I v) v l (loopless v))
 
   short : Clause → Bool
   short c = leb (length (line c)) 66
@@ -129,7 +129,7 @@ module _ (I : Instance) (g : Edges I) where
     unfolding F short
     short-F =
         simp (for-all, one-all, leb-iff)
-        (λ t l a r v p. simp length-append (omega (arith, when-count n (adjacent I v) (X sizes (suc t) a), degree-most v p)))
+        (λ t l a r v p. simp length-append (omega (arith, for-neighbours I v (X sizes (suc t) a), degree-most v p)))
 
     short-G : T (all short (G (I .sizes)))
     unfolding G short

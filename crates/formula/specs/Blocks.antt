@@ -7,8 +7,7 @@ use lib.Dec.{eqb}
 use lib.ListN.{getD}
 use Rattle.instance.specs.declared.Sizes.{Sizes}
 use Rattle.instance.specs.declared.Checked.{Checked}
-use Rattle.instance.specs.Instance.{Instance, adjacent}
-use Rattle.instance.specs.Accepted.{instanceOf}
+use Rattle.instance.specs.Instance.{Instance, adjacent, joined}
 use Rattle.formula.specs.Formula.{Clause, A, B, C, D, E, F, G, blockA, blockB, blockC, blockD, blockE, blockF, blockG}
 
 -- what the families use
@@ -18,16 +17,16 @@ pub record Given : Type 0 where
   pub goal : ℕ → ℕ
   pub near : ℕ → ℕ → Bool
 
--- of an instance; and as the code has it, of a checked instance and a test of neighbours
+-- of an instance
 abbrev pub given : Instance → Given
 given I = record { sizes = I .sizes; start = I .start; goal = I .goal; near = adjacent I }
 
-abbrev pub held : Checked → (ℕ → ℕ → Bool) → Given
-held c near = record { sizes = c .sizes; start = λ a. getD (c .starts) a 0; goal = λ a. getD (c .goals) a 0; near = near }
+-- as the code has it: sizes, arrays of starts and goals, words of neighbours
+abbrev pub heldIn : Sizes → List ℕ → List ℕ → List ℕ → Given
+heldIn s starts goals near = record { sizes = s; start = λ a. getD starts a 0; goal = λ a. getD goals a 0; near = joined near }
 
--- with the neighbours that the bytes b have
-abbrev pub heldBy : List ℕ → Checked → Given
-heldBy b c = held c (adjacent (instanceOf b c))
+abbrev pub held : Checked → Given
+held c = heldIn (c .sizes) (c .starts) (c .goals) (c .near)
 
 -- How many times t a family has, and how many blocks for each: of an agent a, or of a vertex v. In the order A, B, C, D, E, F, G.
 module _ (s : Sizes) where

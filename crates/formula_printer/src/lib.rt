@@ -6,10 +6,9 @@ ghost use mathlib.Core.Path.{_≡_};
 ghost use Prim.Native.Nat.{_*_, _≤_, _<_};
 ghost use lib.Dec.{T};
 ghost use lib.ListN.{length};
-ghost use Rattle.instance.specs.Accepted.{Accepted};
+ghost use Rattle.instance.specs.Ready.{Ready};
 ghost use Rattle.formula.specs.Variables.{variableCount};
 ghost use Rattle.formula.specs.Blocks.{times, blocksAt, paired};
-ghost use Rattle.families.specs.Held.{heldIn, Ready};
 ghost use Rattle.dimacs.specs.Text.{wordsText};
 ghost use Rattle.dimacs.specs.Table.{Begins, Texts, Within, Pairs};
 ghost use Rattle.formula_printer.specs.Room.{Room, Block};
@@ -72,18 +71,18 @@ fn print_block(
     s: Sizes,
     starts: &[u8; 16],
     goals: &[u8; 16],
-    table: &[u8],
+    near: &[u64; 64],
     which: usize,
     t: usize,
     x: usize,
     gathered: usize,
 ) -> Gathered
     requires { ⌜ Block (now words) (now text) × Texts (variableCount s) (now texts) × (gathered < 65536) ⌝ }
-    requires { ⌜ Ready (heldIn s (now starts) (now goals) (now table)) × (4096 ≤ length (now table)) ⌝ }
+    requires { ⌜ Ready s (now starts) (now goals) (now near) ⌝ }
     requires { ⌜ (which < 7) × (t < times s which) × (x < blocksAt s which) ⌝ }
     ensures { λ r. ⌜ r .at < 65536 ⌝ }
 {
-    let n = families::write_block(words, s, starts, goals, table, which, t, x);
+    let n = families::write_block(words, s, starts, goals, near, which, t, x);
     let top = counts::variable_count(s);
     let more = put_block(&mut text[gathered..], texts, top, &words[0..n], which);
     write_piece(text, gathered + more)
@@ -97,20 +96,20 @@ fn print_step(
     s: Sizes,
     starts: &[u8; 16],
     goals: &[u8; 16],
-    table: &[u8],
+    near: &[u64; 64],
     which: usize,
     t: usize,
     gathered: usize,
 ) -> Gathered
     requires { ⌜ Block (now words) (now text) × Texts (variableCount s) (now texts) × (gathered < 65536) ⌝ }
-    requires { ⌜ Ready (heldIn s (now starts) (now goals) (now table)) × (4096 ≤ length (now table)) ⌝ }
+    requires { ⌜ Ready s (now starts) (now goals) (now near) ⌝ }
     requires { ⌜ (which < 7) × (t < times s which) ⌝ }
     ensures { λ r. ⌜ r .at < 65536 ⌝ }
 {
     let end = counts::blocks_at(s, which);
     let mut at = gathered;
     for x in 0..end {
-        let so_far = print_block(words, text, texts, s, starts, goals, table, which, t, x, at);
+        let so_far = print_block(words, text, texts, s, starts, goals, near, which, t, x, at);
         if !so_far.ok {
             return so_far;
         }
@@ -127,19 +126,19 @@ fn print_family(
     s: Sizes,
     starts: &[u8; 16],
     goals: &[u8; 16],
-    table: &[u8],
+    near: &[u64; 64],
     which: usize,
     gathered: usize,
 ) -> Gathered
     requires { ⌜ Block (now words) (now text) × Texts (variableCount s) (now texts) × (gathered < 65536) ⌝ }
-    requires { ⌜ Ready (heldIn s (now starts) (now goals) (now table)) × (4096 ≤ length (now table)) ⌝ }
+    requires { ⌜ Ready s (now starts) (now goals) (now near) ⌝ }
     requires { ⌜ which < 7 ⌝ }
     ensures { λ r. ⌜ r .at < 65536 ⌝ }
 {
     let end = counts::times_of(s, which);
     let mut at = gathered;
     for t in 0..end {
-        let so_far = print_step(words, text, texts, s, starts, goals, table, which, t, at);
+        let so_far = print_step(words, text, texts, s, starts, goals, near, which, t, at);
         if !so_far.ok {
             return so_far;
         }
@@ -148,20 +147,17 @@ fn print_family(
     Gathered { ok: true, at }
 }
 
-// The seven families of an accepted instance, behind what is gathered, to the end. Answers whether all was written.
+// The seven families of a checked instance, behind what is gathered, to the end. Answers whether all was written.
 fn print_families(
     words: &mut [i32],
     text: &mut [u8],
     texts: &[u8],
-    b: &[u8],
     c: Checked,
     gathered: usize,
 ) -> bool
     requires { ⌜ Block (now words) (now text) × Texts (variableCount (c .sizes)) (now texts) × (gathered < 65536) ⌝ }
-    requires { ⌜ Accepted (now b) c ⌝ }
+    requires { ⌜ Ready (c .sizes) (c .starts) (c .goals) (c .near) ⌝ }
 {
-    let mut table = [0u8; 4096];
-    neighbours::mark_table(&mut table, b, c);
     let starts = c.starts;
     let goals = c.goals;
     let mut at = gathered;
@@ -173,7 +169,7 @@ fn print_families(
             c.sizes,
             &starts,
             &goals,
-            &table,
+            &c.near,
             which,
             at,
         );
@@ -185,17 +181,17 @@ fn print_families(
     io::write_all(1, &text[0..at])
 }
 
-// The formula of an accepted instance. The texts of its literals and of 0 are made first.
-fn print_formula(words: &mut [i32], text: &mut [u8], texts: &mut [u8], b: &[u8], c: Checked) -> bool
+// The formula of a checked instance. The texts of its literals and of 0 are made first.
+fn print_formula(words: &mut [i32], text: &mut [u8], texts: &mut [u8], c: Checked) -> bool
     requires { ⌜ Room (now words) (now text) (now texts) ⌝ }
-    requires { ⌜ Accepted (now b) c ⌝ }
+    requires { ⌜ Ready (c .sizes) (c .starts) (c .goals) (c .near) ⌝ }
 {
     let s = c.sizes;
     let variables = counts::variable_count(s);
     let end = 8 * (2 * variables + 1);
     dimacs::put_texts(&mut texts[0..end], variables);
     let header = dimacs::put_header(text, variables, counts::clause_count(s));
-    print_families(words, text, &texts[0..end], b, c, header)
+    print_families(words, text, &texts[0..end], c, header)
 }
 
 // The one line of a refusal.
@@ -230,7 +226,7 @@ fn print_answer(words: &mut [i32], text: &mut [u8], texts: &mut [u8], b: &[u8], 
             REFUSED,
         );
     }
-    status_of(print_formula(words, text, texts, b, c), DONE)
+    status_of(print_formula(words, text, texts, c), DONE)
 }
 
 // Prints what an input asks for: the byte m, then the instance. An empty input counts as m 0 and an empty instance. Answers the

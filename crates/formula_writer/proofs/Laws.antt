@@ -2,7 +2,7 @@
 use mathlib.Core.Path.{_≡_, sym, _∙_, ap}
 use mathlib.Core.Logic.{_≢_}
 use mathlib.Core.List.{List, []}
-use Prim.Native.Nat.{ℕ, _*_, _≤_, _<_}
+use Prim.Native.Nat.{ℕ, _≤_, _<_}
 use native.Mathlib.Omega.{arith}
 use lib.IntN.{ℤ}
 use lib.ListN.{length}
@@ -10,40 +10,27 @@ use lib.Dec.{leb}
 use Rattle.lists.specs.Loop.{for, each}
 use Rattle.lists.specs.Slice.{filled}
 use Rattle.lists.proofs.Tests.{leb-iff}
-use Rattle.lists.proofs.Loops.{for-ext}
 use Rattle.answers.specs.declared.Answer.{Answer}
 use Rattle.answers.specs.Answers.{refuse, accept, decide, withClauses}
 use Rattle.answers.proofs.Laws.{ask-yes, ask-no, byNumber-accepted, byNumber-refused, lent-accepted, lent-refused}
 use Rattle.instance.specs.declared.Checked.{Checked}
-use Rattle.instance.specs.Instance.{Instance, instance, adjacent}
+use Rattle.instance.specs.Instance.{Instance, instance}
 use Rattle.instance.specs.Accepted.{Accepted, instanceOf}
-use Rattle.instance.proofs.Accepted.{sizes-same, graph, start-at, goal-at, limits-known, starts-inside, goals-inside}
+use Rattle.instance.proofs.Accepted.{sizes-same, graph}
 use Rattle.formula.specs.Formula.{clauses, formula, line, words}
 use Rattle.formula.specs.Counts.{clauseCount, wordCount}
-use Rattle.formula.specs.Blocks.{Given, given, family}
+use Rattle.formula.specs.Blocks.{held, family}
 use Rattle.formula.proofs.Counts.{clause-count, word-count}
-use Rattle.formula.proofs.Blocks.{clauses-families, Same, family-same}
-use Rattle.clauses.specs.Lines.{marked}
-use Rattle.families.specs.Held.{heldIn, Ready}
+use Rattle.formula.proofs.Held.{families-held}
 use Rattle.calls.specs.Calls.{writeRest, writeQuestions, writeAnswer, writeSlice}
 
 module _ (b : List ℕ) (c : Checked) (w : Accepted b c) where
   abbrev I : Instance
   I = instanceOf b c
 
-  abbrev held : List ℕ → Given
-  held table = heldIn (c .sizes) (c .starts) (c .goals) table
-
-  pub words-held : (table : List ℕ) → ((v x : ℕ) → v < c .sizes .n → x < c .sizes .n → marked table (64 * v) x ≡ adjacent I v x)
-      → words (formula I) ≡ each line (for 7 (family (held table)))
+  pub words-held : words (formula I) ≡ each line (for 7 (family (held c)))
   unfolding words
-  words-held table near = ap (each line) (clauses-families I ∙ for-ext 7 _ _ (λ j l. sym (family-same (held table) (given I) same j)))
-    where
-      same : Same (held table) (given I)
-      same = record { sizes = sizes-same b c w; start = start-at b c w; goal = goal-at b c w; near = near }
-
-  pub ready : (table : List ℕ) → Ready (held table)
-  ready table = record { limits = limits-known b c w; starts = starts-inside b c w; goals = goals-inside b c w }
+  words-held = ap (each line) (families-held b c w)
 
   pub word-count-of : length (words (formula I)) ≡ wordCount (c .sizes)
   word-count-of = word-count I (graph b c w) ∙ ap wordCount (sym (sizes-same b c w))

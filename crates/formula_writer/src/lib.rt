@@ -8,10 +8,9 @@ ghost use Prim.Native.Nat.{_+_, _≤_, _<_};
 ghost use lib.ListN.{length, take};
 ghost use Rattle.lists.specs.Loop.{for, each};
 ghost use Rattle.lists.specs.Slice.{Wrote};
-ghost use Rattle.formula.specs.Formula.{formula, line, words};
-ghost use Rattle.formula.specs.Blocks.{family};
-ghost use Rattle.families.specs.Held.{heldIn, Ready};
-ghost use Rattle.instance.specs.Accepted.{Accepted, instanceOf};
+ghost use Rattle.instance.specs.Ready.{Ready};
+ghost use Rattle.formula.specs.Formula.{line};
+ghost use Rattle.formula.specs.Blocks.{heldIn, held, family};
 ghost use Rattle.calls.specs.Calls.{writeAnswer, writeSlice};
 
 // A family, to the part of the slice from `at` on. The answer is where it ends.
@@ -20,15 +19,15 @@ fn write_next(
     s: Sizes,
     starts: &[u8; 16],
     goals: &[u8; 16],
-    table: &[u8],
+    near: &[u64; 64],
     which: usize,
     at: usize,
 ) -> usize
-    requires { ⌜ Ready (heldIn s (now starts) (now goals) (now table)) × (4096 ≤ length (now table)) ⌝ }
-    requires { ⌜ (which < 7) × (at + length (each line (family (heldIn s (now starts) (now goals) (now table)) which)) ≤ length (now f)) ⌝ }
-    ensures { λ r. ⌜ Wrote (take at (now (f .entry)) ++ each line (family (heldIn s (now (starts .entry)) (now (goals .entry)) (now (table .entry))) which)) (now (f .entry)) (now (f .exit)) r ⌝ }
+    requires { ⌜ Ready s (now starts) (now goals) (now near) ⌝ }
+    requires { ⌜ (which < 7) × (at + length (each line (family (heldIn s (now starts) (now goals) (now near)) which)) ≤ length (now f)) ⌝ }
+    ensures { λ r. ⌜ Wrote (take at (now (f .entry)) ++ each line (family (heldIn s (now (starts .entry)) (now (goals .entry)) (now (near .entry))) which)) (now (f .entry)) (now (f .exit)) r ⌝ }
 {
-    at + families::write_family(&mut f[at..], s, starts, goals, table, which)
+    at + families::write_family(&mut f[at..], s, starts, goals, near, which)
 }
 
 // The seven families. Called one by one, each is compiled by itself; in a loop they share what they keep at hand, which is slow on
@@ -38,32 +37,30 @@ fn write_families(
     s: Sizes,
     starts: &[u8; 16],
     goals: &[u8; 16],
-    table: &[u8],
+    near: &[u64; 64],
 ) -> usize
-    requires { ⌜ Ready (heldIn s (now starts) (now goals) (now table)) × (4096 ≤ length (now table)) ⌝ }
-    requires { ⌜ length (each line (for 7 (family (heldIn s (now starts) (now goals) (now table))))) ≤ length (now f) ⌝ }
-    ensures { λ r. ⌜ Wrote (each line (for 7 (family (heldIn s (now (starts .entry)) (now (goals .entry)) (now (table .entry)))))) (now (f .entry)) (now (f .exit)) r ⌝ }
+    requires { ⌜ Ready s (now starts) (now goals) (now near) ⌝ }
+    requires { ⌜ length (each line (for 7 (family (heldIn s (now starts) (now goals) (now near))))) ≤ length (now f) ⌝ }
+    ensures { λ r. ⌜ Wrote (each line (for 7 (family (heldIn s (now (starts .entry)) (now (goals .entry)) (now (near .entry)))))) (now (f .entry)) (now (f .exit)) r ⌝ }
 {
-    let a = write_next(f, s, starts, goals, table, 0, 0);
-    let b = write_next(f, s, starts, goals, table, 1, a);
-    let c = write_next(f, s, starts, goals, table, 2, b);
-    let d = write_next(f, s, starts, goals, table, 3, c);
-    let e = write_next(f, s, starts, goals, table, 4, d);
-    let g = write_next(f, s, starts, goals, table, 5, e);
-    write_next(f, s, starts, goals, table, 6, g)
+    let a = write_next(f, s, starts, goals, near, 0, 0);
+    let b = write_next(f, s, starts, goals, near, 1, a);
+    let c = write_next(f, s, starts, goals, near, 2, b);
+    let d = write_next(f, s, starts, goals, near, 3, c);
+    let e = write_next(f, s, starts, goals, near, 4, d);
+    let g = write_next(f, s, starts, goals, near, 5, e);
+    write_next(f, s, starts, goals, near, 6, g)
 }
 
-// The formula of an accepted instance, to a slice with room for it.
-fn write_words(f: &mut [i32], b: &[u8], c: Checked) -> usize
-    requires { ⌜ Accepted (now b) c ⌝ }
-    requires { ⌜ length (words (formula (instanceOf (now b) c))) ≤ length (now f) ⌝ }
-    ensures { λ r. ⌜ Wrote (words (formula (instanceOf (now (b .entry)) c))) (now (f .entry)) (now (f .exit)) r ⌝ }
+// The seven families of a checked instance, to a slice with room for them.
+fn write_words(f: &mut [i32], c: Checked) -> usize
+    requires { ⌜ Ready (c .sizes) (c .starts) (c .goals) (c .near) ⌝ }
+    requires { ⌜ length (each line (for 7 (family (held c)))) ≤ length (now f) ⌝ }
+    ensures { λ r. ⌜ Wrote (each line (for 7 (family (held c)))) (now (f .entry)) (now (f .exit)) r ⌝ }
 {
-    let mut table = [0u8; 4096];
-    neighbours::mark_table(&mut table, b, c);
     let starts = c.starts;
     let goals = c.goals;
-    write_families(f, c.sizes, &starts, &goals, &table)
+    write_families(f, c.sizes, &starts, &goals, &c.near)
 }
 
 // Questions 1 to 10 and 12. A refusal changes no word of the slice.
@@ -91,7 +88,7 @@ pub fn write_formula(b: &[u8], m: usize, f: &mut [i32]) -> Written
             clauses: 0,
         };
     }
-    write_words(f, b, c);
+    write_words(f, c);
     Written {
         number: 0,
         second: needed,

@@ -1,20 +1,22 @@
 -- From the instance check's answer to what the inner functions require, and what they then know.
 use mathlib.Core.Path.{_≡_, sym, _∙_, ap, subst}
 use mathlib.Core.List.{List}
-use Prim.Native.Nat.{ℕ, _+_, _*_, _≤_, _<_}
+use Prim.Native.Nat.{ℕ, _+_, _*_, _^_, _≤_, _<_}
 use native.Mathlib.Omega.{arith}
-use lib.ListN.{length, getD, take, drop, replicate, length-drop, List·getD-append}
+use lib.ListN.{length, getD, take, drop, length-drop, List·getD-append}
 use lib.Seq.{getD-drop, getD-take, length-take-le}
 use Rattle.lists.specs.Slice.{filled}
-use Rattle.lists.proofs.Slices.{filled-length}
 use Rattle.answers.proofs.Laws.{byNumber-accepted}
 use Rattle.instance.specs.declared.Sizes.{Sizes}
 use Rattle.instance.specs.declared.Checked.{Checked}
-use Rattle.instance.specs.Instance.{Instance, instance, checked, unchecked, forAgents, vertices, agents, edges, starts, goals, Edges, Endpoints}
+use Rattle.instance.specs.Instance.{Instance, instance, checked, unchecked, forAgents, vertices, agents, edges, starts, goals, adjacent, neighbourWords, joined, Edges, Endpoints}
 use Rattle.instance.specs.Limits.{Limits}
+use Rattle.instance.specs.Ready.{Ready}
+use Rattle.instance.specs.Shows.{Shows}
 use Rattle.instance.specs.Questions.{instanceAnswer, instanceChecked}
 use Rattle.instance.specs.Accepted.{Accepted, instanceOf}
 use Rattle.instance.proofs.Instance.{instance-iff, endpoints, edges-known, length-known, limits, agents-below}
+use Rattle.instance.proofs.Neighbours.{word-below, joined-adjacent}
 
 -- the instance check's answer and checked instance, where the number is 0
 module _ (b : List ℕ) (m : ℕ) (c : Checked) (ec : c ≡ instanceChecked b m) (e : instanceAnswer b m .number ≡ 0) where
@@ -38,12 +40,7 @@ module _ (b : List ℕ) (offset : ℕ) (h : agents b ≤ 16) (l : offset + agent
   taken : length (take (agents b) (drop offset b)) ≡ agents b
   taken = length-take-le (agents b) (drop offset b) (simp length-drop (omega arith))
 
-  pub forAgents-length : length (forAgents b offset) ≡ 16
-  unfolding forAgents
-  forAgents-length =
-      filled-length (take (agents b) (drop offset b)) (replicate 16 0) (omega (arith, taken))
-
-  pub forAgents-at : (a : ℕ) → a < agents b → getD (forAgents b offset) a 0 ≡ getD b (offset + a) 0
+  forAgents-at : (a : ℕ) → a < agents b → getD (forAgents b offset) a 0 ≡ getD b (offset + a) 0
   unfolding forAgents filled
   forAgents-at a q =
       List·getD-append (take (agents b) (drop offset b)) _ 0 a (omega (arith, taken))
@@ -90,36 +87,47 @@ module _ (b : List ℕ) (c : Checked) (w : Accepted b c) where
   few = omega (arith, k-same, limits-known .k-most)
 
   -- the arrays hold the starts and the goals
-  pub starts-length : length (c .starts) ≡ 16
-  unfolding checked
-  starts-length =
-      ap (λ (x : Checked). length (x .starts)) (w .same)
-      ∙ forAgents-length b (starts b) few (omega (arith, length-known b (c .sizes .m) (w .yes)))
-
-  pub goals-length : length (c .goals) ≡ 16
-  unfolding checked
-  goals-length =
-      ap (λ (x : Checked). length (x .goals)) (w .same)
-      ∙ forAgents-length b (goals b) few (omega (arith, length-known b (c .sizes .m) (w .yes)))
-
-  pub start-at : (a : ℕ) → a < c .sizes .k → getD (c .starts) a 0 ≡ I .start a
+  start-at : (a : ℕ) → a < c .sizes .k → getD (c .starts) a 0 ≡ I .start a
   unfolding checked instance
   start-at a q =
       ap (λ (x : Checked). getD (x .starts) a 0) (w .same)
       ∙ forAgents-at b (starts b) few (omega (arith, length-known b (c .sizes .m) (w .yes))) a (omega (arith, k-same))
 
-  pub goal-at : (a : ℕ) → a < c .sizes .k → getD (c .goals) a 0 ≡ I .goal a
+  goal-at : (a : ℕ) → a < c .sizes .k → getD (c .goals) a 0 ≡ I .goal a
   unfolding checked instance
   goal-at a q =
       ap (λ (x : Checked). getD (x .goals) a 0) (w .same)
       ∙ forAgents-at b (goals b) few (omega (arith, length-known b (c .sizes .m) (w .yes))) a (omega (arith, k-same))
 
-  pub starts-inside : (a : ℕ) → a < c .sizes .k → getD (c .starts) a 0 < c .sizes .n
+  starts-inside : (a : ℕ) → a < c .sizes .k → getD (c .starts) a 0 < c .sizes .n
   unfolding instance
   starts-inside a l =
       rw (start-at a l, sizes-same) (endpoints-known .startsInside a (subst (λ (s : Sizes). a < s .k) sizes-same l))
 
-  pub goals-inside : (a : ℕ) → a < c .sizes .k → getD (c .goals) a 0 < c .sizes .n
+  goals-inside : (a : ℕ) → a < c .sizes .k → getD (c .goals) a 0 < c .sizes .n
   unfolding instance
   goals-inside a l =
       rw (goal-at a l, sizes-same) (endpoints-known .goalsInside a (subst (λ (s : Sizes). a < s .k) sizes-same l))
+
+  -- the words mean the graph
+  near-same : c .near ≡ neighbourWords I
+  unfolding checked
+  near-same = ap (λ (x : Checked). x .near) (w .same)
+
+  near-known : joined (c .near) ≡ adjacent I
+  near-known =
+      ap joined near-same ∙ joined-adjacent I graph (subst (λ (s : Sizes). s .n ≤ 64) sizes-same (limits-known .n-most))
+
+  -- its parts are those of the instance
+  pub shown : Shows I (c .sizes) (c .starts) (c .goals) (c .near)
+  shown = record { graph = record { sizes = sizes-same; words = near-known }; starts-at = start-at; goals-at = goal-at }
+
+  -- what the functions require that are lent them
+  pub ready : Ready (c .sizes) (c .starts) (c .goals) (c .near)
+  ready =
+      record {
+        limits = limits-known;
+        starts-below = starts-inside;
+        goals-below = goals-inside;
+        words-below = λ v l. rw near-same (subst (λ (s : Sizes). getD (neighbourWords I) v 0 < 2 ^ s .n) (sym sizes-same) (word-below I v));
+      }

@@ -1,17 +1,19 @@
 -- The graph of an instance: its edges are distinct, and the degrees of its vertices add up to 2e.
 use mathlib.Core.Path.{_≡_, sym, _∙_, ap, ap₂}
 use mathlib.Core.Logic.{_↔_, _⊎_, inl, inr, ⊎-elim, by-cases, Iff·rfl}
+use mathlib.Core.List.{[], _∷_}
 use mathlib.Core.Bool.{Bool, _&&_, _||_}
 use Prim.Native.Nat.{ℕ, zero, suc, _+_, _*_, _<_}
 use native.Mathlib.Nat.{mul-comm, one-mul, not-suc-le-zero, eq-or-lt-of-le, le-of-suc-le-suc}
 use native.Mathlib.Decide.{decLt}
 use native.Mathlib.Omega.{arith}
 use lib.Dec.{T, eqb}
-use Rattle.lists.specs.Loop.{sum}
+use lib.ListN.{length}
+use Rattle.lists.specs.Loop.{for, when, sum}
 use Rattle.lists.proofs.Tests.{and-iff, or-iff, eqb-iff, some-iff}
-use Rattle.lists.proofs.Sums.{ind, ind-and, ind-or, sum-ext, sum-const, sum-mul, sum-add, sum-swap, sum-one, some-count}
+use Rattle.lists.proofs.Sums.{ind, ind-and, ind-or, sum-ext, sum-const, sum-mul, sum-add, sum-swap, sum-one, some-count, when-count}
 use Rattle.instance.specs.declared.Sizes.{Sizes}
-use Rattle.instance.specs.Instance.{Instance, joins, adjacent, Edge, Edges}
+use Rattle.instance.specs.Instance.{Instance, joins, adjacent, degree, Edge, Edges}
 
 lt-irrefl′ : {a b : ℕ} → a ≡ b → a < b → ⊥
 lt-irrefl′ p h = omega arith
@@ -20,9 +22,9 @@ module _ (I : Instance) where
   open Instance I using (sizes, low, high)
   open Sizes sizes using (n, e)
 
-  -- how many neighbours v has
-  abbrev pub degree : ℕ → ℕ
-  degree v = sum n (λ w. ind (adjacent I v w))
+  -- something for each neighbour of v makes as many as there are neighbours
+  pub for-neighbours : {L : Type 0} (v : ℕ) (f : ℕ → L) → length (for n λ w. when (adjacent I v w) (f w ∷ [])) ≡ degree I v
+  for-neighbours v f = when-count n (adjacent I v) f ∙ sym (when-count n (adjacent I v) (λ w. w))
 
   -- edge j has the low end v and the high end w
   abbrev ends? : ℕ → ℕ → ℕ → Bool
@@ -102,9 +104,9 @@ module _ (I : Instance) where
         ∙ one-mul (ind (eqb (low j) v)))
         ∙ sum-one n (low j) (omega arith)
 
-    pub handshake : sum n (degree) ≡ 2 * e
+    pub handshake : sum n (degree I) ≡ 2 * e
     handshake =
-        sum-ext n _ _ (λ v l. sum-ext n _ _ (λ w r. adjacent-count v w) ∙ sum-swap n e (λ w j. ind (ends? v w j) + ind (ends? w v j)))
+        sum-ext n _ _ (λ v l. when-count n (adjacent I v) (λ w. w) ∙ sum-ext n _ _ (λ w r. adjacent-count v w) ∙ sum-swap n e (λ w j. ind (ends? v w j) + ind (ends? w v j)))
         ∙ sum-swap n e (λ v j. sum n (λ w. ind (ends? v w j) + ind (ends? w v j)))
         ∙ sum-ext e _ (λ j. 2) (λ j l.
         sum-ext n _ _ (λ v r. sum-add n (λ w. ind (ends? v w j)) (λ w. ind (ends? w v j)))

@@ -1,4 +1,5 @@
 pub mod Graph
+pub mod Neighbours
 pub mod Instance
 pub mod Accepted
 pub mod Call

@@ -1,13 +1,14 @@
 -- The instance bytes.
 use mathlib.Core.Path.{_≡_}
 use mathlib.Core.Logic.{_⊎_, _≢_}
-use mathlib.Core.List.{List}
+use mathlib.Core.List.{List, [], _∷_}
 use mathlib.Core.Bool.{Bool, _&&_, _||_}
 use Prim.Native.Nat.{ℕ, suc, _+_, _*_, _<_}
-use lib.ListN.{getD, take, drop, replicate}
+use lib.ListN.{length, getD, take, drop, replicate}
 use lib.Dec.{eqb}
-use Rattle.lists.specs.Loop.{some}
+use Rattle.lists.specs.Loop.{for, when, some}
 use Rattle.lists.specs.Slice.{filled}
+use Rattle.bits.specs.Bits.{set?, word}
 use Rattle.instance.specs.declared.Sizes.{Sizes}
 use Rattle.instance.specs.declared.Checked.{Checked}
 
@@ -67,18 +68,6 @@ module _ (b : List ℕ) where
         goal = goalOf;
       }
 
-  -- k bytes from an offset on, in an array for 16 agents, 0 beyond agent k - 1
-  unfoldable pub forAgents : ℕ → List ℕ
-  forAgents offset = filled (take agents (drop offset b)) (replicate 16 0)
-
-  -- the checked instance of accepted bytes
-  unfoldable pub checked : ℕ → Checked
-  checked m = record { sizes = instance m .sizes; starts = forAgents starts; goals = forAgents goals }
-
--- what stands in its place at a refusal
-abbrev pub unchecked : Checked
-unchecked = record { sizes = record { n = 0; k = 0; e = 0; m = 0 }; starts = replicate 16 0; goals = replicate 16 0 }
-
 module _ (I : Instance) where
   open Instance I using (sizes, low, high, start, goal)
   open Sizes sizes using (n, k, e)
@@ -95,6 +84,17 @@ module _ (I : Instance) where
   abbrev pub Edge : ℕ → ℕ → Type 0
   Edge v w = (j : ℕ) × (j < e) × (((low j ≡ v) × (high j ≡ w)) ⊎ ((low j ≡ w) × (high j ≡ v)))
 
+  -- the neighbours of v, rising, and how many they are
+  abbrev pub neighbours : ℕ → List ℕ
+  neighbours v = for n λ w. when (adjacent v w) (w ∷ [])
+
+  abbrev pub degree : ℕ → ℕ
+  degree v = length (neighbours v)
+
+  -- the neighbours as words, one for each of 64 vertices: bit w of word v is set where w is a neighbour of v
+  unfoldable pub neighbourWords : List ℕ
+  neighbourWords = for 64 λ v. word n (adjacent v) ∷ []
+
   -- what questions 6 and 7 say of the edges
   pub record Edges : Type 0 where
     pub ends : (j : ℕ) → j < e → (low j < high j) × (high j < n)
@@ -105,3 +105,32 @@ module _ (I : Instance) where
     pub startsInside : (a : ℕ) → a < k → start a < n
     pub startsApart : (a : ℕ) → a < k → (b : ℕ) → b < a → start b ≢ start a
     pub goalsInside : (a : ℕ) → a < k → goal a < n
+
+-- bit w of word v is set
+abbrev pub joined : List ℕ → ℕ → ℕ → Bool
+joined near v w = set? (getD near v 0) w
+
+module _ (b : List ℕ) where
+  -- k bytes from an offset on, in an array for 16 agents, 0 beyond agent k - 1
+  unfoldable pub forAgents : ℕ → List ℕ
+  forAgents offset = filled (take (agents b) (drop offset b)) (replicate 16 0)
+
+  -- the checked instance of accepted bytes
+  unfoldable pub checked : ℕ → Checked
+  checked m =
+      record {
+        sizes = instance b m .sizes;
+        starts = forAgents (starts b);
+        goals = forAgents (goals b);
+        near = neighbourWords (instance b m);
+      }
+
+-- what stands in its place at a refusal
+abbrev pub unchecked : Checked
+unchecked =
+    record {
+      sizes = record { n = 0; k = 0; e = 0; m = 0 };
+      starts = replicate 16 0;
+      goals = replicate 16 0;
+      near = replicate 64 0;
+    }

@@ -1,4 +1,6 @@
 pub mod Instance
 pub mod Limits
+pub mod Ready
+pub mod Shows
 pub mod Questions
 pub mod Accepted

@@ -8,9 +8,11 @@ pub struct Sizes {
     pub m: usize,
 }
 
-// The checked instance. The arrays are for 16 agents, 0 beyond agent k - 1.
+// The checked instance. Starts and goals are in arrays for 16 agents, 0 beyond agent k - 1. The neighbours are words, one for each of
+// 64 vertices: bit w of word v is set where w is a neighbour of v.
 pub struct Checked {
     pub sizes: Sizes,
     pub starts: [u8; 16],
     pub goals: [u8; 16],
+    pub near: [u64; 64],
 }

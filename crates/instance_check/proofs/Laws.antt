@@ -22,7 +22,8 @@ use Rattle.answers.proofs.Faults.{holds, fails}
 use Rattle.answers.proofs.Laws.{clear-iff, decide-iff, decide-front, decide-after, decide-pass, fault-pass, fault-stop, byNumber-accepted, byNumber-refused, ask-nil, ask-all}
 use Rattle.instance.specs.declared.Sizes.{Sizes}
 use Rattle.instance.specs.declared.Checked.{Checked}
-use Rattle.instance.specs.Instance.{vertices, agents, edges, instance, forAgents, checked, unchecked}
+use Rattle.instance.specs.Instance.{vertices, agents, edges, instance, neighbourWords, forAgents, checked, unchecked, Edges}
+use Rattle.instance.proofs.Instance.{instance-iff, edges-known}
 use Rattle.instance.specs.Questions.{question2, question3, question4, question5, question6, question7, question8, question9, question10, properEdge, laterEdge, newVertex, instanceQuestions, instanceAnswer, instanceChecked}
 use Rattle.instance_check.specs.declared.Inspection.{Inspection}
 use Rattle.instance_check.specs.Read.{Read}
@@ -151,11 +152,19 @@ module _ (b : List ℕ) (m : ℕ) where
         sym (byNumber-accepted (instanceAnswer b m .number) (checked b m) unchecked (sym (ap (λ (a : Answer). a .number) er) ∙ e))
 
     -- the record that the code makes of sizes read from the bytes
-    pub made : (s : Sizes) → Read b s → s .m ≡ m → (first second : List ℕ)
+    pub made : (s : Sizes) → Read b s → s .m ≡ m → (first second near : List ℕ)
         → first ≡ filled (take (s .k) (drop (4 + 2 * s .e) b)) (replicate 16 0)
         → second ≡ filled (take (s .k) (drop (4 + 2 * s .e + s .k) b)) (replicate 16 0)
-        → r .number ≡ 0 → _≡_ {A = Checked} (record { sizes = s; starts = first; goals = second }) (instanceChecked b m)
+        → near ≡ neighbourWords (instance b m)
+        → r .number ≡ 0 → _≡_ {A = Checked} (record { sizes = s; starts = first; goals = second; near = near }) (instanceChecked b m)
     unfolding instance checked forAgents
-    made s w em first second e₁ e₂ e =
+    made s w em first second near e₁ e₂ e₃ e =
         let same : s ≡ instance b m .sizes = fields s w em in
-        rw (e₁, e₂, w .k-same, w .e-same, same) (is-checked e)
+        rw (e₁, e₂, e₃, w .k-same, w .e-same, same) (is-checked e)
+
+    -- what is known of the edges where all is accepted
+    pub edges-checked : r .number ≡ 0 → Edges (instance b 0)
+    unfolding instance
+    edges-checked e =
+        let g = edges-known b m (instance-iff b m .0 (sym (ap (λ (a : Answer). a .number) er) ∙ e)) in
+        record { ends = g .ends; order = g .order }

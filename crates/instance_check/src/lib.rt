@@ -3,17 +3,18 @@ use answers::Answer;
 use instance::Checked;
 use instance::Sizes;
 ghost use mathlib.Core.Path.{_≡_};
-ghost use mathlib.Core.Bool.{false, _&&_};
+ghost use mathlib.Core.Bool.{false, _&&_, _||_};
 ghost use mathlib.Core.List.{List, [], _∷_};
-ghost use Prim.Native.Nat.{suc, _+_, _-_, _*_, _<_, _≤_};
+ghost use Prim.Native.Nat.{ℕ, suc, _+_, _-_, _*_, _<_, _≤_};
 ghost use lib.ListN.{length, getD, take, drop, replicate};
 ghost use Rattle.lists.specs.Loop.{every};
 ghost use Rattle.lists.specs.Slice.{filled};
 ghost use Rattle.answers.specs.Answers.{Question, refuse, decide};
 ghost use Rattle.answers.specs.Fault.{FirstFault};
-ghost use Rattle.instance.specs.Instance.{vertices, agents, edges, unchecked};
+ghost use Rattle.instance.specs.Instance.{instance, vertices, agents, edges, neighbourWords, joined, unchecked, Edges};
 ghost use Rattle.instance.specs.Questions.{question2, question3, question4, question5, question6, question7, question8, question9, question10, properEdge, laterEdge, newVertex, instanceAnswer, instanceChecked};
 ghost use Rattle.instance_check.specs.Read.{Read};
+ghost use Rattle.instance_check.specs.Marked.{Ends, Marked, fan};
 
 // The answer to the questions, and beside it the checked instance, of zeros at a refusal.
 pub struct Inspection {
@@ -216,11 +217,79 @@ fn for_agents(b: &[u8], offset: usize, k: usize) -> [u8; 16]
     row
 }
 
+// Marks the edges from a vertex to each one from `high` on, up to and without n.
+fn mark_fan(near: &mut [u64], low: usize, high: usize, n: usize)
+    requires { ⌜ (low < high) × (high ≤ n) × (n ≤ 64) × (length (now near) ≡ 64) ⌝ }
+    ensures { λ _. ⌜ (length (now (near .exit)) ≡ 64) × ((v w : ℕ) → v < 64 → joined (now (near .exit)) v w ≡ joined (now (near .entry)) v w || fan low high n v w) ⌝ }
+{
+    for w in high..n {
+        near[w] = bits::with_bit(near[w], low);
+    }
+    near[low] = near[low] | bits::bits_from(high, n);
+}
+
+// Marks the edges from one on that have its low end, and answers where they end. The word of the low end is kept beside the others
+// until they are marked.
+fn mark_run(near: &mut [u64], b: &[u8], e: usize, from: usize) -> usize
+    requires { ⌜ (from < e) × (e ≡ edges (now b)) × (4 + e + e ≤ length (now b)) ⌝ }
+    requires { ⌜ Ends (now b) × Marked (now b) from (now near) ⌝ }
+    ensures { λ r. ⌜ (from < r) × (r ≤ e) × Marked (now (b .entry)) r (now (near .exit)) ⌝ }
+{
+    let low = numbers::wide(b[4 + from]);
+    let mut row = near[low];
+    let mut j = from;
+    while j < e {
+        if numbers::wide(b[4 + j]) != low {
+            break;
+        }
+        let high = numbers::wide(b[4 + e + j]);
+        row = bits::with_bit(row, high);
+        near[high] = bits::with_bit(near[high], low);
+        j += 1;
+    }
+    near[low] = row;
+    j
+}
+
+// Marks edges from one on, and answers where they end. Edges rise: where the edge as many places on as there are vertices from its
+// high end on has its low end too, they go to each of those vertices. Else those with its low end are marked one by one.
+fn mark_edges(near: &mut [u64], b: &[u8], n: usize, e: usize, from: usize) -> usize
+    requires { ⌜ (from < e) × (e ≡ edges (now b)) × (4 + e + e ≤ length (now b)) × (n ≡ vertices (now b)) × (n ≤ 64) ⌝ }
+    requires { ⌜ Edges (instance (now b) 0) × Marked (now b) from (now near) ⌝ }
+    ensures { λ r. ⌜ (from < r) × (r ≤ e) × Marked (now (b .entry)) r (now (near .exit)) ⌝ }
+{
+    let low = numbers::wide(b[4 + from]);
+    let high = numbers::wide(b[4 + e + from]);
+    let to = from + (n - high);
+    if to <= e {
+        if numbers::wide(b[3 + to]) == low {
+            mark_fan(near, low, high, n);
+            return to;
+        }
+    }
+    mark_run(near, b, e, from)
+}
+
+// The neighbours of every vertex, as words, in one pass over the edges.
+fn neighbour_words(b: &[u8], n: usize, e: usize) -> [u64; 64]
+    requires { ⌜ (e ≡ edges (now b)) × (4 + e + e ≤ length (now b)) × (n ≡ vertices (now b)) × (n ≤ 64) ⌝ }
+    requires { ⌜ Edges (instance (now b) 0) ⌝ }
+    ensures { λ r. ⌜ ((m : ℕ) → r ≡ neighbourWords (instance (now (b .entry)) m)) ⌝ }
+{
+    let mut near = [0u64; 64];
+    let mut j: usize = 0;
+    while j < e {
+        j = mark_edges(&mut near, b, n, e, j);
+    }
+    near
+}
+
 // A refusal, with zeros beside it.
 fn refused(answer: Answer) -> Inspection
     ensures { λ r. ⌜ (r .answer ≡ answer) × (r .checked ≡ unchecked) ⌝ }
 {
     let none = [0u8; 16];
+    let alone = [0u64; 64];
     Inspection {
         answer,
         checked: Checked {
@@ -232,6 +301,7 @@ fn refused(answer: Answer) -> Inspection
             },
             starts: none,
             goals: none,
+            near: alone,
         },
     }
 }
@@ -257,12 +327,14 @@ pub fn check_instance(b: &[u8], m: usize) -> Inspection
     let at = 4 + 2 * sizes.e;
     let starts = for_agents(b, at, k);
     let goals = for_agents(b, at + k, k);
+    let near = neighbour_words(b, sizes.n, sizes.e);
     Inspection {
         answer,
         checked: Checked {
             sizes,
             starts,
             goals,
+            near,
         },
     }
 }

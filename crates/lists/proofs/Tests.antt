@@ -16,7 +16,26 @@ module _ (P : ℕ → Type 0) where
   pub below-suc : (n : ℕ) → ((i : ℕ) → i < n → P i) → P n → (i : ℕ) → i < suc n → P i
   below-suc n h p i l = ⊎-elim (λ e. subst P (sym e) p) (λ k. h i k) (eq-or-lt-of-le (le-of-suc-le-suc l))
 
+-- ---- tests beside true and false
+pub or-false : (a : Bool) → a || false ≡ a
+or-false true = refl
+or-false false = refl
+
+pub and-true : (a : Bool) → a && true ≡ a
+and-true true = refl
+and-true false = refl
+
+pub and-false : (a : Bool) → a && false ≡ false
+and-false true = refl
+and-false false = refl
+
 -- ---- tests as propositions
+pub T-ext : (a b : Bool) → (T a ↔ T b) → a ≡ b
+T-ext true true h = refl
+T-ext true false h = absurd (h .0 tt)
+T-ext false true h = absurd (h .1 tt)
+T-ext false false h = refl
+
 pub and-iff : (a b : Bool) → T (a && b) ↔ (T a × T b)
 and-iff true true = ((λ t. (tt, tt)), (λ t. tt))
 and-iff true false = ((λ t. absurd t), (λ t. t .1))

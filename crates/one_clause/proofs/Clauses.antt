@@ -6,12 +6,10 @@ use Prim.Native.Nat.{ℕ, zero, suc, _*_, _-_, _/_, _%_, _≤_, _<_}
 use native.Mathlib.Nat.{div-add-mod'}
 use lib.ListN.{length, getD}
 use lib.IntN.{ℤ}
-use Rattle.lists.specs.Loop.{for, when}
 use Rattle.lists.specs.Slice.{Wrote}
-use Rattle.lists.proofs.Loops.{for-ext}
 use Rattle.lists.proofs.Blocks.{for1-length, for1-getD, cell-at}
 use Rattle.instance.specs.declared.Sizes.{Sizes}
-use Rattle.formula.specs.Variables.{Literal, X, ¬X}
+use Rattle.formula.specs.Variables.{Literal, ¬X}
 use Rattle.formula.specs.Formula.{Clause, line, noTwo, onward, blockF, blockG}
 use Rattle.formula.specs.Blocks.{Given, blocksAt, block}
 use Rattle.formula.proofs.Places.{two-length, two-getD, others-size, others-getD}
@@ -33,13 +31,9 @@ pair-clause n ¬x {p} {low} {high} q =
 module _ (s : Sizes) (t a : ℕ) where
   open Sizes s using (n, k)
 
-  -- F, by a row that marks the neighbours of v
-  pub onward-clause : (near : ℕ → ℕ → Bool) (v : ℕ) (marks : ℕ → Bool) → v < n → ((w : ℕ) → w < n → marks w ≡ near v w)
-      → getD (blockF s near t a) v [] ≡ onward s marks t a v
-  onward-clause near v marks l h =
-      for1-getD n (λ v. onward s (near v) t a v) [] v l
-      ∙ ap (λ (c : Clause). ¬X s t a v ∷ X s (suc t) a v ∷ c)
-      (for-ext n _ _ (λ w l. ap (λ (b : Bool). when b (X s (suc t) a w ∷ [])) (sym (h w l))))
+  -- F, of vertex v
+  pub onward-clause : (near : ℕ → ℕ → Bool) (v : ℕ) → v < n → getD (blockF s near t a) v [] ≡ onward s (near v) t a v
+  onward-clause near v l = for1-getD n (λ v. onward s (near v) t a v) [] v l
 
   -- G, by the agent b at place p / n among those other than a
   pub other-clause : a < k → (p b : ℕ) → p < (k - 1) * n → (p / n < a → b ≡ p / n) → (a ≤ p / n → b ≡ suc (p / n))

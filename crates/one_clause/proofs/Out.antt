@@ -4,8 +4,9 @@ use mathlib.Core.List.{List, [], _∷_}
 use Prim.Native.Nat.{ℕ, _≤_, _<_}
 use native.Mathlib.Omega.{arith}
 use lib.IntN.{ℤ}
-use lib.ListN.{length, getD, take, drop, length-append}
+use lib.ListN.{length, take, drop, length-append}
 use lib.Dec.{leb, ltb}
+use Rattle.lists.specs.Loop.{for}
 use Rattle.lists.specs.Slice.{filled, Wrote}
 use Rattle.lists.proofs.Tests.{leb-iff, ltb-iff}
 use Rattle.lists.proofs.Loops.{getD-mem}
@@ -17,12 +18,15 @@ use Rattle.instance.specs.declared.Checked.{Checked}
 use Rattle.instance.specs.Instance.{Instance}
 use Rattle.instance.specs.Accepted.{Accepted, instanceOf}
 use Rattle.instance.proofs.Accepted.{sizes-same, graph, limits-known}
-use Rattle.formula.specs.Formula.{clauses, line}
+use Rattle.formula.specs.Formula.{Clause, clauses}
+use Rattle.formula.specs.Blocks.{held, family}
 use Rattle.formula.specs.Counts.{clauseCount}
 use Rattle.formula.proofs.Counts.{clause-count}
 use Rattle.formula.proofs.Limits.{clause-most}
+use Rattle.formula.proofs.Held.{families-held}
 use Rattle.calls.specs.Questions.{question12}
 use Rattle.calls.specs.Calls.{clauseWords, clauseRest}
+use Rattle.one_clause.specs.Spot.{lineAt}
 
 -- 11 and 12 of an accepted instance, for a slice of the given size
 module _ (b : List ℕ) (c : Checked) (w : Accepted b c) (number size : ℕ) where
@@ -64,10 +68,14 @@ pub fits : (out f g : List ℤ) {r : ℕ} → Wrote out f g r → r ≤ length g
 unfolding filled
 fits out f g p = omega (arith, p .0, ap length (p .1), length-append out (drop (length out) f))
 
--- a clause with its 0 has at most 66 words
-pub clause-short : (b : List ℕ) (c : Checked) → Accepted b c → (number : ℕ) → number < clauseCount (c .sizes)
-    → length (line (getD (clauses (instanceOf b c)) number [])) ≤ 66
-clause-short b c w number l =
-    let I : Instance = instanceOf b c in
-    clause-most I (graph b c w) (rw (← (sizes-same b c w)) (limits-known b c w .n-most)) _
-    (getD-mem [] (clauses I) number (rw (clause-count I, ← (sizes-same b c w)) l))
+-- the clause, as it is put together from what the code holds; with its 0 it has at most 66 words
+module _ (b : List ℕ) (c : Checked) (w : Accepted b c) (number : ℕ) where
+  pub clause-held : clauseWords (instanceOf b c) number ≡ lineAt (for 7 (family (held c))) number
+  clause-held = ap (λ (cs : List Clause). lineAt cs number) (families-held b c w)
+
+  pub clause-short : number < clauseCount (c .sizes) → length (lineAt (for 7 (family (held c))) number) ≤ 66
+  clause-short l =
+      let I : Instance = instanceOf b c in
+      rw (← clause-held)
+      (clause-most I (graph b c w) (rw (← (sizes-same b c w)) (limits-known b c w .n-most)) _
+      (getD-mem [] (clauses I) number (rw (clause-count I, ← (sizes-same b c w)) l)))

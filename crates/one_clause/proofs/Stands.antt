@@ -1,22 +1,15 @@
 -- From a clause's number to its family, to the block in it and to the place in the block.
 use mathlib.Core.Path.{_≡_, refl, sym, _∙_, ap}
-use mathlib.Core.List.{List, []}
+use mathlib.Core.List.{[]}
 use Prim.Native.Nat.{ℕ, zero, suc, _+_, _*_, _-_, _/_, _%_, _<_}
 use native.Mathlib.Nat.{mul-one, mul-assoc, div-add-mod'}
 use native.Mathlib.Omega.{arith}
 use lib.ListN.{length, getD}
 use Rattle.lists.specs.Loop.{for}
-use Rattle.lists.proofs.Loops.{for-ext}
 use Rattle.lists.proofs.Blocks.{cell-at}
 use Rattle.lists.proofs.Sums.{sum-ext, for-at}
 use Rattle.instance.specs.declared.Sizes.{Sizes}
-use Rattle.instance.specs.declared.Checked.{Checked}
-use Rattle.instance.specs.Instance.{Instance}
-use Rattle.instance.specs.Accepted.{Accepted, instanceOf}
-use Rattle.instance.proofs.Accepted.{sizes-same, start-at, goal-at}
-use Rattle.formula.specs.Formula.{Clause, clauses}
-use Rattle.formula.specs.Blocks.{Given, given, times, blocksAt, block, family, heldBy}
-use Rattle.formula.proofs.Blocks.{clauses-families, Same, family-same}
+use Rattle.formula.specs.Blocks.{Given, times, blocksAt, block, family}
 use Rattle.formula.proofs.Places.{family-length, family-getD}
 use Rattle.one_clause.specs.Spot.{count, countEach, Stands}
 use Rattle.one_clause.proofs.Clauses.{block-length}
@@ -33,40 +26,29 @@ count-blocks s (suc (suc (suc (suc (suc (suc zero)))))) = mul-assoc (s .m * s .k
 count-blocks s (suc (suc (suc (suc (suc (suc (suc j))))))) = refl
 
 -- Place number `place` of family j, where a block has `each` clauses and a time has `width` blocks. It is clause number `number`.
-pub record Found (b : List ℕ) (c : Checked) (number j each width place : ℕ) : Type 0 where
+pub record Found (g : Given) (number j each width place : ℕ) : Type 0 where
   pub some : 0 < each
   pub wide : 0 < width
-  pub step : place / each / width < times (c .sizes) j
-  pub cell : place / each % width < blocksAt (c .sizes) j
-  pub inside : place % each < countEach (c .sizes) j
-  pub same : getD (clauses (instanceOf b c)) number [] ≡ getD (block (heldBy b c) j (place / each / width) (place / each % width)) (place % each) []
+  pub step : place / each / width < times (g .sizes) j
+  pub cell : place / each % width < blocksAt (g .sizes) j
+  pub inside : place % each < countEach (g .sizes) j
+  pub same : getD (for 7 (family g)) number [] ≡ getD (block g j (place / each / width) (place / each % width)) (place % each) []
 
-module _ (b : List ℕ) (c : Checked) (w : Accepted b c) where
-  abbrev I : Instance
-  I = instanceOf b c
+module _ (g : Given) where
+  abbrev s : Sizes
+  s = g .sizes
 
-  abbrev g : Given
-  g = heldBy b c
+  family-count : (j : ℕ) → length (family g j) ≡ count s j
+  family-count j = family-length g j (countEach s j) (block-length g j) ∙ sym (count-blocks s j)
 
-  families-held : clauses I ≡ for 7 (family g)
-  families-held = clauses-families I ∙ for-ext 7 _ _ (λ j l. sym (family-same g (given I) same j))
-    where
-      same : Same g (given I)
-      same = record { sizes = sizes-same b c w; start = start-at b c w; goal = goal-at b c w; near = λ v w p q. refl }
-
-  family-count : (j : ℕ) → length (family g j) ≡ count (c .sizes) j
-  family-count j = family-length g j (countEach (c .sizes) j) (block-length g j) ∙ sym (count-blocks (c .sizes) j)
-
-  module _ {number j each place : ℕ} (q : Stands (c .sizes) number j each place) where
-    in-family : getD (clauses I) number [] ≡ getD (family g j) place []
+  module _ {number j each place : ℕ} (q : Stands s number j each place) where
+    in-family : getD (for 7 (family g)) number [] ≡ getD (family g j) place []
     in-family =
-        ap (λ (l : List Clause). getD l number []) families-held
-        ∙ ap (λ (x : ℕ). getD (for 7 (family g)) x []) (q .at ∙ ap (λ (x : ℕ). x + place) (sum-ext j _ _ (λ u l. sym (family-count u))))
+        ap (λ (x : ℕ). getD (for 7 (family g)) x []) (q .at ∙ ap (λ (x : ℕ). x + place) (sum-ext j _ _ (λ u l. sym (family-count u))))
         ∙ for-at 7 (family g) [] j place (q .seven) (rw (family-count j) (q .inside))
 
-    pub found : {width : ℕ} → width ≡ blocksAt (c .sizes) j → Found b c number j each width place
+    pub found : {width : ℕ} → width ≡ blocksAt s j → Found g number j each width place
     found {width} e =
-        let s = c .sizes in
         let d = countEach s j in
         let (some, (i, p)) = cell-at (times s j * blocksAt s j) d place (rw (count-blocks s j) at (q .inside)) in
         let (wide, (t, x)) = cell-at (times s j) (blocksAt s j) (place / d) i in

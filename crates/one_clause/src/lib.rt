@@ -1,6 +1,5 @@
 // One clause of the formula, asked by number.
 use answers::Answer;
-use instance::Checked;
 use instance::Sizes;
 use variables::Agent;
 use variables::Step;
@@ -9,13 +8,13 @@ ghost use mathlib.Core.Path.{_≡_};
 ghost use mathlib.Core.List.{[], _∷_};
 ghost use Prim.Native.Nat.{suc, _*_, _-_, _≤_, _<_};
 ghost use lib.ListN.{length, getD, take};
-ghost use Rattle.lists.specs.Loop.{sum, pairs};
+ghost use Rattle.lists.specs.Loop.{for, sum, pairs};
 ghost use Rattle.lists.specs.Slice.{filled, Wrote};
 ghost use Rattle.instance.specs.Limits.{Limits};
-ghost use Rattle.instance.specs.Accepted.{Accepted, instanceOf};
+ghost use Rattle.instance.specs.Ready.{Ready};
 ghost use Rattle.formula.specs.Variables.{X};
-ghost use Rattle.formula.specs.Formula.{line, blockD, blockE, blockF, blockG, clauses};
-ghost use Rattle.formula.specs.Blocks.{times, blocksAt, block, heldBy};
+ghost use Rattle.formula.specs.Formula.{line, blockD, blockE, blockG};
+ghost use Rattle.formula.specs.Blocks.{times, blocksAt, heldIn, block, family};
 ghost use Rattle.formula.specs.Counts.{clausesBy, total, clauseCount};
 ghost use Rattle.calls.specs.Calls.{clauseAnswer, clauseSlice};
 ghost use Rattle.one_clause.specs.Spot.{count, countEach, Stands, PairAt, lineAt};
@@ -97,10 +96,10 @@ fn pair_of(n: usize, p: usize) -> Pair
 }
 
 // Family A: agent a is at its start; family B: at its goal. Byte a of the row names its vertex.
-fn put_end_of(f: &mut [i32], s: Sizes, t: Step, row: [u8; 16], a: usize) -> usize
+fn put_end_of(f: &mut [i32], s: Sizes, t: Step, row: &[u8; 16], a: usize) -> usize
     requires { ⌜ Limits s ⌝ }
-    requires { ⌜ (t .0 ≤ s .m) × (a < s .k) × (getD row a 0 < s .n) × (2 ≤ length (now f)) ⌝ }
-    ensures { λ r. ⌜ Wrote (line (X s (t .0) a (getD row a 0) ∷ [])) (now (f .entry)) (now (f .exit)) r ⌝ }
+    requires { ⌜ (t .0 ≤ s .m) × (a < s .k) × (getD (now row) a 0 < s .n) × (2 ≤ length (now f)) ⌝ }
+    ensures { λ r. ⌜ Wrote (line (X s (t .0) a (getD (now (row .entry)) a 0) ∷ [])) (now (f .entry)) (now (f .exit)) r ⌝ }
 {
     let v = row[a];
     clauses::put_unit(f, clauses::positive(s, t, Agent(a), Vertex(v as usize)))
@@ -136,17 +135,6 @@ fn put_e(f: &mut [i32], s: Sizes, t: Step, v: Vertex, p: usize) -> usize
     )
 }
 
-// Family F: the clause of vertex v, of time t and agent a.
-fn put_f(f: &mut [i32], b: &[u8], c: Checked, t: Step, a: Agent, v: usize) -> usize
-    requires { ⌜ Accepted (now b) c ⌝ }
-    requires { ⌜ (t .0 < c .sizes .m) × (a .0 < c .sizes .k) × (v < c .sizes .n) ⌝ }
-    requires { ⌜ length (lineAt (blockF (c .sizes) (heldBy (now b) c .near) (t .0) (a .0)) v) ≤ length (now f) ⌝ }
-    ensures { λ r. ⌜ Wrote (lineAt (blockF (c .sizes) (heldBy (now (b .entry)) c .near) (t .0) (a .0)) v) (now (f .entry)) (now (f .exit)) r ⌝ }
-{
-    let near = neighbours::row_of(b, c, v);
-    clauses::put_onward(f, c.sizes, &near, 0, t, a, Vertex(v))
-}
-
 // The agent at a place among those other than a.
 fn other(a: usize, place: usize) -> usize
     requires { ⌜ place < 16 ⌝ }
@@ -178,49 +166,60 @@ fn put_g(f: &mut [i32], s: Sizes, t: Step, a: Agent, p: usize) -> usize
 // The clause at a place of the block of t and x, in the family with a number.
 fn put_clause(
     f: &mut [i32],
-    b: &[u8],
-    c: Checked,
+    s: Sizes,
+    starts: &[u8; 16],
+    goals: &[u8; 16],
+    near: &[u64; 64],
     which: usize,
     t: usize,
     x: usize,
     place: usize,
 ) -> usize
-    requires { ⌜ Accepted (now b) c ⌝ }
-    requires { ⌜ (which < 7) × (t < times (c .sizes) which) × (x < blocksAt (c .sizes) which) × (place < countEach (c .sizes) which) ⌝ }
-    requires { ⌜ length (lineAt (block (heldBy (now b) c) which t x) place) ≤ length (now f) ⌝ }
-    ensures { λ r. ⌜ Wrote (lineAt (block (heldBy (now (b .entry)) c) which t x) place) (now (f .entry)) (now (f .exit)) r ⌝ }
+    requires { ⌜ Ready s (now starts) (now goals) (now near) ⌝ }
+    requires { ⌜ (which < 7) × (t < times s which) × (x < blocksAt s which) × (place < countEach s which) ⌝ }
+    requires { ⌜ length (lineAt (block (heldIn s (now starts) (now goals) (now near)) which t x) place) ≤ length (now f) ⌝ }
+    ensures { λ r. ⌜ Wrote (lineAt (block (heldIn s (now (starts .entry)) (now (goals .entry)) (now (near .entry))) which t x) place) (now (f .entry)) (now (f .exit)) r ⌝ }
 {
-    let s = c.sizes;
     match which {
-        0 => {
-            let starts = c.starts;
-            put_end_of(f, s, Step(0), starts, x)
-        }
-        1 => {
-            let goals = c.goals;
-            put_end_of(f, s, Step(s.m), goals, x)
-        }
+        0 => put_end_of(f, s, Step(0), starts, x),
+        1 => put_end_of(f, s, Step(s.m), goals, x),
         2 => clauses::put_somewhere(f, s, Step(t), Agent(x)),
         3 => put_d(f, s, Step(t), Agent(x), place),
         4 => put_e(f, s, Step(t), Vertex(x), place),
-        5 => put_f(f, b, c, Step(t), Agent(x), place),
+        5 => clauses::put_onward(f, s, near[place], Step(t), Agent(x), Vertex(place)),
         _ => put_g(f, s, Step(t), Agent(x), place),
     }
 }
 
 // The clause with a number.
-fn put_number(f: &mut [i32], b: &[u8], c: Checked, number: usize) -> usize
-    requires { ⌜ Accepted (now b) c ⌝ }
-    requires { ⌜ (number < clauseCount (c .sizes)) × (length (lineAt (clauses (instanceOf (now b) c)) number) ≤ length (now f)) ⌝ }
-    ensures { λ r. ⌜ Wrote (lineAt (clauses (instanceOf (now (b .entry)) c)) number) (now (f .entry)) (now (f .exit)) r ⌝ }
+fn put_number(
+    f: &mut [i32],
+    s: Sizes,
+    starts: &[u8; 16],
+    goals: &[u8; 16],
+    near: &[u64; 64],
+    number: usize,
+) -> usize
+    requires { ⌜ Ready s (now starts) (now goals) (now near) ⌝ }
+    requires { ⌜ (number < clauseCount s) × (length (lineAt (for 7 (family (heldIn s (now starts) (now goals) (now near)))) number) ≤ length (now f)) ⌝ }
+    ensures { λ r. ⌜ Wrote (lineAt (for 7 (family (heldIn s (now (starts .entry)) (now (goals .entry)) (now (near .entry))))) number) (now (f .entry)) (now (f .exit)) r ⌝ }
 {
-    let s = c.sizes;
     let spot = spot_of(s, number);
     let which = spot.0;
     let each = spot.1;
     let block = spot.2 / each;
     let width = counts::blocks_at(s, which);
-    put_clause(f, b, c, which, block / width, block % width, spot.2 % each)
+    put_clause(
+        f,
+        s,
+        starts,
+        goals,
+        near,
+        which,
+        block / width,
+        block % width,
+        spot.2 % each,
+    )
 }
 
 // The first words of one slice, copied to the start of another.
@@ -252,8 +251,10 @@ pub fn clause(b: &[u8], m: usize, number: usize, f: &mut [i32]) -> Answer
             second: count,
         };
     }
+    let starts = c.starts;
+    let goals = c.goals;
     let mut line = [0i32; 66];
-    let words = put_number(&mut line, b, c, number);
+    let words = put_number(&mut line, s, &starts, &goals, &c.near, number);
     if f.len() < words {
         return Answer {
             number: 12,

@@ -1,7 +1,7 @@
 -- Rows as parts of a plan's bytes, and what the conditions depend on.
 use mathlib.Core.Path.{_≡_, sym, _∙_, ap, ap₂}
 use mathlib.Core.List.{List}
-use mathlib.Core.Bool.{not, _||_}
+use mathlib.Core.Bool.{Bool, not, _||_}
 use Prim.Native.Nat.{ℕ, zero, suc, _+_, _*_, _-_, _≤_, _<_}
 use native.Mathlib.Nat.{suc-mul, mul-le-mul-right}
 use native.Mathlib.Numerals.{add-one}
@@ -13,7 +13,6 @@ use Rattle.lists.proofs.Tests.{every-ext}
 use Rattle.answers.specs.Fault.{FirstFault}
 use Rattle.answers.proofs.Faults.{fault-ext}
 use Rattle.instance.specs.declared.Sizes.{Sizes}
-use Rattle.instance.specs.Instance.{Instance}
 use Rattle.plan.specs.Plan.{Row, row, planBytes, planRow, condition, condition1, condition2, condition3}
 
 -- ---- rows t and t + 1 stand within the plan
@@ -41,26 +40,33 @@ part-length p from to h l = length-take-le (to - from) (drop from p) (simp lengt
 part-at : (p : List ℕ) (from to a : ℕ) → a < to - from → row (take (to - from) (drop from p)) a ≡ getD p (from + a) 0
 part-at p from to a l = getD-take (to - from) (drop from p) a 0 l ∙ getD-drop from p a 0
 
+-- a bound on all bytes is one on a part
+pub part-below : (p : List ℕ) (x : ℕ) → ((i : ℕ) → i < length p → getD p i 0 < x) → (from to : ℕ) → from ≤ to → to ≤ length p
+    → (i : ℕ) → i < length (take (to - from) (drop from p)) → getD (take (to - from) (drop from p)) i 0 < x
+part-below p x f from to h l i q =
+    let q′ : i < to - from = omega (arith, part-length p from to h l) in
+    rw (part-at p from to i q′) (f (from + i) (omega arith))
+
 -- ---- the conditions depend on the rows only as far as agents go
-condition-same : (I : Instance) (which : ℕ) (here next here′ next′ : Row)
-    → ((a : ℕ) → a < I .sizes .k → here a ≡ here′ a) → ((a : ℕ) → a < I .sizes .k → next a ≡ next′ a)
-    → (a : ℕ) → a < I .sizes .k → condition I which here next a ≡ condition I which here′ next′ a
+condition-same : (s : Sizes) (near : ℕ → ℕ → Bool) (which : ℕ) (here next here′ next′ : Row)
+    → ((a : ℕ) → a < s .k → here a ≡ here′ a) → ((a : ℕ) → a < s .k → next a ≡ next′ a)
+    → (a : ℕ) → a < s .k → condition s near which here next a ≡ condition s near which here′ next′ a
 unfolding condition1 condition2 condition3
-condition-same I zero here next here′ next′ e f a l = rw (e a l, f a l)
-condition-same I (suc zero) here next here′ next′ e f a l =
-    ap₂ _||_ (ap₂ eqb (e a l) (f a l)) (every-ext (I .sizes .k) _ _ (λ b h. ap₂ (λ (x y : ℕ). not (eqb x y)) (e b h) (f a l)))
-condition-same I (suc (suc which)) here next here′ next′ e f a l =
+condition-same s near zero here next here′ next′ e f a l = rw (e a l, f a l)
+condition-same s near (suc zero) here next here′ next′ e f a l =
+    ap₂ _||_ (ap₂ eqb (e a l) (f a l)) (every-ext (s .k) _ _ (λ b h. ap₂ (λ (x y : ℕ). not (eqb x y)) (e b h) (f a l)))
+condition-same s near (suc (suc which)) here next here′ next′ e f a l =
     every-ext a _ _ (λ b h. ap₂ (λ (x y : ℕ). not (eqb x y)) (f b (omega arith)) (f a l))
 
 -- what a loop over the agents finds in the two parts, it finds in rows t and t + 1 of the plan
-pub step-fault : (I : Instance) (s : Sizes) → s .k ≡ I .sizes .k → (which : ℕ) (p : List ℕ) (t r : ℕ)
-    → FirstFault (s .k) (condition I which (row (take (t * s .k + s .k - t * s .k) (drop (t * s .k) p))) (row (take (t * s .k + s .k + s .k - (t * s .k + s .k)) (drop (t * s .k + s .k) p)))) r
-    → FirstFault (s .k) (condition I which (planRow s p t) (planRow s p (suc t))) r
-step-fault I s e which p t r f =
+pub step-fault : (s : Sizes) (near : ℕ → ℕ → Bool) (which : ℕ) (p : List ℕ) (t r : ℕ)
+    → FirstFault (s .k) (condition s near which (row (take (t * s .k + s .k - t * s .k) (drop (t * s .k) p))) (row (take (t * s .k + s .k + s .k - (t * s .k + s .k)) (drop (t * s .k + s .k) p)))) r
+    → FirstFault (s .k) (condition s near which (planRow s p t) (planRow s p (suc t))) r
+step-fault s near which p t r f =
     fault-ext
     (λ a l.
-    condition-same I which _ _ _ _
+    condition-same s near which _ _ _ _
     (λ i h. part-at p (t * s .k) (t * s .k + s .k) i (omega arith))
     (λ i h. part-at p (t * s .k + s .k) (t * s .k + s .k + s .k) i (omega arith) ∙ ap (λ (x : ℕ). getD p (x + i) 0) (sym (suc-mul t (s .k))))
-    a (omega arith))
+    a l)
     f

@@ -6,7 +6,6 @@ use lib.ListN.{length, getD}
 use lib.Dec.{eqb}
 use Rattle.lists.specs.Loop.{for, unless, every, unlikeEarlier}
 use Rattle.instance.specs.declared.Sizes.{Sizes}
-use Rattle.instance.specs.Instance.{Instance, adjacent}
 
 -- a row: the vertex of each agent at one time
 abbrev pub Row : Type 0
@@ -46,10 +45,10 @@ unfoldable pub condition3 : Row → ℕ → Bool
 condition3 next a = unlikeEarlier next a
 
 -- the three by number: 0, 1 and 2 for conditions 1, 2 and 3; a higher number counts as 2
-abbrev pub condition : Instance → ℕ → Row → Row → ℕ → Bool
-condition I zero here next a = condition1 (adjacent I) here next a
-condition I (suc zero) here next a = condition2 (I .sizes) here next a
-condition I (suc (suc which)) here next a = condition3 next a
+abbrev pub condition : Sizes → (ℕ → ℕ → Bool) → ℕ → Row → Row → ℕ → Bool
+condition s near zero here next a = condition1 near here next a
+condition s near (suc zero) here next a = condition2 s here next a
+condition s near (suc (suc which)) here next a = condition3 next a
 
 -- the number of steps of a plan: they lie between its rows of k bytes
 abbrev pub makespan : ℕ → List ℕ → ℕ

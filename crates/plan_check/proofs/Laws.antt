@@ -10,7 +10,7 @@ use native.Mathlib.Omega.{arith}
 use lib.ListN.{length, getD, length-append}
 use lib.Dec.{T, eqb, ltb}
 use Rattle.lists.specs.Loop.{for, unless, all}
-use Rattle.lists.proofs.Tests.{and-iff, eqb-iff}
+use Rattle.lists.proofs.Tests.{and-iff, eqb-iff, ltb-iff}
 use Rattle.lists.proofs.Loops.{for-all}
 use Rattle.answers.specs.declared.Answer.{Answer}
 use Rattle.answers.specs.Answers.{Question, refuse, accept, askEach, decide}
@@ -19,13 +19,16 @@ use Rattle.answers.proofs.Laws.{numbered, each-all, decide-iff, decide-count, d
 use Rattle.answers.proofs.Faults.{fault-ext}
 use Rattle.instance.specs.declared.Sizes.{Sizes}
 use Rattle.instance.specs.declared.Checked.{Checked}
-use Rattle.instance.specs.Instance.{Instance}
+use Rattle.instance.specs.Instance.{Instance, adjacent, joined}
 use Rattle.plan.specs.Plan.{planBytes, planIndex, planRow, condition, cost}
 use Rattle.calls.specs.Questions.{question13, question18, question20, question21, question22}
 use Rattle.calls.specs.Calls.{stepQuestions, planQuestions, checkRest}
 use Rattle.instance.specs.Accepted.{Accepted, instanceOf}
-use Rattle.instance.proofs.Accepted.{sizes-same, limits-known, start-at, goal-at}
+use Rattle.instance.specs.Limits.{Limits}
+use Rattle.instance.specs.Shows.{ShowsGraph, Shows}
+use Rattle.instance.proofs.Accepted.{sizes-same}
 use Rattle.calls.proofs.Plan.{numbered-plan}
+use Rattle.conditions.specs.Inside.{Inside}
 
 -- ---- counting the moves of a step, agent by agent
 module _ (test : ℕ → Bool) (a moves : ℕ) (e : moves ≡ length (for a λ i. unless (test i) i)) where
@@ -60,15 +63,20 @@ module _ (I : Instance) (k : ℕ) (ek : k ≡ I .sizes .k) (test : ℕ → Bool)
 pub numbered-step : (I : Instance) (p : List ℕ) (t : ℕ) → T (all numbered (stepQuestions I p t))
 numbered-step I p t = simp (and-iff, each-all) ((λ a l f. tt), ((λ a l f. tt), ((λ a l f. tt), tt)))
 
-module _ (I : Instance) (s : Sizes) (es : s ≡ I .sizes) (p : List ℕ) (t : ℕ) where
-  -- the first agent that fails a condition between rows t and t + 1
-  abbrev Fails : ℕ → ℕ → Type 0
-  Fails which r = FirstFault (s .k) (condition I which (planRow s p t) (planRow s p (suc t))) r
+module _ (I : Instance) (s : Sizes) (words : List ℕ) (same : ShowsGraph I s words) (p : List ℕ) (t : ℕ) where
+  es : s ≡ I .sizes
+  es = same .sizes
 
-  fails : (which r : ℕ) → Fails which r → FirstFault (I .sizes .k) (condition I which (planRow (I .sizes) p t) (planRow (I .sizes) p (suc t))) r
-  fails which r f = subst (λ (z : Sizes). FirstFault (z .k) (condition I which (planRow z p t) (planRow z p (suc t))) r) es f
+  -- the first agent that fails a condition between rows t and t + 1, for a test of neighbours
+  abbrev Fails : Sizes → (ℕ → ℕ → Bool) → ℕ → ℕ → Type 0
+  Fails z near which r = FirstFault (z .k) (condition z near which (planRow z p t) (planRow z p (suc t))) r
 
-  module _ (x y z : ℕ) (f : Fails 0 x) (g : Fails 1 y) (h : Fails 2 z) where
+  fails : (which r : ℕ) → Fails s (joined words) which r → Fails (I .sizes) (adjacent I) which r
+  fails which r f =
+      subst (λ (near : ℕ → ℕ → Bool). Fails (I .sizes) near which r) (same .words)
+      (subst (λ (z : Sizes). Fails z (joined words) which r) es f)
+
+  module _ (x y z : ℕ) (f : Fails s (joined words) 0 x) (g : Fails s (joined words) 1 y) (h : Fails s (joined words) 2 z) where
     ek : s .k ≡ I .sizes .k
     ek = ap (λ (z : Sizes). z .k) es
 
@@ -99,69 +107,73 @@ pub record Room (s : Sizes) (p : List ℕ) : Type 0 where
   pub k-most : s .k ≤ 16
   pub m-most : s .m ≤ 32
 
-pub room : (b : List ℕ) (c : Checked) → Accepted b c → (p : List ℕ) → length p ≡ planBytes (c .sizes) → Room (c .sizes) p
-room b c w p e =
+pub room : (s : Sizes) → Limits s → (p : List ℕ) → length p ≡ planBytes s → Room s p
+room s w p e =
     record {
-      last = sym (e ∙ suc-mul (c .sizes .m) (c .sizes .k));
-      k-most = limits-known b c w .k-most;
-      m-most = limits-known b c w .m-most;
+      last = sym (e ∙ suc-mul (s .m) (s .k));
+      k-most = w .k-most;
+      m-most = w .m-most;
     }
 
+-- every byte that passes 17 has a word, and a bit in each
+pub inside : (s : Sizes) → Limits s → (p : List ℕ) (r : ℕ) → FirstFault (length p) (λ i. ltb (getD p i 0) (s .n)) r → length p ≤ r → Inside p
+inside s w p r f l i q = omega (arith, ltb-iff (getD p i 0) (s .n) .0 (f .before i (omega arith)), w .n-most)
+
 -- ---- 17 to 22, of a plan of the right length
-module _ (b : List ℕ) (c : Checked) (w : Accepted b c) (p : List ℕ) (ep : length p ≡ planBytes (c .sizes)) where
+module _ (I : Instance) (s : Sizes) (starts goals near : List ℕ) (w : Shows I s starts goals near) (p : List ℕ) (ep : length p ≡ planBytes s) where
   abbrev pub stepsQuestions : List Question
-  stepsQuestions = for (instanceOf b c .sizes .m) (stepQuestions (instanceOf b c) p)
+  stepsQuestions = for (I .sizes .m) (stepQuestions I p)
 
   abbrev pub goalQuestions : List Question
-  goalQuestions = question22 (instanceOf b c) p ∷ []
+  goalQuestions = question22 I p ∷ []
 
-  same-sizes : instanceOf b c .sizes ≡ c .sizes
-  same-sizes = sym (sizes-same b c w)
+  same-sizes : I .sizes ≡ s
+  same-sizes = sym (w .graph .sizes)
 
-  module _ (r : ℕ) (f : FirstFault (length p) (λ i. ltb (getD p i 0) (c .sizes .n)) r) where
-    bytes-fault : FirstFault (planBytes (instanceOf b c .sizes)) (λ i. ltb (getD p i 0) (instanceOf b c .sizes .n)) r
+  module _ (r : ℕ) (f : FirstFault (length p) (λ i. ltb (getD p i 0) (s .n)) r) where
+    bytes-fault : FirstFault (planBytes (I .sizes)) (λ i. ltb (getD p i 0) (I .sizes .n)) r
     bytes-fault = subst (λ (z : Sizes). FirstFault (planBytes z) (λ i. ltb (getD p i 0) (z .n)) r) (sym same-sizes) (rw ep at f)
 
-    size-same : length p ≡ planBytes (instanceOf b c .sizes)
+    size-same : length p ≡ planBytes (I .sizes)
     size-same = ep ∙ ap planBytes (sym same-sizes)
 
-    pub stop-17 : r < length p → refuse 17 r ≡ decide (planQuestions (instanceOf b c) p) 0
+    pub stop-17 : r < length p → refuse 17 r ≡ decide (planQuestions I p) 0
     unfolding planQuestions
     stop-17 l = sym (fault-stop bytes-fault (refuse 17) _ 0 (rw (← size-same) l))
 
-    pub pass-17 : length p ≤ r → decide (question18 (instanceOf b c) p ∷ stepsQuestions ++ goalQuestions) 0 ≡ decide (planQuestions (instanceOf b c) p) 0
+    pub pass-17 : length p ≤ r → decide (question18 I p ∷ stepsQuestions ++ goalQuestions) 0 ≡ decide (planQuestions I p) 0
     unfolding planQuestions
     pass-17 l = sym (fault-pass bytes-fault (refuse 17) _ 0 (rw (← size-same) l))
 
   -- a row compared with an array
-  row-is : (row at : ℕ) → at ≡ row * c .sizes .k → (wanted : List ℕ) (vertex : ℕ → ℕ)
-      → ((a : ℕ) → a < c .sizes .k → getD wanted a 0 ≡ vertex a) → (r : ℕ)
-      → FirstFault (c .sizes .k) (λ a. eqb (getD p (at + a) 0) (getD wanted a 0)) r
-      → FirstFault (instanceOf b c .sizes .k) (λ a. eqb (planRow (instanceOf b c .sizes) p row a) (vertex a)) r
+  row-is : (row at : ℕ) → at ≡ row * s .k → (wanted : List ℕ) (vertex : ℕ → ℕ)
+      → ((a : ℕ) → a < s .k → getD wanted a 0 ≡ vertex a) → (r : ℕ)
+      → FirstFault (s .k) (λ a. eqb (getD p (at + a) 0) (getD wanted a 0)) r
+      → FirstFault (I .sizes .k) (λ a. eqb (planRow (I .sizes) p row a) (vertex a)) r
   row-is row at ea wanted vertex h r f =
-      subst (λ (s : Sizes). FirstFault (s .k) (λ a. eqb (planRow s p row a) (vertex a)) r) (sym same-sizes)
+      subst (λ (z : Sizes). FirstFault (z .k) (λ a. eqb (planRow z p row a) (vertex a)) r) (sym same-sizes)
       (fault-ext (λ a l. ap₂ eqb (ap (λ (x : ℕ). getD p (x + a) 0) ea) (h a l)) f)
 
-  agents-same : c .sizes .k ≡ instanceOf b c .sizes .k
-  agents-same = ap (λ (s : Sizes). s .k) (sym same-sizes)
+  agents-same : s .k ≡ I .sizes .k
+  agents-same = ap (λ (z : Sizes). z .k) (sym same-sizes)
 
-  module _ (r : ℕ) (f : FirstFault (c .sizes .k) (λ a. eqb (getD p (0 + a) 0) (getD (c .starts) a 0)) r) (qs : List Question) where
-    start-fault : FirstFault (instanceOf b c .sizes .k) (λ a. eqb (planRow (instanceOf b c .sizes) p 0 a) (instanceOf b c .start a)) r
-    start-fault = row-is 0 0 (sym (zero-mul (c .sizes .k))) (c .starts) (instanceOf b c .start) (start-at b c w) r f
+  module _ (r : ℕ) (f : FirstFault (s .k) (λ a. eqb (getD p (0 + a) 0) (getD starts a 0)) r) (qs : List Question) where
+    start-fault : FirstFault (I .sizes .k) (λ a. eqb (planRow (I .sizes) p 0 a) (I .start a)) r
+    start-fault = row-is 0 0 (sym (zero-mul (s .k))) starts (I .start) (w .starts-at) r f
 
-    pub stop-18 : r < c .sizes .k → refuse 18 r ≡ decide (question18 (instanceOf b c) p ∷ qs) 0
+    pub stop-18 : r < s .k → refuse 18 r ≡ decide (question18 I p ∷ qs) 0
     stop-18 l =
         ap (refuse 18) (sym (zero-add r))
-        ∙ stop-agents (instanceOf b c) (c .sizes .k) agents-same _ r start-fault 18 0 qs 0 (sym (zero-mul (c .sizes .k))) l
+        ∙ stop-agents I (s .k) agents-same _ r start-fault 18 0 qs 0 (sym (zero-mul (s .k))) l
 
-    pub pass-18 : c .sizes .k ≤ r → decide qs 0 ≡ decide (question18 (instanceOf b c) p ∷ qs) 0
-    pass-18 l = pass-agents (instanceOf b c) (c .sizes .k) agents-same _ r start-fault 18 0 qs l
+    pub pass-18 : s .k ≤ r → decide qs 0 ≡ decide (question18 I p ∷ qs) 0
+    pass-18 l = pass-agents I (s .k) agents-same _ r start-fault 18 0 qs l
 
-  module _ (r : Answer) (er : r ≡ decide (for (c .sizes .m + 1 - 1) (stepQuestions (instanceOf b c) p)) 0) where
+  module _ (r : Answer) (er : r ≡ decide (for (s .m + 1 - 1) (stepQuestions I p)) 0) where
     steps-same : r ≡ decide stepsQuestions 0
     steps-same =
-        let e : c .sizes .m + 1 - 1 ≡ c .sizes .m = omega arith in
-        er ∙ ap (λ (x : ℕ). decide (for x (stepQuestions (instanceOf b c) p)) 0) (e ∙ ap (λ (z : Sizes). z .m) (sym same-sizes))
+        let e : s .m + 1 - 1 ≡ s .m = omega arith in
+        er ∙ ap (λ (x : ℕ). decide (for x (stepQuestions I p)) 0) (e ∙ ap (λ (z : Sizes). z .m) (sym same-sizes))
 
     pub stop-steps : r .number ≢ 0 → r ≡ decide (stepsQuestions ++ goalQuestions) 0
     stop-steps d = steps-same ∙ sym (decide-front stepsQuestions goalQuestions 0 (λ z. d (ap (λ (a : Answer). a .number) steps-same ∙ z)))
@@ -169,21 +181,21 @@ module _ (b : List ℕ) (c : Checked) (w : Accepted b c) (p : List ℕ) (ep : le
     pub pass-steps : r .number ≡ 0 → decide goalQuestions 0 ≡ decide (stepsQuestions ++ goalQuestions) 0
     pass-steps e =
         let known : T (all numbered stepsQuestions) =
-        for-all numbered (instanceOf b c .sizes .m) (stepQuestions (instanceOf b c) p) .1 (λ t l. numbered-step (instanceOf b c) p t) in
+        for-all numbered (I .sizes .m) (stepQuestions I p) .1 (λ t l. numbered-step I p t) in
         sym (decide-after stepsQuestions goalQuestions 0 (decide-iff stepsQuestions 0 known .0 (sym (ap (λ (a : Answer). a .number) steps-same) ∙ e)))
 
-  module _ (r : ℕ) (f : FirstFault (c .sizes .k) (λ a. eqb (getD p (c .sizes .m * c .sizes .k + a) 0) (getD (c .goals) a 0)) r) where
-    horizon : c .sizes .m * c .sizes .k ≡ instanceOf b c .sizes .m * c .sizes .k
-    horizon = ap (λ (z : Sizes). z .m * c .sizes .k) (sym same-sizes)
+  module _ (r : ℕ) (f : FirstFault (s .k) (λ a. eqb (getD p (s .m * s .k + a) 0) (getD goals a 0)) r) where
+    horizon : s .m * s .k ≡ I .sizes .m * s .k
+    horizon = ap (λ (z : Sizes). z .m * s .k) (sym same-sizes)
 
-    goal-fault : FirstFault (instanceOf b c .sizes .k) (λ a. eqb (planRow (instanceOf b c .sizes) p (instanceOf b c .sizes .m) a) (instanceOf b c .goal a)) r
-    goal-fault = row-is (instanceOf b c .sizes .m) (c .sizes .m * c .sizes .k) horizon (c .goals) (instanceOf b c .goal) (goal-at b c w) r f
+    goal-fault : FirstFault (I .sizes .k) (λ a. eqb (planRow (I .sizes) p (I .sizes .m) a) (I .goal a)) r
+    goal-fault = row-is (I .sizes .m) (s .m * s .k) horizon goals (I .goal) (w .goals-at) r f
 
-    pub stop-22 : r < c .sizes .k → refuse 22 (c .sizes .m * c .sizes .k + r) ≡ decide goalQuestions 0
-    stop-22 l = stop-agents (instanceOf b c) (c .sizes .k) agents-same _ r goal-fault 22 (instanceOf b c .sizes .m) [] _ horizon l
+    pub stop-22 : r < s .k → refuse 22 (s .m * s .k + r) ≡ decide goalQuestions 0
+    stop-22 l = stop-agents I (s .k) agents-same _ r goal-fault 22 (I .sizes .m) [] _ horizon l
 
-    pub pass-22 : c .sizes .k ≤ r → accept 0 ≡ decide goalQuestions 0
-    pass-22 l = asked-all ∙ pass-agents (instanceOf b c) (c .sizes .k) agents-same _ r goal-fault 22 (instanceOf b c .sizes .m) [] l
+    pub pass-22 : s .k ≤ r → accept 0 ≡ decide goalQuestions 0
+    pass-22 l = asked-all ∙ pass-agents I (s .k) agents-same _ r goal-fault 22 (I .sizes .m) [] l
 
 -- ---- the whole check: 13, then the plan's questions, which answer r with the count 0
 module _ (b : List ℕ) (c : Checked) (w : Accepted b c) (p : List ℕ) where

@@ -1,6 +1,5 @@
 // The plan check: questions 1 to 10, 13 and 17 to 22, of any bytes and any number given as horizon.
 use answers::Answer;
-use instance::Checked;
 use instance::Sizes;
 ghost use mathlib.Core.Path.{_≡_};
 ghost use Prim.Native.Nat.{_+_, _-_, _<_, _≤_};
@@ -11,21 +10,23 @@ ghost use Rattle.answers.specs.Answers.{decide};
 ghost use Rattle.answers.specs.Fault.{FirstFault};
 ghost use Rattle.plan.specs.Plan.{planBytes, cost};
 ghost use Rattle.calls.specs.Calls.{stepQuestions, planQuestions, checkAnswer};
-ghost use Rattle.instance.specs.Accepted.{Accepted, instanceOf};
+ghost use Rattle.instance.specs.Instance.{Instance};
+ghost use Rattle.instance.specs.Limits.{Limits};
+ghost use Rattle.instance.specs.Shows.{ShowsGraph, Shows};
+ghost use Rattle.conditions.specs.Inside.{Inside};
 ghost use Rattle.plan_check.specs.Steps.{moversIn};
 
 // Questions 19 to 21 of step t.
-fn ask_step(b: &[u8], c: Checked, p: &[u8], t: usize) -> Answer
-    requires { ⌜ Accepted (now b) c ⌝ }
-    requires { ⌜ (length (now p) ≡ planBytes (c .sizes)) × (t < c .sizes .m) ⌝ }
-    ensures { λ r. ⌜ r ≡ decide (stepQuestions (instanceOf (now (b .entry)) c) (now (p .entry)) t) 0 ⌝ }
+fn ask_step(s: Sizes, near: &[u64; 64], p: &[u8], t: usize) -> Answer
+    requires { ⌜ Limits s ⌝ }
+    requires { ⌜ (length (now p) ≡ planBytes s) × (t < s .m) × Inside (now p) ⌝ }
+    ensures { λ r. ⌜ ((I : Instance) → ShowsGraph I s (now (near .entry)) → r ≡ decide (stepQuestions I (now (p .entry)) t) 0) ⌝ }
 {
-    let s = c.sizes;
     let k = s.k;
     let next = (t + 1) * k;
-    let crossing = conditions::step_fault(b, c, 0, p, t);
-    let entering = conditions::step_fault(b, c, 1, p, t);
-    let sharing = conditions::step_fault(b, c, 2, p, t);
+    let crossing = conditions::step_fault(s, near, 0, p, t);
+    let entering = conditions::step_fault(s, near, 1, p, t);
+    let sharing = conditions::step_fault(s, near, 2, p, t);
     if crossing < k {
         return Answer {
             number: 19,
@@ -51,14 +52,14 @@ fn ask_step(b: &[u8], c: Checked, p: &[u8], t: usize) -> Answer
 }
 
 // Questions 19 to 21 of each step between the first `rows` rows, step by step.
-fn ask_steps(b: &[u8], c: Checked, p: &[u8], rows: usize) -> Answer
-    requires { ⌜ Accepted (now b) c ⌝ }
-    requires { ⌜ (length (now p) ≡ planBytes (c .sizes)) × (rows ≤ c .sizes .m + 1) ⌝ }
-    ensures { λ r. ⌜ r ≡ decide (for (rows - 1) (stepQuestions (instanceOf (now (b .entry)) c) (now (p .entry)))) 0 ⌝ }
+fn ask_steps(s: Sizes, near: &[u64; 64], p: &[u8], rows: usize) -> Answer
+    requires { ⌜ Limits s ⌝ }
+    requires { ⌜ (length (now p) ≡ planBytes s) × (rows ≤ s .m + 1) × Inside (now p) ⌝ }
+    ensures { λ r. ⌜ ((I : Instance) → ShowsGraph I s (now (near .entry)) → r ≡ decide (for (rows - 1) (stepQuestions I (now (p .entry)))) 0) ⌝ }
 {
     let mut t: usize = 0;
     while t + 1 < rows {
-        let answer = ask_step(b, c, p, t);
+        let answer = ask_step(s, near, p, t);
         if answer.number != 0 {
             return answer;
         }
@@ -83,9 +84,9 @@ fn byte_fault(p: &[u8], n: usize) -> usize
 }
 
 // The first agent whose byte of a row is not that of the array, or k.
-fn row_fault(p: &[u8], row: usize, k: usize, wanted: [u8; 16]) -> usize
+fn row_fault(p: &[u8], row: usize, k: usize, wanted: &[u8; 16]) -> usize
     requires { ⌜ (row + k ≤ length (now p)) × (k ≤ 16) ⌝ }
-    ensures { λ r. ⌜ FirstFault k (λ a. eqb (getD (now (p .entry)) (row + a) 0) (getD wanted a 0)) r ⌝ }
+    ensures { λ r. ⌜ FirstFault k (λ a. eqb (getD (now (p .entry)) (row + a) 0) (getD (now (wanted .entry)) a 0)) r ⌝ }
 {
     for a in 0..k {
         if p[row + a] != wanted[a] {
@@ -96,12 +97,11 @@ fn row_fault(p: &[u8], row: usize, k: usize, wanted: [u8; 16]) -> usize
 }
 
 // Questions 17 to 22 of a plan of the right length; its count is 0.
-pub fn ask_plan(b: &[u8], c: Checked, p: &[u8]) -> Answer
-    requires { ⌜ Accepted (now b) c ⌝ }
-    requires { ⌜ length (now p) ≡ planBytes (c .sizes) ⌝ }
-    ensures { λ r. ⌜ r ≡ decide (planQuestions (instanceOf (now (b .entry)) c) (now (p .entry))) 0 ⌝ }
+pub fn ask_plan(s: Sizes, starts: &[u8; 16], goals: &[u8; 16], near: &[u64; 64], p: &[u8]) -> Answer
+    requires { ⌜ Limits s ⌝ }
+    requires { ⌜ length (now p) ≡ planBytes s ⌝ }
+    ensures { λ r. ⌜ ((I : Instance) → Shows I s (now (starts .entry)) (now (goals .entry)) (now (near .entry)) → r ≡ decide (planQuestions I (now (p .entry))) 0) ⌝ }
 {
-    let s = c.sizes;
     let n = s.n;
     let k = s.k;
     let i = byte_fault(p, n);
@@ -111,7 +111,6 @@ pub fn ask_plan(b: &[u8], c: Checked, p: &[u8]) -> Answer
             second: i,
         };
     }
-    let starts = c.starts;
     let start = row_fault(p, 0, k, starts);
     if start < k {
         return Answer {
@@ -121,11 +120,10 @@ pub fn ask_plan(b: &[u8], c: Checked, p: &[u8]) -> Answer
     }
     let m = s.m;
     let rows = m + 1;
-    let steps = ask_steps(b, c, p, rows);
+    let steps = ask_steps(s, near, p, rows);
     if steps.number != 0 {
         return steps;
     }
-    let goals = c.goals;
     let last = m * k;
     let goal = row_fault(p, last, k, goals);
     if goal < k {
@@ -188,7 +186,9 @@ pub fn check_plan(b: &[u8], m: usize, p: &[u8]) -> Answer
             second: len,
         };
     }
-    let answer = ask_plan(b, c, p);
+    let starts = c.starts;
+    let goals = c.goals;
+    let answer = ask_plan(s, &starts, &goals, &c.near, p);
     if answer.number != 0 {
         return answer;
     }

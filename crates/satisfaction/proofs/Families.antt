@@ -6,26 +6,26 @@ use Prim.Native.Nat.{ℕ, suc, _+_, _*_, _-_, _/_, _≤_, _<_}
 use native.Mathlib.Decide.{decLt, ℕ-discrete}
 use native.Mathlib.Numerals.{add-one}
 use native.Mathlib.Omega.{arith}
-use lib.ListN.{length, length-append}
+use lib.ListN.{length, getD, length-append}
 use lib.Dec.{T}
 use lib.IntN.{ℤ}
 use Rattle.lists.specs.Loop.{for, all}
-use Rattle.lists.proofs.Loops.{for-length, for-ext, all-append}
+use Rattle.lists.proofs.Loops.{for-length, all-append}
 use Rattle.lists.proofs.Slices.{for-room}
-use Rattle.lists.proofs.Blocks.{for1-length}
+use Rattle.lists.proofs.Blocks.{for1-length, place-split}
 use Rattle.instance.specs.declared.Sizes.{Sizes}
-use Rattle.instance.specs.declared.Checked.{Checked}
 use Rattle.instance.specs.Instance.{Instance}
 use Rattle.formula.specs.Formula.{Clause, clauses}
-use Rattle.formula.specs.Blocks.{Given, given, times, blocksAt, block, family, heldBy}
-use Rattle.formula.proofs.Blocks.{Same, family-blocks, family-same, clauses-families}
+use Rattle.formula.specs.Blocks.{Given, times, blocksAt, block, family, heldIn}
+use Rattle.formula.proofs.Blocks.{family-blocks}
+use Rattle.formula.proofs.Held.{families-shown}
 use Rattle.plan.specs.Plan.{planRow}
 use Rattle.valuation.specs.Valuation.{true?, satisfied?, named}
 use Rattle.valuation.specs.Places.{Places}
 use Rattle.valuation.proofs.Families.{places-cong, read-E}
 use Rattle.valuation.proofs.Entries.{named-places}
-use Rattle.instance.specs.Accepted.{Accepted, instanceOf}
-use Rattle.instance.proofs.Accepted.{sizes-same, start-at, goal-at}
+use Rattle.instance.specs.Shows.{Shows}
+use Rattle.conditions.specs.Inside.{Inside}
 use Rattle.satisfaction.specs.Rows.{Fault, Read, row, Before}
 use Rattle.satisfaction.proofs.Laws.{for-stop, fault-all}
 use Rattle.satisfaction.proofs.Truth.{length-D, length-E, length-F, length-G}
@@ -95,12 +95,10 @@ module _ (g : Given) where
   pub all-families : (es : List ℤ) (at : ℕ) → at ≡ length (for 7 (family g)) → T (all (satisfied? es) (for 7 (family g))) → Fault es (for 7 (family g)) at
   all-families es at e h = rw e (fault-all es (for 7 (family g)) h)
 
--- the formula's families are those of what the code has
-pub whole : (b : List ℕ) (c : Checked) → Accepted b c → (es : List ℤ) (r : ℕ) → Fault es (for 7 (family (heldBy b c))) r → Fault es (clauses (instanceOf b c)) r
-whole b c w es r f =
-    let I = instanceOf b c in
-    let e : Same (heldBy b c) (given I) = record { sizes = sizes-same b c w; start = start-at b c w; goal = goal-at b c w; near = λ u v p q. refl } in
-    subst (λ (L : List Clause). Fault es L r) (for-ext 7 _ _ (λ j l. family-same (heldBy b c) (given I) e j) ∙ sym (clauses-families I)) f
+-- the formula's families are those of the parts that show the instance
+pub whole : (I : Instance) (s : Sizes) (starts goals near : List ℕ) → Shows I s starts goals near → (es : List ℤ) (r : ℕ)
+    → Fault es (for 7 (family (heldIn s starts goals near))) r → Fault es (clauses I) r
+whole I s starts goals near w es r f = subst (λ (L : List Clause). Fault es L r) (sym (families-shown I s starts goals near w)) f
 
 -- ---- of entries that have been read
 -- where one vertex is left to each agent at each time, the pass has found it
@@ -136,6 +134,12 @@ module _ (g : Given) (es : List ℤ) (p : List ℕ) (rd : Read (g .sizes) es p) 
   places which l h =
       let o = named-places sized es (rd .valid) (h 2 (omega arith)) (h 3 (omega arith)) in
       places-cong s (true? es) (named s es) (planRow s p) o (place-named s es p rd o)
+
+  -- every byte then has a word, and a bit in each
+  pub inside : s .n ≤ 64 → (which : ℕ) → 4 ≤ which → Before g es which → Inside p
+  inside h which l o i q =
+      let (t, a, x, y, e) = place-split (suc (s .m)) (s .k) i (rw (rd .size) at q) in
+      omega (arith, places which l o .inside t a x y, ap (λ (j : ℕ). getD p j 0) e)
 
   -- E leaves no vertex to two agents
   pub apart : (which : ℕ) → 5 ≤ which → Before g es which → (t : ℕ) → t < suc (s .m) → (i j : ℕ) → i < j → j < s .k → planRow s p t i ≢ planRow s p t j

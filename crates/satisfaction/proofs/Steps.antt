@@ -1,8 +1,8 @@
 -- The rows of a plan alone: the lowest vertex that two agents share, one agent more at a time; and an agent that fails condition 2.
-use mathlib.Core.Path.{_≡_, sym, _∙_, subst}
+use mathlib.Core.Path.{_≡_, sym, _∙_}
 use mathlib.Core.List.{List}
 use mathlib.Core.Logic.{_↔_, _≢_, by-cases}
-use mathlib.Core.Bool.{not, _||_}
+use mathlib.Core.Bool.{Bool, not, _||_}
 use Prim.Native.Nat.{ℕ, suc, _+_, _*_, _≤_, _<_}
 use native.Mathlib.Nat.{suc-mul}
 use native.Mathlib.Decide.{decLt, ℕ-discrete}
@@ -11,7 +11,6 @@ use lib.ListN.{getD}
 use lib.Dec.{T, eqb}
 use Rattle.lists.specs.Loop.{every}
 use Rattle.instance.specs.declared.Sizes.{Sizes}
-use Rattle.instance.specs.Instance.{Instance}
 use Rattle.plan.specs.Plan.{Row, planRow, condition, condition2}
 use Rattle.lists.proofs.Tests.{or-imp, not-iff, eqb-iff, every-iff}
 use Rattle.answers.specs.Fault.{FirstFault}
@@ -80,10 +79,10 @@ module _ (k : ℕ) (P Q : ℕ → ℕ) where
       record { agent = l; stander = lb; another = λ q. moves (rw q at stood); stood = stood; before = before-b }
 
 -- condition 2 as the rows alone say it
-pub plain-2 : (I : Instance) (s : Sizes) → s ≡ I .sizes → (P Q : Row) (r : ℕ) → FirstFault (s .k) (condition I 1 P Q) r
+pub plain-2 : (s : Sizes) (near : ℕ → ℕ → Bool) (P Q : Row) (r : ℕ) → FirstFault (s .k) (condition s near 1 P Q) r
     → FirstFault (s .k) (λ a. eqb (P a) (Q a) || (every (s .k) λ b. not (eqb (P b) (Q a)))) r
 unfolding condition2
-plain-2 I s e P Q r f = subst (λ (z : Sizes). FirstFault (s .k) (condition2 z P Q) r) (sym e) f
+plain-2 s near P Q r f = f
 
 pub next-row : (s : Sizes) (p : List ℕ) (t a : ℕ) → getD p (t * s .k + s .k + a) 0 ≡ planRow s p (suc t) a
 next-row s p t a = rw suc-mul

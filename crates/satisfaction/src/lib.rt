@@ -2,7 +2,6 @@
 // none is written out. One pass over the entries finds the wrong one and, of each agent at each time, its one vertex, or that there
 // is none or several: this is the plan where families C and D hold, and then E, F and G are asked of the plan alone, F and G by the
 // conditions of the plan check.
-use instance::Checked;
 use instance::Sizes;
 use variables::Variable;
 ghost use mathlib.Core.Path.{_≡_};
@@ -11,16 +10,17 @@ ghost use Prim.Native.Nat.{ℕ, _+_, _*_, _-_, _/_, _<_, _≤_};
 ghost use lib.ListN.{length, getD, take};
 ghost use Rattle.lists.specs.Loop.{for};
 ghost use Rattle.answers.specs.Fault.{FirstFault};
-ghost use Rattle.instance.specs.Instance.{adjacent};
+ghost use Rattle.instance.specs.Instance.{joined};
 ghost use Rattle.formula.specs.Variables.{highest, variableCount, X};
-ghost use Rattle.formula.specs.Formula.{clauses, blockC, blockD, blockE, blockF, blockG};
-ghost use Rattle.formula.specs.Blocks.{times, heldBy};
+ghost use Rattle.formula.specs.Formula.{blockC, blockD, blockE, blockF, blockG};
+ghost use Rattle.formula.specs.Blocks.{times, family, heldIn};
 ghost use Rattle.instance.specs.Limits.{Limits};
+ghost use Rattle.instance.specs.Ready.{Ready};
+ghost use Rattle.conditions.specs.Inside.{Inside};
 ghost use Rattle.plan.specs.Plan.{planBytes, planRow};
 ghost use Rattle.valuation.specs.Valuation.{true?, rightEntry};
 ghost use Rattle.valuation.specs.Satisfying.{Valuation};
 ghost use Rattle.valuation.specs.Places.{Places};
-ghost use Rattle.instance.specs.Accepted.{Accepted, instanceOf};
 ghost use Rattle.satisfaction.specs.Rows.{Fault, Stop, Tallied, says, denies, Seen, Read, Lowest, row, Before};
 ghost use lib.IntN.{ℤ};
 ghost use mathlib.Core.List.{List};
@@ -152,11 +152,11 @@ pub fn read_entries(vertices: &mut [u8], entries: &[i32], s: Sizes) -> usize
 }
 
 // Families A and B: the first agent that is not at its vertex of the array at time t, or k.
-fn unit_fault(entries: &[i32], s: Sizes, t: usize, ends: [u8; 16]) -> usize
+fn unit_fault(entries: &[i32], s: Sizes, t: usize, ends: &[u8; 16]) -> usize
     requires { ⌜ Limits s ⌝ }
     requires { ⌜ Valuation (variableCount s) (now entries) ⌝ }
-    requires { ⌜ (t ≤ s .m) × (length ends ≡ 16) × ((a : ℕ) → a < s .k → getD ends a 0 < s .n) ⌝ }
-    ensures { λ r. ⌜ FirstFault (s .k) (λ a. true? (now (entries .entry)) (X s t a (getD ends a 0))) r ⌝ }
+    requires { ⌜ (t ≤ s .m) × ((a : ℕ) → a < s .k → getD (now ends) a 0 < s .n) ⌝ }
+    ensures { λ r. ⌜ FirstFault (s .k) (λ a. true? (now (entries .entry)) (X s t a (getD (now (ends .entry)) a 0))) r ⌝ }
 {
     let n = s.n;
     let k = s.k;
@@ -257,15 +257,14 @@ fn fault_e(p: &[u8], s: Sizes, t: usize) -> usize
 }
 
 // Family F at time t: the vertex of the first agent that fails condition 1.
-fn fault_f(b: &[u8], c: Checked, p: &[u8], t: usize) -> usize
-    requires { ⌜ Accepted (now b) c ⌝ }
-    requires { ⌜ (length (now p) ≡ planBytes (c .sizes)) × (t < c .sizes .m) ⌝ }
-    ensures { λ r. ⌜ ((es : List ℤ) → Valuation (variableCount (c .sizes)) es → Places (c .sizes) (true? es) (planRow (c .sizes) (now (p .entry))) → Fault es (for (c .sizes .k) (blockF (c .sizes) (adjacent (instanceOf (now (b .entry)) c)) t)) r) ⌝ }
+fn fault_f(s: Sizes, near: &[u64; 64], p: &[u8], t: usize) -> usize
+    requires { ⌜ Limits s ⌝ }
+    requires { ⌜ (length (now p) ≡ planBytes s) × (t < s .m) × Inside (now p) ⌝ }
+    ensures { λ r. ⌜ ((es : List ℤ) → Valuation (variableCount s) es → Places s (true? es) (planRow s (now (p .entry))) → Fault es (for (s .k) (blockF s (joined (now (near .entry))) t)) r) ⌝ }
 {
-    let s = c.sizes;
     let n = s.n;
     let k = s.k;
-    let a = conditions::step_fault(b, c, 0, p, t);
+    let a = conditions::step_fault(s, near, 0, p, t);
     if a == k {
         return k * n;
     }
@@ -284,18 +283,17 @@ fn other_at(a: usize, b: usize) -> usize
 
 // Family G at time t, where no two agents share a vertex then: the first agent that fails condition 2, the agent that stood where it
 // goes, and that vertex.
-fn fault_g(b: &[u8], c: Checked, p: &[u8], t: usize) -> usize
-    requires { ⌜ Accepted (now b) c ⌝ }
-    requires { ⌜ (length (now p) ≡ planBytes (c .sizes)) × (t < c .sizes .m) ⌝ }
-    requires { ⌜ ((i j : ℕ) → i < j → j < c .sizes .k → planRow (c .sizes) (now p) t i ≢ planRow (c .sizes) (now p) t j) ⌝ }
-    ensures { λ r. ⌜ ((es : List ℤ) → Valuation (variableCount (c .sizes)) es → Places (c .sizes) (true? es) (planRow (c .sizes) (now (p .entry))) → Fault es (for (c .sizes .k) (blockG (c .sizes) t)) r) ⌝ }
+fn fault_g(s: Sizes, near: &[u64; 64], p: &[u8], t: usize) -> usize
+    requires { ⌜ Limits s ⌝ }
+    requires { ⌜ (length (now p) ≡ planBytes s) × (t < s .m) × Inside (now p) ⌝ }
+    requires { ⌜ ((i j : ℕ) → i < j → j < s .k → planRow s (now p) t i ≢ planRow s (now p) t j) ⌝ }
+    ensures { λ r. ⌜ ((es : List ℤ) → Valuation (variableCount s) es → Places s (true? es) (planRow s (now (p .entry))) → Fault es (for (s .k) (blockG s t)) r) ⌝ }
 {
-    let s = c.sizes;
     let n = s.n;
     let k = s.k;
     let size = (k - 1) * n;
     let row = t * k;
-    let a = conditions::step_fault(b, c, 1, p, t);
+    let a = conditions::step_fault(s, near, 1, p, t);
     if a == k {
         return k * size;
     }
@@ -305,31 +303,33 @@ fn fault_g(b: &[u8], c: Checked, p: &[u8], t: usize) -> usize
 }
 
 // Row t of a family, where the families before it have a true literal in every clause.
-fn row_fault(b: &[u8], c: Checked, entries: &[i32], p: &[u8], which: usize, t: usize) -> Part
-    requires { ⌜ Accepted (now b) c ⌝ }
-    requires { ⌜ Read (c .sizes) (now entries) (now p) ⌝ }
-    requires { ⌜ (which < 7) × (t < times (c .sizes) which) × Before (heldBy (now b) c) (now entries) which ⌝ }
-    ensures { λ r. ⌜ (length (row (heldBy (now (b .entry)) c) which t) ≡ r .size) × (r .size ≤ 32768) ⌝ }
-    ensures { λ r. ⌜ Fault (now (entries .entry)) (row (heldBy (now (b .entry)) c) which t) (r .fault) ⌝ }
+fn row_fault(
+    s: Sizes,
+    starts: &[u8; 16],
+    goals: &[u8; 16],
+    near: &[u64; 64],
+    entries: &[i32],
+    p: &[u8],
+    which: usize,
+    t: usize,
+) -> Part
+    requires { ⌜ Ready s (now starts) (now goals) (now near) ⌝ }
+    requires { ⌜ Read s (now entries) (now p) ⌝ }
+    requires { ⌜ (which < 7) × (t < times s which) × Before (heldIn s (now starts) (now goals) (now near)) (now entries) which ⌝ }
+    ensures { λ r. ⌜ (length (row (heldIn s (now (starts .entry)) (now (goals .entry)) (now (near .entry))) which t) ≡ r .size) × (r .size ≤ 32768) ⌝ }
+    ensures { λ r. ⌜ Fault (now (entries .entry)) (row (heldIn s (now (starts .entry)) (now (goals .entry)) (now (near .entry))) which t) (r .fault) ⌝ }
 {
-    let s = c.sizes;
     let n = s.n;
     let k = s.k;
     match which {
-        0 => {
-            let starts = c.starts;
-            Part {
-                size: k,
-                fault: unit_fault(entries, s, 0, starts),
-            }
-        }
-        1 => {
-            let goals = c.goals;
-            Part {
-                size: k,
-                fault: unit_fault(entries, s, s.m, goals),
-            }
-        }
+        0 => Part {
+            size: k,
+            fault: unit_fault(entries, s, 0, starts),
+        },
+        1 => Part {
+            size: k,
+            fault: unit_fault(entries, s, s.m, goals),
+        },
         2 => Part {
             size: k,
             fault: fault_c(p, s, t),
@@ -344,27 +344,33 @@ fn row_fault(b: &[u8], c: Checked, entries: &[i32], p: &[u8], which: usize, t: u
         },
         5 => Part {
             size: k * n,
-            fault: fault_f(b, c, p, t),
+            fault: fault_f(s, near, p, t),
         },
         _ => Part {
             size: k * ((k - 1) * n),
-            fault: fault_g(b, c, p, t),
+            fault: fault_g(s, near, p, t),
         },
     }
 }
 
 // The lowest number of a clause without a true literal, or the number of clauses.
-pub fn clause_fault(b: &[u8], c: Checked, entries: &[i32], p: &[u8]) -> usize
-    requires { ⌜ Accepted (now b) c ⌝ }
-    requires { ⌜ Read (c .sizes) (now entries) (now p) ⌝ }
-    ensures { λ r. ⌜ Fault (now (entries .entry)) (clauses (instanceOf (now (b .entry)) c)) r ⌝ }
+pub fn clause_fault(
+    s: Sizes,
+    starts: &[u8; 16],
+    goals: &[u8; 16],
+    near: &[u64; 64],
+    entries: &[i32],
+    p: &[u8],
+) -> usize
+    requires { ⌜ Ready s (now starts) (now goals) (now near) ⌝ }
+    requires { ⌜ Read s (now entries) (now p) ⌝ }
+    ensures { λ r. ⌜ Fault (now (entries .entry)) (for 7 (family (heldIn s (now (starts .entry)) (now (goals .entry)) (now (near .entry))))) r ⌝ }
 {
-    let s = c.sizes;
     let mut at: usize = 0;
     for which in 0..7usize {
         let count = counts::times_of(s, which);
         for t in 0..count {
-            let r = row_fault(b, c, entries, p, which, t);
+            let r = row_fault(s, starts, goals, near, entries, p, which, t);
             if r.fault < r.size {
                 return at + r.fault;
             }

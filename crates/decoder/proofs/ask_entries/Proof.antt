@@ -4,60 +4,63 @@ use Prim.Native.Nat.{ℕ, _-_}
 use native.Mathlib.Omega.{arith}
 use lib.ListN.{take}
 use Rattle.answers.specs.declared.Answer.{Answer}
-use Rattle.instance.proofs.Accepted.{limits-known}
+use Rattle.satisfaction.proofs.Families.{whole}
 use Rattle.plan.specs.Plan.{planBytes}
 use Rattle.satisfaction.specs.Rows.{Read}
-use Rattle.decoder.proofs.Laws.{stop-14, stop-15, stop-23, stop-24, pass-24, ready, planned}
+use Rattle.decoder.proofs.Laws.{stop-14, stop-15, stop-23, stop-24, pass-24, accepted, planned}
 use borrow.Author.Needs.{needs}
 use Rattle.decoder.proofs.ask_entries.Statement.{statement}
 use Rattle.decoder.proofs.ask_entries.Tie as tie
 
 variable-count-requires : tie.Need-variable-count-requires
-variable-count-requires c κs = limits-known _ _ (c .before .before .before .pre .0)
+variable-count-requires c κs = c .before .pre .0 .limits
 
 plan-bytes-requires : tie.Need-plan-bytes-requires
-plan-bytes-requires c κs = limits-known _ _ (c .before .before .before .before .pre .0)
+plan-bytes-requires c κs = c .before .before .pre .0 .limits
 
 returns : tie.Need-returns
-returns c = (stop-14 (c .before .before .before .before .before .before .args .b .now) (c .before .before .before .before .before .before .args .c) (c .before .before .before .before .before .before .pre .0) (c .before .before .before .before .before .before .args .entries .now) (c .before .before .before .before .before .before .args .size) (λ e. c .if1 .taken (e ∙ sym (c .before .before .variable-count .ensures .0))), (c .before .before .before .before .before .before .pre .1, λ e. absurd (let f : ⊥ = omega arith in f)))
+returns c = ((λ I g. (stop-14 I (c .before .before .before .before .args .s) (g .graph .sizes) (c .before .before .before .before .args .entries .now) (c .before .before .before .before .args .size) (λ e. c .if1 .taken (e ∙ sym (c .before .before .variable-count .ensures .0))), λ e. absurd (let f : ⊥ = omega arith in f))), c .before .before .before .before .pre .1)
 
 returns-2 : tie.Need-returns-2
-returns-2 c = (rw (c .before .before .plan-bytes .ensures .0) (stop-15 (c .before .before .before .before .before .before .before .args .b .now) (c .before .before .before .before .before .before .before .args .c) (c .before .before .before .before .before .before .before .pre .0) (c .before .before .before .before .before .before .before .args .entries .now) (c .before .before .before .before .before .before .before .args .size) (c .before .if1 .left ∙ c .before .before .before .variable-count .ensures .0) (omega (arith, c .before .before .plan-bytes .ensures .0, c .if2 .taken))), (c .before .before .before .before .before .before .before .pre .1, λ e. absurd (let f : ⊥ = omega arith in f)))
+returns-2 c = ((λ I g. (rw (c .before .before .plan-bytes .ensures .0) (stop-15 I (c .before .before .before .before .before .args .s) (g .graph .sizes) (c .before .before .before .before .before .args .entries .now) (c .before .before .before .before .before .args .size) (c .before .if1 .left ∙ c .before .before .before .variable-count .ensures .0) (omega (arith, c .before .before .plan-bytes .ensures .0, c .if2 .taken))), λ e. absurd (let f : ⊥ = omega arith in f))), c .before .before .before .before .before .pre .1)
 
 read-entries-requires : tie.Need-read-entries-requires
-read-entries-requires c κs = (limits-known _ _ (c .before .before .before .before .before .before .before .before .pre .0), (c .before .before .if1 .left ∙ c .before .before .before .before .variable-count .ensures .0, c .before .before .before .before .before .before .before .before .pre .1))
+read-entries-requires c κs = (c .before .before .before .before .before .before .pre .0 .limits, (c .before .before .if1 .left ∙ c .before .before .before .before .variable-count .ensures .0, c .before .before .before .before .before .before .pre .1))
 
 same-length : tie.Need-same-length
-same-length c = c .before .before .before .read-entries .ensures .1 .0 ∙ sym (c .before .before .before .before .before .before .before .before .before .before .before .before .pre .1)
+same-length c = c .before .before .before .read-entries .ensures .1 .0 ∙ sym (c .before .before .before .before .before .before .before .before .before .before .pre .1)
 
 returns-3 : tie.Need-returns-3
-returns-3 c = (stop-23 (c .before .before .before .before .before .before .before .before .before .before .before .before .args .b .now) (c .before .before .before .before .before .before .before .before .before .before .before .before .args .c) (c .before .before .before .before .before .before .before .before .before .before .before .before .pre .0) (c .before .before .before .before .before .before .before .before .before .before .before .before .args .entries .now) (c .before .before .before .before .before .before .before .before .before .before .before .before .args .size) (c .before .before .before .before .before .before .if1 .left ∙ c .before .before .before .before .before .before .before .before .variable-count .ensures .0) (omega (arith, c .before .before .before .before .before .before .before .plan-bytes .ensures .0, c .before .before .before .before .before .if2 .left)) (c .before .before .before .read-entries .result) (c .before .before .before .read-entries .ensures .0) (omega (arith, c .before .before .before .before .before .before .before .before .variable-count .ensures .0, c .if3 .taken)), (c .before .before .before .read-entries .ensures .1 .0, λ e. absurd (let f : ⊥ = omega arith in f)))
+returns-3 c = ((λ I g. (stop-23 I (c .before .before .before .before .before .before .before .before .before .before .args .s) (g .graph .sizes) (c .before .before .before .before .before .before .before .before .before .before .args .entries .now) (c .before .before .before .before .before .before .before .before .before .before .args .size) (c .before .before .before .before .before .before .if1 .left ∙ c .before .before .before .before .before .before .before .before .variable-count .ensures .0) (omega (arith, c .before .before .before .before .before .before .before .plan-bytes .ensures .0, c .before .before .before .before .before .if2 .left)) (c .before .before .before .read-entries .result) (c .before .before .before .read-entries .ensures .0) (omega (arith, c .before .before .before .before .before .before .before .before .variable-count .ensures .0, c .if3 .taken)), λ e. absurd (let f : ⊥ = omega arith in f))), c .before .before .before .read-entries .ensures .1 .0)
 
 part-clause-fault-end : tie.Need-part-clause-fault-end
 part-clause-fault-end c = omega (arith, c .before .before .before .before .before .before .before .before .plan-bytes .ensures .1, c .before .before .before .before .read-entries .ensures .1 .0)
 
 clause-fault-requires : tie.Need-clause-fault-requires
 clause-fault-requires c κs =
-    let e : planBytes (c .before .before .before .before .before .before .before .before .before .before .before .before .before .before .args .c .sizes) ≡ c .before .before .before .before .before .before .before .before .before .plan-bytes .result - 0 = omega (arith, c .before .before .before .before .before .before .before .before .before .plan-bytes .ensures .0) in
-    (c .before .before .before .before .before .before .before .before .before .before .before .before .before .before .pre .0, subst (λ (x : ℕ). Read (c .before .before .before .before .before .before .before .before .before .before .before .before .before .before .args .c .sizes) (c .before .before .before .before .before .before .before .before .before .before .before .before .before .before .args .entries .now) (take x (c .before .before .before .before .before .read-entries .last .0))) e (c .before .before .before .before .before .read-entries .ensures .1 .1 (omega (arith, c .before .before .before .before .before .before .before .before .before .before .variable-count .ensures .0, c .before .before .if3 .left))))
+    let e : planBytes (c .before .before .before .before .before .before .before .before .before .before .before .before .args .s) ≡ c .before .before .before .before .before .before .before .before .before .plan-bytes .result - 0 = omega (arith, c .before .before .before .before .before .before .before .before .before .plan-bytes .ensures .0) in
+    (c .before .before .before .before .before .before .before .before .before .before .before .before .pre .0, subst (λ (x : ℕ). Read (c .before .before .before .before .before .before .before .before .before .before .before .before .args .s) (c .before .before .before .before .before .before .before .before .before .before .before .before .args .entries .now) (take x (c .before .before .before .before .before .read-entries .last .0))) e (c .before .before .before .before .before .read-entries .ensures .1 .1 (omega (arith, c .before .before .before .before .before .before .before .before .before .before .variable-count .ensures .0, c .before .before .if3 .left))))
 
 clause-count-requires : tie.Need-clause-count-requires
-clause-count-requires c κs = limits-known _ _ (c .before .before .before .before .before .before .before .before .before .before .before .before .before .before .before .pre .0)
+clause-count-requires c κs = c .before .before .before .before .before .before .before .before .before .before .before .before .before .pre .0 .limits
 
 same-length-2 : tie.Need-same-length-2
-same-length-2 c = c .before .before .before .before .before .before .before .before .read-entries .ensures .1 .0 ∙ sym (c .before .before .before .before .before .before .before .before .before .before .before .before .before .before .before .before .before .pre .1)
+same-length-2 c = c .before .before .before .before .before .before .before .before .read-entries .ensures .1 .0 ∙ sym (c .before .before .before .before .before .before .before .before .before .before .before .before .before .before .before .pre .1)
 
 returns-4 : tie.Need-returns-4
-returns-4 c = (stop-24 (c .before .before .before .before .before .before .before .before .before .before .before .before .before .before .before .before .before .args .b .now) (c .before .before .before .before .before .before .before .before .before .before .before .before .before .before .before .before .before .args .c) (c .before .before .before .before .before .before .before .before .before .before .before .before .before .before .before .before .before .pre .0) (c .before .before .before .before .before .before .before .before .before .before .before .before .before .before .before .before .before .args .entries .now) (c .before .before .before .before .before .before .before .before .before .before .before .before .before .before .before .before .before .args .size) (c .before .before .before .before .before .before .before .before .before .before .before .if1 .left ∙ c .before .before .before .before .before .before .before .before .before .before .before .before .before .variable-count .ensures .0) (omega (arith, c .before .before .before .before .before .before .before .before .before .before .before .before .plan-bytes .ensures .0, c .before .before .before .before .before .before .before .before .before .before .if2 .left)) (c .before .before .before .before .before .before .before .before .read-entries .result) (c .before .before .before .before .before .before .before .before .read-entries .ensures .0) (omega (arith, c .before .before .before .before .before .before .before .before .before .before .before .before .before .variable-count .ensures .0, c .before .before .before .before .before .if3 .left)) (c .before .before .clause-fault .result) (c .before .clause-count .result) (c .before .before .clause-fault .ensures) (c .before .clause-count .ensures) (c .if4 .taken), (c .before .before .before .before .before .before .before .before .read-entries .ensures .1 .0, λ e. absurd (let f : ⊥ = omega arith in f)))
+returns-4 c = ((λ I g. (stop-24 I (c .before .before .before .before .before .before .before .before .before .before .before .before .before .before .before .args .s) (g .graph .sizes) (c .before .before .before .before .before .before .before .before .before .before .before .before .before .before .before .args .entries .now) (c .before .before .before .before .before .before .before .before .before .before .before .before .before .before .before .args .size) (c .before .before .before .before .before .before .before .before .before .before .before .if1 .left ∙ c .before .before .before .before .before .before .before .before .before .before .before .before .before .variable-count .ensures .0) (omega (arith, c .before .before .before .before .before .before .before .before .before .before .before .before .plan-bytes .ensures .0, c .before .before .before .before .before .before .before .before .before .before .if2 .left)) (c .before .before .before .before .before .before .before .before .read-entries .result) (c .before .before .before .before .before .before .before .before .read-entries .ensures .0) (omega (arith, c .before .before .before .before .before .before .before .before .before .before .before .before .before .variable-count .ensures .0, c .before .before .before .before .before .if3 .left)) (c .before .before .clause-fault .result) (c .before .clause-count .result) (whole I (c .before .before .before .before .before .before .before .before .before .before .before .before .before .before .before .args .s) (c .before .before .before .before .before .before .before .before .before .before .before .before .before .before .before .args .starts .now) (c .before .before .before .before .before .before .before .before .before .before .before .before .before .before .before .args .goals .now) (c .before .before .before .before .before .before .before .before .before .before .before .before .before .before .before .args .near .now) g (c .before .before .before .before .before .before .before .before .before .before .before .before .before .before .before .args .entries .now) (c .before .before .clause-fault .result) (c .before .before .clause-fault .ensures)) (c .before .clause-count .ensures) (c .if4 .taken), λ e. absurd (let f : ⊥ = omega arith in f))), c .before .before .before .before .before .before .before .before .read-entries .ensures .1 .0)
 
 same-length-3 : tie.Need-same-length-3
-same-length-3 c = c .before .before .before .before .before .before .before .before .read-entries .ensures .1 .0 ∙ sym (c .before .before .before .before .before .before .before .before .before .before .before .before .before .before .before .before .before .pre .1)
+same-length-3 c = c .before .before .before .before .before .before .before .before .read-entries .ensures .1 .0 ∙ sym (c .before .before .before .before .before .before .before .before .before .before .before .before .before .before .before .pre .1)
 
 returns-5 : tie.Need-returns-5
-returns-5 c =
-    let q = pass-24 (c .before .before .before .before .before .before .before .before .before .before .before .before .before .before .before .before .before .args .b .now) (c .before .before .before .before .before .before .before .before .before .before .before .before .before .before .before .before .before .args .c) (c .before .before .before .before .before .before .before .before .before .before .before .before .before .before .before .before .before .pre .0) (c .before .before .before .before .before .before .before .before .before .before .before .before .before .before .before .before .before .args .entries .now) (c .before .before .before .before .before .before .before .before .before .before .before .before .before .before .before .before .before .args .size) (c .before .before .before .before .before .before .before .before .before .before .before .if1 .left ∙ c .before .before .before .before .before .before .before .before .before .before .before .before .before .variable-count .ensures .0) (omega (arith, c .before .before .before .before .before .before .before .before .before .before .before .before .plan-bytes .ensures .0, c .before .before .before .before .before .before .before .before .before .before .if2 .left)) (c .before .before .before .before .before .before .before .before .read-entries .result) (c .before .before .before .before .before .before .before .before .read-entries .ensures .0) (omega (arith, c .before .before .before .before .before .before .before .before .before .before .before .before .before .variable-count .ensures .0, c .before .before .before .before .before .if3 .left)) (c .before .before .clause-fault .result) (c .before .clause-count .result) (c .before .before .clause-fault .ensures) (c .before .clause-count .ensures) (c .if4 .left) in
-    let y = ready (c .before .before .before .before .before .before .before .before .before .before .before .before .before .before .before .before .before .args .b .now) (c .before .before .before .before .before .before .before .before .before .before .before .before .before .before .before .before .before .args .c) (c .before .before .before .before .before .before .before .before .before .before .before .before .before .before .before .before .before .pre .0) (c .before .before .before .before .before .before .before .before .before .before .before .before .before .before .before .before .before .args .entries .now) (c .before .before .before .before .before .before .before .before .before .before .before .before .before .before .before .before .before .args .size) (sym (ap (λ (x : Answer). x .number) q)) in
-    (rw (c .before .before .before .before .before .before .before .before .before .before .before .before .plan-bytes .ensures .0) q, (c .before .before .before .before .before .before .before .before .read-entries .ensures .1 .0, λ e. (c .before .before .before .before .before .before .before .before .before .before .before .before .plan-bytes .ensures .0, planned (c .before .before .before .before .before .before .before .before .before .before .before .before .before .before .before .before .before .args .b .now) (c .before .before .before .before .before .before .before .before .before .before .before .before .before .before .before .before .before .args .c) (c .before .before .before .before .before .before .before .before .before .before .before .before .before .before .before .before .before .pre .0) (c .before .before .before .before .before .before .before .before .before .before .before .before .before .before .before .before .before .args .entries .now) (c .before .before .before .before .before .before .before .before .before .before .before .before .before .before .before .before .before .args .size) y _ (c .before .before .before .before .before .before .before .before .read-entries .ensures .1 .1 (omega (arith, c .before .before .before .before .before .before .before .before .before .before .before .before .before .variable-count .ensures .0, c .before .before .before .before .before .if3 .left))))))
+returns-5 c = (
+  (λ I g.
+      let q = pass-24 I (c .before .before .before .before .before .before .before .before .before .before .before .before .before .before .before .args .s) (g .graph .sizes) (c .before .before .before .before .before .before .before .before .before .before .before .before .before .before .before .args .entries .now) (c .before .before .before .before .before .before .before .before .before .before .before .before .before .before .before .args .size) (c .before .before .before .before .before .before .before .before .before .before .before .if1 .left ∙ c .before .before .before .before .before .before .before .before .before .before .before .before .before .variable-count .ensures .0) (omega (arith, c .before .before .before .before .before .before .before .before .before .before .before .before .plan-bytes .ensures .0, c .before .before .before .before .before .before .before .before .before .before .if2 .left)) (c .before .before .before .before .before .before .before .before .read-entries .result) (c .before .before .before .before .before .before .before .before .read-entries .ensures .0) (omega (arith, c .before .before .before .before .before .before .before .before .before .before .before .before .before .variable-count .ensures .0, c .before .before .before .before .before .if3 .left)) (c .before .before .clause-fault .result) (c .before .clause-count .result) (whole I (c .before .before .before .before .before .before .before .before .before .before .before .before .before .before .before .args .s) (c .before .before .before .before .before .before .before .before .before .before .before .before .before .before .before .args .starts .now) (c .before .before .before .before .before .before .before .before .before .before .before .before .before .before .before .args .goals .now) (c .before .before .before .before .before .before .before .before .before .before .before .before .before .before .before .args .near .now) g (c .before .before .before .before .before .before .before .before .before .before .before .before .before .before .before .args .entries .now) (c .before .before .clause-fault .result) (c .before .before .clause-fault .ensures)) (c .before .clause-count .ensures) (c .if4 .left) in
+      let y = accepted I (c .before .before .before .before .before .before .before .before .before .before .before .before .before .before .before .args .s) (g .graph .sizes) (c .before .before .before .before .before .before .before .before .before .before .before .before .before .before .before .args .entries .now) (c .before .before .before .before .before .before .before .before .before .before .before .before .before .before .before .args .size) (sym (ap (λ (x : Answer). x .number) q)) in
+      (rw (c .before .before .before .before .before .before .before .before .before .before .before .before .plan-bytes .ensures .0) q, λ e. (c .before .before .before .before .before .before .before .before .before .before .before .before .plan-bytes .ensures .0, planned I (c .before .before .before .before .before .before .before .before .before .before .before .before .before .before .before .args .s) (g .graph .sizes) (c .before .before .before .before .before .before .before .before .before .before .before .before .before .before .before .args .entries .now) (c .before .before .before .before .before .before .before .before .before .before .before .before .before .before .before .args .size) y _ (c .before .before .before .before .before .before .before .before .read-entries .ensures .1 .1 (omega (arith, c .before .before .before .before .before .before .before .before .before .before .before .before .before .variable-count .ensures .0, c .before .before .before .before .before .if3 .left)))))),
+  c .before .before .before .before .before .before .before .before .read-entries .ensures .1 .0,
+)
 
 pub ask-entries-spec : {M : Type 1} → statement M
 ask-entries-spec =

@@ -1,31 +1,30 @@
 -- `encoder::ask_encoding` meets its contract: each question is answered in its order, by the law of that name. Assumes nothing.
 use mathlib.Core.Path.{sym, _∙_}
 use native.Mathlib.Omega.{arith}
-use Rattle.instance.proofs.Accepted.{limits-known}
 use Rattle.encoder.proofs.Questions.{stop-13, stop-16, stop-plan, pass-plan}
 use Rattle.encoder.proofs.ask_encoding.Statement.{statement}
 use Rattle.encoder.proofs.ask_encoding.Tie as tie
 
 plan-bytes-requires : tie.Need-plan-bytes-requires
-plan-bytes-requires c κs = limits-known _ _ (c .before .before .before .pre)
+plan-bytes-requires c κs = c .before .pre
 
 returns : tie.Need-returns
-returns c = stop-13 (c .before .before .before .before .before .args .b .now) (c .before .before .before .before .before .args .c) (c .before .before .before .before .before .pre) (c .before .before .before .before .before .args .p .now) (c .before .before .before .before .before .args .size) (λ e. c .if1 .taken (e ∙ sym (c .before .plan-bytes .ensures .0)))
+returns c = λ I g. stop-13 I (c .before .before .before .args .s) (g .graph .sizes) (c .before .before .before .args .p .now) (c .before .before .before .args .size) (λ e. c .if1 .taken (e ∙ sym (c .before .plan-bytes .ensures .0)))
 
 variable-count-requires : tie.Need-variable-count-requires
-variable-count-requires c κs = limits-known _ _ (c .before .before .before .before .before .pre)
+variable-count-requires c κs = c .before .before .before .pre
 
 returns-2 : tie.Need-returns-2
-returns-2 c = rw (c .before .variable-count .ensures .0) (stop-16 (c .before .before .before .before .before .before .before .args .b .now) (c .before .before .before .before .before .before .before .args .c) (c .before .before .before .before .before .before .before .pre) (c .before .before .before .before .before .before .before .args .p .now) (c .before .before .before .before .before .before .before .args .size) (c .before .before .if1 .left ∙ c .before .before .before .plan-bytes .ensures .0) (omega (arith, c .before .variable-count .ensures .0)))
+returns-2 c = λ I g. rw (c .before .variable-count .ensures .0) (stop-16 I (c .before .before .before .before .before .args .s) (g .graph .sizes) (c .before .before .before .before .before .args .p .now) (c .before .before .before .before .before .args .size) (c .before .before .if1 .left ∙ c .before .before .before .plan-bytes .ensures .0) (omega (arith, c .before .variable-count .ensures .0)))
 
 ask-plan-requires : tie.Need-ask-plan-requires
-ask-plan-requires c κs = (c .before .before .before .before .before .before .before .pre, c .before .before .if1 .left ∙ c .before .before .before .plan-bytes .ensures .0)
+ask-plan-requires c κs = (c .before .before .before .before .before .pre, c .before .before .if1 .left ∙ c .before .before .before .plan-bytes .ensures .0)
 
 returns-3 : tie.Need-returns-3
-returns-3 c = stop-plan (c .before .before .before .before .before .before .before .before .before .before .args .b .now) (c .before .before .before .before .before .before .before .before .before .before .args .c) (c .before .before .before .before .before .before .before .before .before .before .pre) (c .before .before .before .before .before .before .before .before .before .before .args .p .now) (c .before .before .before .before .before .before .before .before .before .before .args .size) (c .before .before .before .before .before .if1 .left ∙ c .before .before .before .before .before .before .plan-bytes .ensures .0) (omega (arith, c .before .before .before .before .variable-count .ensures .0)) (c .before .before .ask-plan .result) (c .before .before .ask-plan .ensures) (c .if3 .taken)
+returns-3 c = λ I g. stop-plan I (c .before .before .before .before .before .before .before .before .args .s) (g .graph .sizes) (c .before .before .before .before .before .before .before .before .args .p .now) (c .before .before .before .before .before .before .before .before .args .size) (c .before .before .before .before .before .if1 .left ∙ c .before .before .before .before .before .before .plan-bytes .ensures .0) (omega (arith, c .before .before .before .before .variable-count .ensures .0)) (c .before .before .ask-plan .result) (c .before .before .ask-plan .ensures I g) (c .if3 .taken)
 
 returns-4 : tie.Need-returns-4
-returns-4 c = rw (c .before .before .before .before .variable-count .ensures .0) (pass-plan (c .before .before .before .before .before .before .before .before .before .before .args .b .now) (c .before .before .before .before .before .before .before .before .before .before .args .c) (c .before .before .before .before .before .before .before .before .before .before .pre) (c .before .before .before .before .before .before .before .before .before .before .args .p .now) (c .before .before .before .before .before .before .before .before .before .before .args .size) (c .before .before .before .before .before .if1 .left ∙ c .before .before .before .before .before .before .plan-bytes .ensures .0) (omega (arith, c .before .before .before .before .variable-count .ensures .0)) (c .before .before .ask-plan .result) (c .before .before .ask-plan .ensures) (c .if3 .left))
+returns-4 c = λ I g. rw (c .before .before .before .before .variable-count .ensures .0) (pass-plan I (c .before .before .before .before .before .before .before .before .args .s) (g .graph .sizes) (c .before .before .before .before .before .before .before .before .args .p .now) (c .before .before .before .before .before .before .before .before .args .size) (c .before .before .before .before .before .if1 .left ∙ c .before .before .before .before .before .before .plan-bytes .ensures .0) (omega (arith, c .before .before .before .before .variable-count .ensures .0)) (c .before .before .ask-plan .result) (c .before .before .ask-plan .ensures I g) (c .if3 .left))
 
 pub ask-encoding-spec : {M : Type 1} → statement M
 ask-encoding-spec =

@@ -6,15 +6,14 @@ use borrow.Author.Needs.{needs}
 use lib.ListN.{length}
 use Rattle.lists.specs.Loop.{each}
 use Rattle.formula.specs.Formula.{line, somewhere}
-use Rattle.formula.specs.Blocks.{Given, times, blocksAt, block}
-use Rattle.families.specs.Held.{heldIn}
+use Rattle.formula.specs.Blocks.{Given, times, blocksAt, heldIn, block}
 use Rattle.formula.proofs.Blocks.{last}
 use Rattle.families.proofs.Laws.{one, one-room}
 use Rattle.families.proofs.write_block.Statement.{statement}
 use Rattle.families.proofs.write_block.Tie as tie
 
 abbrev given : tie.Start → Given
-given c = heldIn (c .args .s) (c .args .starts .now) (c .args .goals .now) (c .args .table .now)
+given c = heldIn (c .args .s) (c .args .starts .now) (c .args .goals .now) (c .args .near .now)
 
 -- what is required, of the family of an arm
 arm : (c : tie.Start) {j : ℕ} → c .args .which ≡ j
@@ -24,32 +23,32 @@ arm c e = let q = rw e at (c .pre .1 .0) in (q .1, q .2, rw e at (c .pre .1 .1))
 write-unit-requires : tie.Need-write-unit-requires
 unfolding times blocksAt block
 write-unit-requires c κs =
-    let q = arm (c .before .before .before) (c .before .match .keys1) in (c .before .before .before .pre .0 .0 .limits, (omega arith, q .1, c .before .before .before .pre .0 .0 .starts (c .before .before .before .args .x) (q .1), q .2))
+    let q = arm (c .before .before) (c .before .match .keys1) in (c .before .before .pre .0 .limits, (omega arith, q .1, c .before .before .pre .0 .starts-below (c .before .before .args .x) (q .1), q .2))
 
 write-unit-requires-2 : tie.Need-write-unit-requires-2
 unfolding times blocksAt block
 write-unit-requires-2 c κs =
-    let q = arm (c .before .before .before) (c .before .match .keys2) in (c .before .before .before .pre .0 .0 .limits, (omega arith, q .1, c .before .before .before .pre .0 .0 .goals (c .before .before .before .args .x) (q .1), q .2))
+    let q = arm (c .before .before) (c .before .match .keys2) in (c .before .before .pre .0 .limits, (omega arith, q .1, c .before .before .pre .0 .goals-below (c .before .before .args .x) (q .1), q .2))
 
 put-somewhere-requires : tie.Need-put-somewhere-requires
 unfolding times blocksAt block
-put-somewhere-requires c κs = let q = arm (c .before .before .before) (c .before .match .keys3) in let r = one-room (somewhere (c .before .before .before .args .s) (c .before .before .before .args .t) (c .before .before .before .args .x)) (q .2) in search needs
+put-somewhere-requires c κs = let q = arm (c .before .before) (c .before .match .keys3) in let r = one-room (somewhere (c .before .before .args .s) (c .before .before .args .t) (c .before .before .args .x)) (q .2) in search needs
 
 write-d-requires : tie.Need-write-d-requires
 unfolding times blocksAt block
-write-d-requires c κs = let q = arm (c .before .before .before) (c .before .match .keys4) in search needs
+write-d-requires c κs = let q = arm (c .before .before) (c .before .match .keys4) in search needs
 
 write-e-requires : tie.Need-write-e-requires
 unfolding times blocksAt block
-write-e-requires c κs = let q = arm (c .before .before .before) (c .before .match .keys5) in search needs
+write-e-requires c κs = let q = arm (c .before .before) (c .before .match .keys5) in search needs
 
 write-f-requires : tie.Need-write-f-requires
 unfolding times blocksAt block
-write-f-requires c κs = let q = arm (c .before .before .before) (c .before .match .keys6) in search needs
+write-f-requires c κs = let q = arm (c .before .before) (c .before .match .keys6) in search needs
 
 write-g-requires : tie.Need-write-g-requires
 unfolding times blocksAt block
-write-g-requires c κs = let q = arm (c .before .before .before) (last (c .before .before .before .args .which) (c .before .before .before .pre .1 .0 .0) (c .before .match .rest)) in search needs
+write-g-requires c κs = let q = arm (c .before .before) (last (c .before .before .args .which) (c .before .before .pre .1 .0 .0) (c .before .match .rest)) in search needs
 
 returns : tie.Need-returns
 unfolding block
@@ -61,7 +60,7 @@ returns-2 c = rw (c .before .before .before .match .keys2) (c .before .write-uni
 
 returns-3 : tie.Need-returns-3
 unfolding block
-returns-3 c = rw (c .before .before .before .match .keys3) (one (somewhere (c .before .before .before .before .before .args .s) (c .before .before .before .before .before .args .t) (c .before .before .before .before .before .args .x)) (c .before .before .before .before .before .args .f .now) _ (c .before .put-somewhere .ensures))
+returns-3 c = rw (c .before .before .before .match .keys3) (one (somewhere (c .before .before .before .before .args .s) (c .before .before .before .before .args .t) (c .before .before .before .before .args .x)) (c .before .before .before .before .args .f .now) _ (c .before .put-somewhere .ensures))
 
 returns-4 : tie.Need-returns-4
 unfolding block
@@ -77,7 +76,7 @@ returns-6 c = rw (c .before .before .before .match .keys6) (c .before .write-f .
 
 returns-7 : tie.Need-returns-7
 unfolding block
-returns-7 c = rw (last (c .before .before .before .before .before .args .which) (c .before .before .before .before .before .pre .1 .0 .0) (c .before .before .before .match .rest)) (c .before .write-g .ensures)
+returns-7 c = rw (last (c .before .before .before .before .args .which) (c .before .before .before .before .pre .1 .0 .0) (c .before .before .before .match .rest)) (c .before .write-g .ensures)
 
 pub write-block-spec : {M : Type 1} → statement M
 write-block-spec =

@@ -4,6 +4,7 @@ use Prim.Native.Nat.{ℕ}
 use Rattle.answers.specs.declared.Answer.{Answer}
 use Rattle.answers.proofs.Laws.{byNumber-accepted, byNumber-refused}
 use Rattle.instance.specs.Questions.{instanceAnswer}
+use Rattle.instance.proofs.Accepted.{ready}
 use Rattle.instance.proofs.Call.{passed}
 use Rattle.formula_printer.specs.Output.{answerStatus}
 use borrow.Author.Needs.{needs}
@@ -15,7 +16,7 @@ unfolding answerStatus
 returns c = rw (byNumber-refused {A = ℕ} (instanceAnswer (c .before .before .before .before .before .before .before .before .before .before .before .before .before .before .args .b .now) (c .before .before .before .before .before .before .before .before .before .before .before .before .before .before .args .m) .number) 0 1 (λ z. c .before .before .before .before .before .before .if1 .taken (ap (λ (x : Answer). x .number) (c .before .before .before .before .before .before .before .before .before .before .check-instance .ensures .0) ∙ z))) (c .status-of .ensures)
 
 print-formula-requires : tie.Need-print-formula-requires
-print-formula-requires c κs = (c .before .before .before .before .before .before .before .before .before .before .before .pre, passed (c .before .before .before .before .before .before .before .before .before .before .before .args .b .now) (c .before .before .before .before .before .before .before .before .before .before .before .args .m) (c .before .before .before .before .before .before .before .check-instance .result .answer) (c .before .before .before .before .before .before .before .check-instance .result .checked) (c .before .before .before .before .before .before .before .check-instance .ensures .0) (c .before .before .before .before .before .before .before .check-instance .ensures .1) (c .before .before .before .if1 .left))
+print-formula-requires c κs = (c .before .before .before .before .before .before .before .before .before .before .before .pre, ready _ _ (passed (c .before .before .before .before .before .before .before .before .before .before .before .args .b .now) (c .before .before .before .before .before .before .before .before .before .before .before .args .m) (c .before .before .before .before .before .before .before .check-instance .result .answer) (c .before .before .before .before .before .before .before .check-instance .result .checked) (c .before .before .before .before .before .before .before .check-instance .ensures .0) (c .before .before .before .before .before .before .before .check-instance .ensures .1) (c .before .before .before .if1 .left)))
 
 returns-2 : tie.Need-returns-2
 unfolding answerStatus

@@ -8,19 +8,19 @@ use Rattle.formula_printer.proofs.print_family.Statement.{statement}
 use Rattle.formula_printer.proofs.print_family.Tie as tie
 
 abbrev Inv-loop : tie.InvT-loop
-Inv-loop words₀ text₀ texts s starts goals table which gathered end at₀ t₀ words text at t = Going words₀ words text₀ text t end at
+Inv-loop words₀ text₀ texts s starts goals near which gathered end at₀ t₀ words text at t = Going words₀ words text₀ text t end at
 
 abbrev μ-loop : tie.MeasureT-loop
-μ-loop words₀ text₀ texts s starts goals table which gathered end at₀ t₀ words text at t = end - t
+μ-loop words₀ text₀ texts s starts goals near which gathered end at₀ t₀ words text at t = end - t
 
 times-of-requires : tie.Need-times-of-requires Inv-loop μ-loop
-times-of-requires c κs = (c .before .before .before .pre .1 .0 .0 .limits, c .before .before .before .pre .1 .1)
+times-of-requires c κs = (c .before .before .pre .1 .0 .limits, c .before .before .pre .1 .1)
 
 loop-holds : tie.Need-loop-holds Inv-loop μ-loop
-loop-holds c = record { within = omega arith; words-same = refl; text-same = refl; less = c .before .before .before .before .pre .0 .2 }
+loop-holds c = record { within = omega arith; words-same = refl; text-same = refl; less = c .before .before .before .pre .0 .2 }
 
 print-step-requires : tie.Need-print-step-requires Inv-loop μ-loop
-print-step-requires c κs = ((going-room (c .before .before .before .loop .inv) (c .before .before .before .before .before .before .before .before .pre .0 .0), c .before .before .before .before .before .before .before .before .pre .0 .1, c .before .before .before .loop .inv .less), (c .before .before .before .before .before .before .before .before .pre .1 .0, (c .before .before .before .before .before .before .before .before .pre .1 .1, omega (arith, c .before .before .loop-test .taken, c .before .before .before .before .times-of .ensures .0))))
+print-step-requires c κs = ((going-room (c .before .before .before .loop .inv) (c .before .before .before .before .before .before .before .pre .0 .0), c .before .before .before .before .before .before .before .pre .0 .1, c .before .before .before .loop .inv .less), (c .before .before .before .before .before .before .before .pre .1 .0, (c .before .before .before .before .before .before .before .pre .1 .1, omega (arith, c .before .before .loop-test .taken, c .before .before .before .before .times-of .ensures .0))))
 
 same-length : tie.Need-same-length Inv-loop μ-loop
 same-length c = c .before .before .before .before .words .given ∙ c .before .before .before .before .before .before .before .before .before .loop .inv .words-same

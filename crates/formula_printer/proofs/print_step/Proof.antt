@@ -8,19 +8,19 @@ use Rattle.formula_printer.proofs.print_step.Statement.{statement}
 use Rattle.formula_printer.proofs.print_step.Tie as tie
 
 abbrev Inv-loop : tie.InvT-loop
-Inv-loop words₀ text₀ texts s starts goals table which t gathered end at₀ x₀ words text at x = Going words₀ words text₀ text x end at
+Inv-loop words₀ text₀ texts s starts goals near which t gathered end at₀ x₀ words text at x = Going words₀ words text₀ text x end at
 
 abbrev μ-loop : tie.MeasureT-loop
-μ-loop words₀ text₀ texts s starts goals table which t gathered end at₀ x₀ words text at x = end - x
+μ-loop words₀ text₀ texts s starts goals near which t gathered end at₀ x₀ words text at x = end - x
 
 blocks-at-requires : tie.Need-blocks-at-requires Inv-loop μ-loop
-blocks-at-requires c κs = (c .before .before .before .pre .1 .0 .0 .limits, c .before .before .before .pre .1 .1 .0)
+blocks-at-requires c κs = (c .before .before .pre .1 .0 .limits, c .before .before .pre .1 .1 .0)
 
 loop-holds : tie.Need-loop-holds Inv-loop μ-loop
-loop-holds c = record { within = omega arith; words-same = refl; text-same = refl; less = c .before .before .before .before .pre .0 .2 }
+loop-holds c = record { within = omega arith; words-same = refl; text-same = refl; less = c .before .before .before .pre .0 .2 }
 
 print-block-requires : tie.Need-print-block-requires Inv-loop μ-loop
-print-block-requires c κs = ((going-room (c .before .before .before .loop .inv) (c .before .before .before .before .before .before .before .before .pre .0 .0), c .before .before .before .before .before .before .before .before .pre .0 .1, c .before .before .before .loop .inv .less), (c .before .before .before .before .before .before .before .before .pre .1 .0, (c .before .before .before .before .before .before .before .before .pre .1 .1 .0, c .before .before .before .before .before .before .before .before .pre .1 .1 .1, omega (arith, c .before .before .loop-test .taken, c .before .before .before .before .blocks-at .ensures .0))))
+print-block-requires c κs = ((going-room (c .before .before .before .loop .inv) (c .before .before .before .before .before .before .before .pre .0 .0), c .before .before .before .before .before .before .before .pre .0 .1, c .before .before .before .loop .inv .less), (c .before .before .before .before .before .before .before .pre .1 .0, (c .before .before .before .before .before .before .before .pre .1 .1 .0, c .before .before .before .before .before .before .before .pre .1 .1 .1, omega (arith, c .before .before .loop-test .taken, c .before .before .before .before .blocks-at .ensures .0))))
 
 same-length : tie.Need-same-length Inv-loop μ-loop
 same-length c = c .before .before .before .before .words .given ∙ c .before .before .before .before .before .before .before .before .before .loop .inv .words-same

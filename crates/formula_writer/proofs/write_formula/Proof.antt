@@ -3,15 +3,16 @@ use mathlib.Core.Path.{refl, sym, _∙_, ap}
 use mathlib.Core.List.{List}
 use Prim.Native.Nat.{ℕ}
 use native.Mathlib.Omega.{arith}
+use lib.IntN.{ℤ}
 use lib.ListN.{length}
 use Rattle.lists.specs.Slice.{filled}
 use Rattle.answers.specs.Answers.{Question, refuse, accept}
 use Rattle.instance.specs.Instance.{Instance}
-use Rattle.instance.proofs.Accepted.{limits-known}
+use Rattle.instance.proofs.Accepted.{limits-known, ready}
 use Rattle.instance.proofs.Call.{passed, horizon, instance-refuses, call-answers}
 use Rattle.formula.specs.Formula.{clauses, formula, words}
 use Rattle.calls.specs.Calls.{writeRest}
-use Rattle.formula_writer.proofs.Laws.{word-count-of, clause-count-of, stop-12, pass-12, refused, done}
+use Rattle.formula_writer.proofs.Laws.{words-held, word-count-of, clause-count-of, stop-12, pass-12, refused, done}
 use borrow.Author.Needs.{needs}
 use Rattle.formula_writer.proofs.write_formula.Statement.{statement}
 use Rattle.formula_writer.proofs.write_formula.Tie as tie
@@ -36,15 +37,22 @@ returns-2 : tie.Need-returns-2
 returns-2 c = rw (c .before .before .word-count .ensures) (refused (c .before .before .before .before .before .before .before .before .before .before .args .b .now) (c .before .before .before .before .before .before .before .before .before .before .args .m) (c .before .before .before .before .before .before .before .before .before .before .args .f .now) (refuse 12 _) (call-answers (c .before .before .before .before .before .before .before .before .before .before .args .b .now) (c .before .before .before .before .before .before .before .before .before .before .args .m) (c .before .before .before .before .before .before .before .before .check-instance .result .answer) (c .before .before .before .before .before .before .before .before .check-instance .result .checked) (c .before .before .before .before .before .before .before .before .check-instance .ensures .0) (c .before .before .before .before .before .before .before .before .check-instance .ensures .1) (asks (c .before .before .before .before .before .before .before .before .before .before)) count (c .before .before .before .before .if1 .left) _ (stop-12 (c .before .before .before .before .before .before .before .before .before .before .args .b .now) (c .before .before .before .before .before .before .before .before .check-instance .result .checked) (passed (c .before .before .before .before .before .before .before .before .before .before .args .b .now) (c .before .before .before .before .before .before .before .before .before .before .args .m) (c .before .before .before .before .before .before .before .before .check-instance .result .answer) (c .before .before .before .before .before .before .before .before .check-instance .result .checked) (c .before .before .before .before .before .before .before .before .check-instance .ensures .0) (c .before .before .before .before .before .before .before .before .check-instance .ensures .1) (c .before .before .before .before .if1 .left)) (length (c .before .before .before .before .before .before .before .before .before .before .args .f .now)) (omega (arith, c .before .before .word-count .ensures, c .if2 .taken)))) (λ z. let f : ⊥ = omega arith in f))
 
 write-words-requires : tie.Need-write-words-requires
-write-words-requires c κs = ((passed (c .before .before .before .before .before .before .before .before .before .before .before .args .b .now) (c .before .before .before .before .before .before .before .before .before .before .before .args .m) (c .before .before .before .before .before .before .before .before .before .check-instance .result .answer) (c .before .before .before .before .before .before .before .before .before .check-instance .result .checked) (c .before .before .before .before .before .before .before .before .before .check-instance .ensures .0) (c .before .before .before .before .before .before .before .before .before .check-instance .ensures .1) (c .before .before .before .before .before .if1 .left)), omega (arith, word-count-of (c .before .before .before .before .before .before .before .before .before .before .before .args .b .now) (c .before .before .before .before .before .before .before .before .before .check-instance .result .checked) (passed (c .before .before .before .before .before .before .before .before .before .before .before .args .b .now) (c .before .before .before .before .before .before .before .before .before .before .before .args .m) (c .before .before .before .before .before .before .before .before .before .check-instance .result .answer) (c .before .before .before .before .before .before .before .before .before .check-instance .result .checked) (c .before .before .before .before .before .before .before .before .before .check-instance .ensures .0) (c .before .before .before .before .before .before .before .before .before .check-instance .ensures .1) (c .before .before .before .before .before .if1 .left)), c .before .before .before .word-count .ensures, c .before .if2 .left))
+write-words-requires c κs =
+    let w = passed (c .before .before .before .before .before .before .before .before .before .before .before .args .b .now) (c .before .before .before .before .before .before .before .before .before .before .before .args .m) (c .before .before .before .before .before .before .before .before .before .check-instance .result .answer) (c .before .before .before .before .before .before .before .before .before .check-instance .result .checked) (c .before .before .before .before .before .before .before .before .before .check-instance .ensures .0) (c .before .before .before .before .before .before .before .before .before .check-instance .ensures .1) (c .before .before .before .before .before .if1 .left) in (
+      ready (c .before .before .before .before .before .before .before .before .before .before .before .args .b .now) (c .before .before .before .before .before .before .before .before .before .check-instance .result .checked) w,
+      rw (← (words-held (c .before .before .before .before .before .before .before .before .before .before .before .args .b .now) (c .before .before .before .before .before .before .before .before .before .check-instance .result .checked) w))
+          (omega (arith, word-count-of (c .before .before .before .before .before .before .before .before .before .before .before .args .b .now) (c .before .before .before .before .before .before .before .before .before .check-instance .result .checked) w, c .before .before .before .word-count .ensures, c .before .if2 .left)),
+    )
 
 returns-3 : tie.Need-returns-3
 returns-3 c =
     let same = horizon (c .before .before .before .before .before .before .before .before .before .before .before .before .before .args .b .now) (c .before .before .before .before .before .before .before .before .before .before .before .before .before .args .m) (c .before .before .before .before .before .before .before .before .before .before .before .check-instance .result .answer) (c .before .before .before .before .before .before .before .before .before .before .before .check-instance .result .checked) (c .before .before .before .before .before .before .before .before .before .before .before .check-instance .ensures .0) (c .before .before .before .before .before .before .before .before .before .before .before .check-instance .ensures .1) (c .before .before .before .before .before .before .before .if1 .left) in
+    let w = passed (c .before .before .before .before .before .before .before .before .before .before .before .before .before .args .b .now) (c .before .before .before .before .before .before .before .before .before .before .before .before .before .args .m) (c .before .before .before .before .before .before .before .before .before .before .before .check-instance .result .answer) (c .before .before .before .before .before .before .before .before .before .before .before .check-instance .result .checked) (c .before .before .before .before .before .before .before .before .before .before .before .check-instance .ensures .0) (c .before .before .before .before .before .before .before .before .before .before .before .check-instance .ensures .1) (c .before .before .before .before .before .before .before .if1 .left) in
     rw (c .before .before .before .before .before .word-count .ensures)
-    (done (c .before .before .before .before .before .before .before .before .before .before .before .before .before .args .b .now) (c .before .before .before .before .before .before .before .before .before .before .before .before .before .args .m) (c .before .before .before .before .before .before .before .before .before .before .before .before .before .args .f .now) (accept _) (call-answers (c .before .before .before .before .before .before .before .before .before .before .before .before .before .args .b .now) (c .before .before .before .before .before .before .before .before .before .before .before .before .before .args .m) (c .before .before .before .before .before .before .before .before .before .before .before .check-instance .result .answer) (c .before .before .before .before .before .before .before .before .before .before .before .check-instance .result .checked) (c .before .before .before .before .before .before .before .before .before .before .before .check-instance .ensures .0) (c .before .before .before .before .before .before .before .before .before .before .before .check-instance .ensures .1) (asks (c .before .before .before .before .before .before .before .before .before .before .before .before .before)) count (c .before .before .before .before .before .before .before .if1 .left) _ (pass-12 (c .before .before .before .before .before .before .before .before .before .before .before .before .before .args .b .now) (c .before .before .before .before .before .before .before .before .before .before .before .check-instance .result .checked) (passed (c .before .before .before .before .before .before .before .before .before .before .before .before .before .args .b .now) (c .before .before .before .before .before .before .before .before .before .before .before .before .before .args .m) (c .before .before .before .before .before .before .before .before .before .before .before .check-instance .result .answer) (c .before .before .before .before .before .before .before .before .before .before .before .check-instance .result .checked) (c .before .before .before .before .before .before .before .before .before .before .before .check-instance .ensures .0) (c .before .before .before .before .before .before .before .before .before .before .before .check-instance .ensures .1) (c .before .before .before .before .before .before .before .if1 .left)) (length (c .before .before .before .before .before .before .before .before .before .before .before .before .before .args .f .now)) (omega (arith, c .before .before .before .before .before .word-count .ensures, c .before .before .before .if2 .left)))) refl (c .before .before .before .before .clause-count .result)
-    (c .before .before .before .before .clause-count .ensures ∙ sym (clause-count-of (c .before .before .before .before .before .before .before .before .before .before .before .before .before .args .b .now) (c .before .before .before .before .before .before .before .before .before .before .before .check-instance .result .checked) (passed (c .before .before .before .before .before .before .before .before .before .before .before .before .before .args .b .now) (c .before .before .before .before .before .before .before .before .before .before .before .before .before .args .m) (c .before .before .before .before .before .before .before .before .before .before .before .check-instance .result .answer) (c .before .before .before .before .before .before .before .before .before .before .before .check-instance .result .checked) (c .before .before .before .before .before .before .before .before .before .before .before .check-instance .ensures .0) (c .before .before .before .before .before .before .before .before .before .before .before .check-instance .ensures .1) (c .before .before .before .before .before .before .before .if1 .left))) ∙ ap (λ (J : Instance). length (clauses J)) same)
-    (c .before .write-words .last .0) (c .before .write-words .ensures .1 ∙ ap (λ (J : Instance). filled (words (formula J)) (c .before .before .before .before .before .before .before .before .before .before .before .before .before .args .f .now)) same))
+    (done (c .before .before .before .before .before .before .before .before .before .before .before .before .before .args .b .now) (c .before .before .before .before .before .before .before .before .before .before .before .before .before .args .m) (c .before .before .before .before .before .before .before .before .before .before .before .before .before .args .f .now) (accept _) (call-answers (c .before .before .before .before .before .before .before .before .before .before .before .before .before .args .b .now) (c .before .before .before .before .before .before .before .before .before .before .before .before .before .args .m) (c .before .before .before .before .before .before .before .before .before .before .before .check-instance .result .answer) (c .before .before .before .before .before .before .before .before .before .before .before .check-instance .result .checked) (c .before .before .before .before .before .before .before .before .before .before .before .check-instance .ensures .0) (c .before .before .before .before .before .before .before .before .before .before .before .check-instance .ensures .1) (asks (c .before .before .before .before .before .before .before .before .before .before .before .before .before)) count (c .before .before .before .before .before .before .before .if1 .left) _ (pass-12 (c .before .before .before .before .before .before .before .before .before .before .before .before .before .args .b .now) (c .before .before .before .before .before .before .before .before .before .before .before .check-instance .result .checked) w (length (c .before .before .before .before .before .before .before .before .before .before .before .before .before .args .f .now)) (omega (arith, c .before .before .before .before .before .word-count .ensures, c .before .before .before .if2 .left)))) refl (c .before .before .before .before .clause-count .result)
+    (c .before .before .before .before .clause-count .ensures ∙ sym (clause-count-of (c .before .before .before .before .before .before .before .before .before .before .before .before .before .args .b .now) (c .before .before .before .before .before .before .before .before .before .before .before .check-instance .result .checked) w) ∙ ap (λ (J : Instance). length (clauses J)) same)
+    (c .before .write-words .last .0)
+    (c .before .write-words .ensures .1 ∙ ap (λ (l : List ℤ). filled l (c .before .before .before .before .before .before .before .before .before .before .before .before .before .args .f .now)) (sym (words-held (c .before .before .before .before .before .before .before .before .before .before .before .before .before .args .b .now) (c .before .before .before .before .before .before .before .before .before .before .before .check-instance .result .checked) w) ∙ ap (λ (J : Instance). words (formula J)) same)))
 
 pub write-formula-spec : {M : Type 1} → statement M
 write-formula-spec =

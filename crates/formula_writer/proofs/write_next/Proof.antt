@@ -8,10 +8,10 @@ use Rattle.formula_writer.proofs.write_next.Statement.{statement}
 use Rattle.formula_writer.proofs.write_next.Tie as tie
 
 write-family-requires : tie.Need-write-family-requires
-write-family-requires c κs = simp (length-take, length-drop) (c .before .before .pre .0, (c .before .before .pre .1 .0, omega arith))
+write-family-requires c κs = simp (length-take, length-drop) (c .before .pre .0, (c .before .pre .1 .0, omega arith))
 
 returns : tie.Need-returns
-returns c = filled-behind (c .before .before .before .before .args .f .now) _ _ (c .before .before .before .before .args .at) (omega arith) (c .before .write-family .ensures)
+returns c = filled-behind (c .before .before .before .args .f .now) _ _ (c .before .before .before .args .at) (omega arith) (c .before .write-family .ensures)
 
 add-result : tie.Need-add-result
 add-result c = omega (arith, c .before .write-family .ensures .0)

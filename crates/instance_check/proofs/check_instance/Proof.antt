@@ -8,7 +8,7 @@ use lib.ListN.{length}
 use Rattle.answers.specs.Answers.{refuse, decide}
 use Rattle.instance.specs.Instance.{vertices, agents, edges}
 use Rattle.instance.specs.Questions.{question6, question7, question8, question9, question10, instanceAnswer}
-use Rattle.instance_check.proofs.Laws.{short, sizes-refused, sizes-passed, sizes-known, is-refused, made}
+use Rattle.instance_check.proofs.Laws.{short, sizes-refused, sizes-passed, sizes-known, is-refused, made, edges-checked}
 use Rattle.instance_check.proofs.check_instance.Statement.{statement}
 use Rattle.instance_check.proofs.check_instance.Tie as tie
 
@@ -47,10 +47,16 @@ for-agents-requires c κs = let h = known (c .before .before .before .before) in
 for-agents-requires-2 : tie.Need-for-agents-requires-2
 for-agents-requires-2 c κs = let h = known (c .before .before .before .before .before) in (omega arith, omega arith)
 
+neighbour-words-requires : tie.Need-neighbour-words-requires
+neighbour-words-requires c κs =
+    let h = known (c .before .before .before .before .before .before) in
+    let r = c .before .before .before .before .before .before .before .before .before .sizes-of .ensures .0 in
+    ((r .e-same, omega arith, r .n-same, omega arith), edges-checked (c .before .before .before .before .before .before .before .before .before .before .before .before .args .b .now) (c .before .before .before .before .before .before .before .before .before .before .before .before .args .m) (c .before .before .before .before .before .ask-items .result) (asked (c .before .before .before .before .before)) (c .before .before .before .if3 .left))
+
 returns-4 : tie.Need-returns-4
 returns-4 c = (
-  asked (c .before .before .before .before .before),
-  made (c .before .before .before .before .before .before .before .before .before .before .before .before .args .b .now) (c .before .before .before .before .before .before .before .before .before .before .before .before .args .m) (c .before .before .before .before .before .ask-items .result) (asked (c .before .before .before .before .before)) (c .before .before .before .before .before .before .before .before .before .sizes-of .result) (c .before .before .before .before .before .before .before .before .before .sizes-of .ensures .0) (c .before .before .before .before .before .before .before .before .before .sizes-of .ensures .1) (c .before .for-agents .result) (c .for-agents2 .result) (c .before .for-agents .ensures) (c .for-agents2 .ensures) (c .before .before .before .if3 .left),
+  asked (c .before .before .before .before .before .before),
+  made (c .before .before .before .before .before .before .before .before .before .before .before .before .before .args .b .now) (c .before .before .before .before .before .before .before .before .before .before .before .before .before .args .m) (c .before .before .before .before .before .before .ask-items .result) (asked (c .before .before .before .before .before .before)) (c .before .before .before .before .before .before .before .before .before .before .sizes-of .result) (c .before .before .before .before .before .before .before .before .before .before .sizes-of .ensures .0) (c .before .before .before .before .before .before .before .before .before .before .sizes-of .ensures .1) (c .before .before .for-agents .result) (c .before .for-agents2 .result) (c .neighbour-words .result) (c .before .before .for-agents .ensures) (c .before .for-agents2 .ensures) (c .neighbour-words .ensures (c .before .before .before .before .before .before .before .before .before .before .before .before .before .args .m)) (c .before .before .before .before .if3 .left),
 )
 
 pub check-instance-spec : {M : Type 1} → statement M
@@ -72,4 +78,5 @@ check-instance-spec =
     for-agents-requires
     (λ c. search needs)
     for-agents-requires-2
+    neighbour-words-requires
     returns-4)

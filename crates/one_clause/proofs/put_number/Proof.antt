@@ -1,39 +1,42 @@
 -- `one_clause::put_number` meets its contract. The number is a place of a family, and that a place of a block. Assumes nothing.
 use mathlib.Core.Path.{refl}
 use borrow.Author.Needs.{needs}
-use Rattle.instance.proofs.Accepted.{limits-known}
+use Rattle.formula.specs.Blocks.{Given, heldIn}
 use Rattle.formula.specs.Counts.{clauseCount}
 use Rattle.one_clause.proofs.Clauses.{room-put, wrote-put}
 use Rattle.one_clause.proofs.Stands.{found}
 use Rattle.one_clause.proofs.put_number.Statement.{statement}
 use Rattle.one_clause.proofs.put_number.Tie as tie
 
+abbrev given : tie.Start → Given
+given s = heldIn (s .args .s) (s .args .starts .now) (s .args .goals .now) (s .args .near .now)
+
 spot-of-requires : tie.Need-spot-of-requires
 unfolding clauseCount
-spot-of-requires c κs = (limits-known (c .before .before .args .b .now) (c .before .before .args .c) (c .before .before .pre .0), c .before .before .pre .1 .0)
+spot-of-requires c κs = (c .pre .0 .limits, c .pre .1 .0)
 
 div-block : tie.Need-div-block
-div-block c = let q = found (c .before .before .before .before .args .b .now) (c .before .before .before .before .args .c) (c .before .before .before .before .pre .0) (c .before .spot-of .ensures) refl in search needs
+div-block c = let q = found (given (c .before .before)) (c .before .spot-of .ensures) refl in search needs
 
 blocks-at-requires : tie.Need-blocks-at-requires
-blocks-at-requires c κs = (limits-known (c .before .before .before .before .args .b .now) (c .before .before .before .before .args .c) (c .before .before .before .before .pre .0), c .before .spot-of .ensures .seven)
+blocks-at-requires c κs = (c .before .before .pre .0 .limits, c .before .spot-of .ensures .seven)
 
 div-put-clause : tie.Need-div-put-clause
-div-put-clause c = let q = found (c .before .before .before .before .before .before .args .b .now) (c .before .before .before .before .before .before .args .c) (c .before .before .before .before .before .before .pre .0) (c .before .before .before .spot-of .ensures) (c .before .blocks-at .ensures .0) in search needs
+div-put-clause c = let q = found (given (c .before .before .before .before)) (c .before .before .before .spot-of .ensures) (c .before .blocks-at .ensures .0) in search needs
 
 rem-put-clause : tie.Need-rem-put-clause
-rem-put-clause c = let q = found (c .before .before .before .before .before .before .args .b .now) (c .before .before .before .before .before .before .args .c) (c .before .before .before .before .before .before .pre .0) (c .before .before .before .spot-of .ensures) (c .before .blocks-at .ensures .0) in search needs
+rem-put-clause c = let q = found (given (c .before .before .before .before)) (c .before .before .before .spot-of .ensures) (c .before .blocks-at .ensures .0) in search needs
 
 rem-put-clause-2 : tie.Need-rem-put-clause-2
-rem-put-clause-2 c = let q = found (c .before .before .before .before .before .before .before .args .b .now) (c .before .before .before .before .before .before .before .args .c) (c .before .before .before .before .before .before .before .pre .0) (c .before .before .before .before .spot-of .ensures) (c .before .before .blocks-at .ensures .0) in search needs
+rem-put-clause-2 c = let q = found (given (c .before .before .before .before .before)) (c .before .before .before .before .spot-of .ensures) (c .before .before .blocks-at .ensures .0) in search needs
 
 put-clause-requires : tie.Need-put-clause-requires
 put-clause-requires c κs =
-    let q = found (c .before .before .before .before .before .before .before .args .b .now) (c .before .before .before .before .before .before .before .args .c) (c .before .before .before .before .before .before .before .pre .0) (c .before .before .before .before .spot-of .ensures) (c .before .before .blocks-at .ensures .0) in
-    (c .before .before .before .before .before .before .before .pre .0, ((c .before .before .before .before .spot-of .ensures .seven, q .step, q .cell, q .inside), room-put (q .same) (c .before .before .before .before .before .before .before .pre .1 .1)))
+    let q = found (given (c .before .before .before .before .before)) (c .before .before .before .before .spot-of .ensures) (c .before .before .blocks-at .ensures .0) in
+    (c .before .before .before .before .before .pre .0, ((c .before .before .before .before .spot-of .ensures .seven, q .step, q .cell, q .inside), room-put (q .same) (c .before .before .before .before .before .pre .1 .1)))
 
 returns : tie.Need-returns
-returns c = let q = found (c .before .before .before .before .before .before .before .before .before .args .b .now) (c .before .before .before .before .before .before .before .before .before .args .c) (c .before .before .before .before .before .before .before .before .before .pre .0) (c .before .before .before .before .before .before .spot-of .ensures) (c .before .before .before .before .blocks-at .ensures .0) in wrote-put (q .same) _ _ (c .before .put-clause .ensures)
+returns c = let q = found (given (c .before .before .before .before .before .before .before)) (c .before .before .before .before .before .before .spot-of .ensures) (c .before .before .before .before .blocks-at .ensures .0) in wrote-put (q .same) _ _ (c .before .put-clause .ensures)
 
 pub put-number-spec : {M : Type 1} → statement M
 put-number-spec =

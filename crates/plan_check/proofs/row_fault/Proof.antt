@@ -20,10 +20,10 @@ loop-holds : tie.Need-loop-holds Inv-loop μ-loop
 loop-holds c = (omega arith, below-none _)
 
 returns : tie.Need-returns Inv-loop μ-loop
-returns c = fault-at (omega arith) (c .before .before .before .loop .inv .1) (rw (ne-eqb _ _ (c .if1 .taken)) (λ f. f))
+returns c = fault-at (omega arith) (c .before .before .before .before .loop .inv .1) (rw (ne-eqb _ _ (c .if1 .taken)) (λ f. f))
 
 loop-again : tie.Need-loop-again Inv-loop μ-loop
-loop-again c = (omega arith, below-more _ _ (c .before .before .before .loop .inv .1) (rw (eq-eqb _ _ (c .if1 .left)) tt))
+loop-again c = (omega arith, below-more _ _ (c .before .before .before .before .loop .inv .1) (rw (eq-eqb _ _ (c .if1 .left)) tt))
 
 returns-2 : tie.Need-returns-2 Inv-loop μ-loop
 returns-2 c = fault-none (omega arith) (c .before .loop .inv .1)
