@@ -43,7 +43,7 @@ awk '{ times[$1, $2] += $3 }
         split("writer clause plan decoder encoder", name, " ")
         for (kind = 1; kind <= 5; kind++) {
             line = ""
-            for (number = 0; number <= 24; number++)
+            for (number = 0; number <= 26; number++)
                 if ((kind, number) in times) line = line " " number ":" times[kind, number]
             print name[kind] line
         }

@@ -104,13 +104,17 @@ int main(void) {
 
     /* Two agents on the pair's edge, and the path. */
     static const uint8_t swap[10] = {2, 2, 1, 0, 0, 1, 0, 1, 1, 0}, swapped[4] = {0, 1, 1, 0};
-    expect("20, place 2", says(runglaet_check_plan(swap, sizeof swap, 1, swapped, 4), 20, 2));
+    expect("25, place 2", says(runglaet_check_plan(swap, sizeof swap, 1, swapped, 4), 25, 2));
+    expect("encoder: 25, place 2", says(runglaet_encode(swap, sizeof swap, 1, swapped, 4, words, 25), 25, 2));
     written = runglaet_write_formula(swap, sizeof swap, 1, words, 25);
     expect("72 words needed", written.number == 12 && written.second == 72);
     expect("24 clauses", says(runglaet_clause(swap, sizeof swap, 1, 24, words, 25), 11, 24));
     static const uint8_t path[12] = {3, 2, 2, 0, 0, 1, 1, 2, 0, 1, 1, 2}, follow[4] = {0, 1, 1, 2},
-                         wait[6] = {0, 1, 0, 2, 1, 2};
-    expect("path: 20, place 2", says(runglaet_check_plan(path, sizeof path, 1, follow, 4), 20, 2));
+                         stand[4] = {0, 1, 1, 1}, wait[6] = {0, 1, 0, 2, 1, 2};
+    expect("path: 26, place 2", says(runglaet_check_plan(path, sizeof path, 1, follow, 4), 26, 2));
+    expect("path, encoder: 26, place 2", says(runglaet_encode(path, sizeof path, 1, follow, 4, words, 25), 26, 2));
+    expect("path: 20, place 2", says(runglaet_check_plan(path, sizeof path, 1, stand, 4), 20, 2));
+    expect("path, encoder: 20, place 2", says(runglaet_encode(path, sizeof path, 1, stand, 4, words, 25), 20, 2));
     expect("path: cost 2", says(runglaet_check_plan(path, sizeof path, 2, wait, 6), 0, 2));
     static const uint8_t meet[12] = {3, 2, 2, 0, 0, 1, 1, 2, 0, 2, 1, 2}, met[4] = {0, 2, 1, 1};
     expect("path: 21, place 3", says(runglaet_check_plan(meet, sizeof meet, 1, met, 4), 21, 3));

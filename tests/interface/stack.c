@@ -182,13 +182,13 @@ int main(void) {
         {CLAUSE, "clause, no such number", M, CLAUSES, WORDS, 11, CLAUSES},
         {CLAUSE, "clause, slice too short", M, CLAUSES - 1, 2, 12, 3},
         {CHECK, "plan check, accepted", M, PASSES, PLAN, 0, K},
-        {CHECK, "plan check, occupied vertex in the last step", M, SWAPS, PLAN, 20, M * K + K - 2},
+        {CHECK, "plan check, exchange in the last step", M, SWAPS, PLAN, 25, M * K + K - 2},
         {CHECK, "plan check, plan too short", M, PASSES, PLAN - 1, 13, PLAN - 1},
         {DECODER, "decoder, accepted", M, PASSES, PLAN, 0, PLAN},
         {DECODER, "decoder, falsified clause of family G", M, SWAPS, PLAN, 24, SWAPPED},
         {DECODER, "decoder, slice too short", M, PASSES, PLAN - 1, 15, PLAN},
         {ENCODER, "encoder, accepted", M, PASSES, VARIABLES, 0, VARIABLES},
-        {ENCODER, "encoder, occupied vertex in the last step", M, SWAPS, VARIABLES, 20, M * K + K - 2},
+        {ENCODER, "encoder, exchange in the last step", M, SWAPS, VARIABLES, 25, M * K + K - 2},
         {ENCODER, "encoder, slice too short", M, PASSES, VARIABLES - 1, 16, VARIABLES},
     };
     size_t most = 0;

@@ -1,10 +1,11 @@
 -- When questions are answered yes, and what the first no gives.
 use mathlib.Core.Path.{_≡_, refl, sym, _∙_, ap, ap₂}
-use mathlib.Core.Logic.{_↔_, _≢_, Iff·rfl}
-use mathlib.Core.List.{List, [], _∷_, _++_, cons≢nil}
+use mathlib.Core.Logic.{_↔_, _≢_, _⊎_, inl, inr, ⊎-elim, by-cases, Iff·rfl}
+use mathlib.Core.List.{List, [], _∷_, _++_, append-assoc, cons≢nil}
 use mathlib.Core.Bool.{Bool}
 use Prim.Native.Nat.{ℕ, zero, suc, _≤_, _<_, _-_, _+_}
 use native.Mathlib.Numerals.{add-one}
+use native.Mathlib.Decide.{ℕ-discrete, decLt}
 use native.Mathlib.Omega.{arith}
 use lib.ListN.{length, take}
 use lib.Dec.{T, ltb, ltb→lt}
@@ -16,6 +17,7 @@ use Rattle.lists.proofs.Slices.{take-filled}
 use Rattle.answers.specs.declared.Answer.{Answer}
 use Rattle.answers.specs.Answers.{Question, ask, askEach, clear, accept, decide, byNumber, lent}
 use Rattle.answers.specs.Fault.{FirstFault}
+use Rattle.answers.proofs.Faults.{fault-of}
 
 -- no refusal of a question has the number 0
 abbrev pub numbered : Question → Bool
@@ -130,6 +132,23 @@ module _ {n : ℕ} {test : ℕ → Bool} {r : ℕ} (f : FirstFault n test r) (re
   pub fault-stop : r < n → decide (askEach n test refusal ∷ qs) c ≡ refusal r
   fault-stop l = decide-stop n test refusal qs c r l (f .before) (f .here l)
 
+-- a question about items is answered yes, or its first item that fails decides
+pub decide-each : (n : ℕ) (test : ℕ → Bool) (refusal : ℕ → Answer) (qs : List Question) (c : ℕ)
+    → (((i : ℕ) → i < n → T (test i)) × (decide (askEach n test refusal ∷ qs) c ≡ decide qs c))
+    ⊎ ((r : ℕ) × (r < n) × FirstFault n test r × (decide (askEach n test refusal ∷ qs) c ≡ refusal r))
+decide-each n test refusal qs c =
+    let (r, f) = fault-of n test in
+    by-cases (decLt r n)
+    (λ l. inr (r, l, f, fault-stop f refusal qs c l))
+    (λ l. inl ((λ i h. f .before i (omega arith)), fault-pass f refusal qs c (omega arith)))
+
+-- where a test holds of every refusal of the first questions, they are all answered yes, or it holds of the answer
+pub decide-past : (p : Answer → Bool) (qs rs : List Question) (c : ℕ) → T (all (all p) qs) → T (all clear qs) ⊎ T (p (decide (qs ++ rs) c))
+unfolding decide
+decide-past p [] rs c h = inl tt
+decide-past p ([] ∷ qs) rs c h = decide-past p qs rs c h
+decide-past p ((r ∷ rs′) ∷ qs) rs c h = inr (and-iff (p r) _ .0 (and-iff (all p (r ∷ rs′)) _ .0 h .0) .0)
+
 -- an accepted call's slice, and a refused one's
 module _ {A : Type 0} where
   pub lent-accepted : (r : Answer) (out s : List A) → r .number ≡ 0 → lent r out s ≡ filled out s
@@ -175,6 +194,21 @@ module _ (f : ℕ → List Question) (t : ℕ) (r : Answer) (er : r ≡ decide (
   pub step-more : T (all numbered (f t)) → r .number ≡ 0 → T (all clear (for (t + 1) f))
   step-more h e =
       rw (add-one t) (all-append clear (for t f) (f t) .1 (yes, decide-iff (f t) 0 h .0 (sym (ap (λ (a : Answer). a .number) er) ∙ e)))
+
+-- the questions of every list are answered yes, or those of the first list that are not decide
+pub decide-lists : (f : ℕ → List Question) → ((t : ℕ) → T (all numbered (f t))) → (n : ℕ) (qs : List Question) (c : ℕ)
+    → T (all clear (for n f)) ⊎ ((t : ℕ) × (t < n) × T (all clear (for t f)) × (decide (for n f ++ qs) c ≡ decide (f t) 0))
+decide-lists f h zero qs c = inl tt
+decide-lists f h (suc n) qs c =
+    ⊎-elim
+    (λ clear-before.
+    by-cases (ℕ-discrete (decide (f n) 0 .number) 0)
+    (λ e. inl (all-append clear (for n f) (f n) .1 (clear-before, decide-iff (f n) 0 (h n) .0 e)))
+    (λ d.
+    let here : decide (for n f ++ f n) 0 ≡ decide (f n) 0 = decide-after (for n f) (f n) 0 clear-before in
+    inr (n, omega arith, clear-before, decide-refused (for n f ++ f n) qs 0 c (λ e. d (ap (λ (a : Answer). a .number) (sym here) ∙ e)) ∙ here)))
+    (λ (t, l, clear-before, e). inr (t, omega arith, clear-before, ap (λ (x : List Question). decide x c) (append-assoc (for n f) (f n) qs) ∙ e))
+    (decide-lists f h n (f n ++ qs) c)
 
 -- a refusal does not depend on the count
 pub count-free : (qs : List Question) (c d : ℕ) → decide qs c .number ≢ 0 → decide qs c ≡ decide qs d

@@ -1,2 +1,3 @@
+pub mod Occupied
 pub mod Plan
 pub mod Valuation

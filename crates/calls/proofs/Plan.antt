@@ -1,27 +1,37 @@
--- The plan check's questions are answered yes exactly for the plans that pass.
-use mathlib.Core.Path.{_≡_}
-use mathlib.Core.Logic.{_↔_, Iff·trans}
-use mathlib.Core.List.{List, _∷_}
-use Prim.Native.Nat.{ℕ, suc}
+-- The plan check's questions are answered yes exactly for the plans that pass; and where they answer a number of question 20.
+use mathlib.Core.Path.{_≡_, sym, _∙_, subst}
+use mathlib.Core.Logic.{_↔_, _≢_, ⊎-elim, Iff·trans}
+use mathlib.Core.List.{List, [], _∷_, _++_}
+use Prim.Native.Nat.{ℕ, suc, _<_}
 use native.Mathlib.Omega.{arith}
 use lib.Dec.{T}
 use Rattle.lists.specs.Loop.{for, all}
 use Rattle.lists.proofs.Tests.{and-iff, or-imp, not-iff, eqb-iff, ltb-iff, every-iff}
 use Rattle.lists.proofs.Loops.{all-append, for-all}
-use Rattle.answers.specs.Answers.{clear}
-use Rattle.answers.proofs.Laws.{numbered, clear-iff, each-all, each-nil, decide-iff, decide-after, ask-nil, ask-all}
+use Rattle.answers.specs.declared.Answer.{Answer}
+use Rattle.answers.specs.Answers.{Question, decide, clear}
+use Rattle.answers.proofs.Laws.{numbered, clear-iff, each-all, each-nil, decide-iff, decide-count, decide-after, decide-lists, ask-nil, ask-all}
 use Rattle.instance.specs.declared.Sizes.{Sizes}
-use Rattle.instance.specs.Instance.{Instance, instance}
-use Rattle.plan.specs.Plan.{condition1, condition2, condition3, planRow}
-use Rattle.plan.specs.Passing.{Passes}
+use Rattle.instance.specs.Instance.{Instance, instance, adjacent}
+use Rattle.plan.specs.Plan.{Row, condition1, condition2, condition3, planRow, occupantLeaves}
+use Rattle.plan.specs.Passing.{ValidStep, Passes}
 use Rattle.plan.proofs.Steps.{apart-any, crosses-iff}
-use Rattle.calls.specs.Questions.{question13}
+use Rattle.calls.specs.Questions.{question13, question17, question18, question22}
 use Rattle.instance.specs.Questions.{instanceQuestions}
 use Rattle.calls.specs.Calls.{stepQuestions, planQuestions, checkAnswer}
+use Rattle.calls.proofs.Occupied.{Occupied, past, numbered-occupied, InStep, in-step}
 
 module _ (I : Instance) (p : List ℕ) where
-  open Instance I using (sizes)
+  open Instance I using (sizes, start)
   open Sizes sizes using (k, m)
+
+  abbrev P : ℕ → Row
+  P = planRow sizes p
+
+  pub numbered-step : (t : ℕ) → T (all numbered (stepQuestions I p t))
+  numbered-step t =
+      simp (and-iff, each-all)
+      ((λ a l f. tt), ((λ a l f. numbered-occupied (occupantLeaves sizes (P t) (P (suc t)) a)), ((λ a l f. tt), tt)))
 
   pub numbered-plan : T (all numbered (question13 I p ∷ planQuestions I p))
   unfolding planQuestions
@@ -32,50 +42,88 @@ module _ (I : Instance) (p : List ℕ) where
           (λ i l f. tt),
           (
             (λ a l f. tt),
-            ((λ t l. ((λ a r f. tt), ((λ a r f. tt), ((λ a r f. tt), tt)))), ((λ a l f. tt), tt)),
+            (
+              (λ t l. ((λ a r f. tt), ((λ a r f. numbered-occupied (occupantLeaves sizes (P t) (P (suc t)) a)), ((λ a r f. tt), tt)))),
+              ((λ a l f. tt), tt),
+            ),
           ),
         ),
       )
 
+  -- what the tests of step t say
+  abbrev StepTests : ℕ → Type 0
+  StepTests t =
+      ((a : ℕ) → a < k → P t a ≢ P (suc t) a → T (adjacent I (P t a) (P (suc t) a)))
+      × (((a : ℕ) → a < k → P t a ≢ P (suc t) a → (b : ℕ) → b < k → P t b ≢ P (suc t) a)
+      × (((a : ℕ) → a < k → (b : ℕ) → b < a → P (suc t) b ≢ P (suc t) a) × Unit {0}))
+
+  tests-iff : (t : ℕ) → StepTests t ↔ ValidStep I (P t) (P (suc t))
+  tests-iff t = (
+    (λ h. record {
+      crosses = λ a r. crosses-iff I (P t a) (P (suc t) a) .0 (h .0 a r);
+      vacant = h .1 .0;
+      apart = apart-any k (P (suc t)) (λ a b o r. h .1 .1 .0 b r a o);
+    }),
+    (λ h. (
+      (λ a r. crosses-iff I (P t a) (P (suc t) a) .1 (h .crosses a r)),
+      (h .vacant, ((λ a r b q. h .apart b a (omega arith) r (omega arith)), tt)),
+    )),
+  )
+
+  pub clear-step : (t : ℕ) → T (all clear (stepQuestions I p t)) ↔ ValidStep I (P t) (P (suc t))
+  unfolding condition1 condition2 condition3
+  clear-step t = simp (and-iff, clear-iff, each-nil, or-imp, not-iff, eqb-iff, every-iff) (tests-iff t)
+
   pub clear-plan : T (all clear (question13 I p ∷ planQuestions I p)) ↔ Passes I p
   unfolding planQuestions condition1 condition2 condition3
   clear-plan =
-      let P : ℕ → ℕ → ℕ = planRow sizes p in
       simp (and-iff, all-append clear (for m (stepQuestions I p)), for-all, clear-iff, each-nil, ask-nil, or-imp, not-iff, eqb-iff, ltb-iff, every-iff) (
         (λ h. record {
           size = h .0;
           inside = h .1 .0;
           leads = record {
             starts = h .1 .1 .0;
-            steps = λ t l.
-                let step = h .1 .1 .1 .0 t l in
-                record {
-                  crosses = λ a r. crosses-iff I (P t a) (P (suc t) a) .0 (step .0 a r);
-                  vacant = step .1 .0;
-                  apart = apart-any k (P (suc t)) (λ a b o r. step .1 .1 .0 b r a o);
-                };
+            steps = λ t l. tests-iff t .0 (h .1 .1 .1 .0 t l);
             goals = h .1 .1 .1 .1 .0;
           };
         }),
         (λ h.
             let o = h .leads in (
               h .size,
-              (
-                h .inside,
-                (
-                  o .starts,
-                  (
-                    (λ t l.
-                        let step = o .steps t l in (
-                          (λ a r. crosses-iff I (P t a) (P (suc t) a) .1 (step .crosses a r)),
-                          (step .vacant, ((λ a r b q. step .apart b a (omega arith) r (omega arith)), tt)),
-                        )),
-                    (o .goals, tt),
-                  ),
-                ),
-              ),
+              (h .inside, (o .starts, ((λ t l. tests-iff t .1 (o .steps t l)), (o .goals, tt)))),
             )),
       )
+
+  -- what a number of question 20 says of the plan: it comes from the first step that is not valid
+  pub record OccupiedAt (answer : Answer) : Type 0 where
+    pub t : ℕ
+    pub step : t < m
+    -- row 0 is the starts, and the steps before are valid
+    pub starts : (c : ℕ) → c < k → P 0 c ≡ start c
+    pub before : (u : ℕ) → u < t → ValidStep I (P u) (P (suc u))
+    pub here : InStep I p t answer
+
+  pub occupied-at : (c : ℕ) → Occupied (decide (planQuestions I p) c) → OccupiedAt (decide (planQuestions I p) c)
+  unfolding planQuestions
+  occupied-at c o =
+      let steps : List Question = for m (stepQuestions I p) in
+      let goals : List Question = question22 I p ∷ [] in
+      let early = past (question17 I p ∷ question18 I p ∷ []) (steps ++ goals) c (simp (and-iff, each-all) ((λ i l f. tt), ((λ a l f. tt), tt))) o in
+      let o′ = subst Occupied (early .1) o in
+      ⊎-elim
+      (λ yes.
+      let e = decide-after steps goals c yes in
+      let last = past goals [] c (simp (and-iff, each-all) ((λ a l f. tt), tt)) (subst Occupied e o′) in
+      absurd (subst Occupied (e ∙ last .1 ∙ decide-count [] c tt) o′))
+      (λ w.
+      record {
+        t = w .0;
+        step = w .1;
+        starts = (simp (and-iff, clear-iff, each-nil, eqb-iff) at early .0) .1 .0;
+        before = λ u l. clear-step u .0 (for-all clear (w .0) (stepQuestions I p) .0 (w .2) u l);
+        here = subst (InStep I p (w .0)) (sym (early .1 ∙ w .3)) (in-step I p (w .0) (subst Occupied (w .3) o′));
+      })
+      (decide-lists (stepQuestions I p) numbered-step m goals c)
 
 -- the plan check passes a plan exactly when it leads from the starts to the goals and every step obeys the three conditions
 pub check-iff : (b : List ℕ) (m : ℕ) → T (all clear (instanceQuestions b m)) → (p : List ℕ)

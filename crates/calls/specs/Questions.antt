@@ -8,7 +8,7 @@ use Rattle.answers.specs.Answers.{Question, ask, askEach, refuse}
 use Rattle.instance.specs.declared.Sizes.{Sizes}
 use Rattle.instance.specs.Instance.{Instance, adjacent}
 use Rattle.formula.specs.Formula.{Formula}
-use Rattle.plan.specs.Plan.{planBytes, planIndex, planRow, condition1, condition2, condition3}
+use Rattle.plan.specs.Plan.{planBytes, planIndex, planRow, condition1, condition2, condition3, Leaving, stays, exchanges, movesOn, occupantLeaves}
 use Rattle.valuation.specs.Valuation.{rightEntry, satisfied?}
 
 -- Of a formula f: is the clause number below the clause count?
@@ -35,6 +35,12 @@ question15 I size = ask (leb (planBytes (I .sizes)) size) (refuse 15 (planBytes 
 abbrev pub question16 : Formula → ℕ → Question
 question16 f size = ask (leb (f .variables) size) (refuse 16 (f .variables))
 
+-- the number of question 20's refusal says how the occupant of the vertex entered leaves it
+abbrev pub occupiedNumber : Leaving → ℕ
+occupiedNumber stays = 20
+occupiedNumber exchanges = 25
+occupiedNumber movesOn = 26
+
 -- of an accepted instance with its horizon, and of the bytes p of a plan
 module _ (I : Instance) (p : List ℕ) where
   open Instance I using (sizes, start, goal)
@@ -52,9 +58,11 @@ module _ (I : Instance) (p : List ℕ) where
   abbrev pub question19 : ℕ → Question
   question19 t = askEach k (condition1 (adjacent I) (planRow sizes p t) (planRow sizes p (suc t))) λ a. refuse 19 (planIndex sizes (suc t) a)
 
-  -- Condition 2?
+  -- Condition 2? The lowest agent that entered an occupied vertex decides between 20, 25 and 26.
   abbrev pub question20 : ℕ → Question
-  question20 t = askEach k (condition2 sizes (planRow sizes p t) (planRow sizes p (suc t))) λ a. refuse 20 (planIndex sizes (suc t) a)
+  question20 t =
+      askEach k (condition2 sizes (planRow sizes p t) (planRow sizes p (suc t)))
+      λ a. refuse (occupiedNumber (occupantLeaves sizes (planRow sizes p t) (planRow sizes p (suc t)) a)) (planIndex sizes (suc t) a)
 
   -- Condition 3?
   abbrev pub question21 : ℕ → Question

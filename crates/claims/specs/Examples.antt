@@ -29,6 +29,10 @@ pathOne s g = 3 ∷ 1 ∷ 2 ∷ 0 ∷ 0 ∷ 1 ∷ 1 ∷ 2 ∷ s ∷ g ∷ []
 abbrev pub pathTwo : ℕ → ℕ → ℕ → ℕ → List ℕ
 pathTwo s₀ s₁ g₀ g₁ = 3 ∷ 2 ∷ 2 ∷ 0 ∷ 0 ∷ 1 ∷ 1 ∷ 2 ∷ s₀ ∷ s₁ ∷ g₀ ∷ g₁ ∷ []
 
+-- the path with an agent on each vertex, each of which stays
+abbrev pub pathFull : List ℕ
+pathFull = 3 ∷ 3 ∷ 2 ∷ 0 ∷ 0 ∷ 1 ∷ 1 ∷ 2 ∷ 0 ∷ 1 ∷ 2 ∷ 0 ∷ 1 ∷ 2 ∷ []
+
 -- ---- calls, and what is seen of them
 pub data Call : Type 0 where
   write : List ℤ → Call
@@ -136,11 +140,15 @@ table =
     -- the lowest 32-bit number is a wrong entry like any other
     ∷ example pair 1 (decode (pos 1 ∷ neg 2 ∷ neg 2147483648 ∷ pos 4 ∷ []) lentPlan) (plan (refuse 23 2) lentPlan)
     -- two agents exchange the ends of an edge; their formula has 24 clauses, 72 words
-    ∷ example exchange 1 (check (0 ∷ 1 ∷ 1 ∷ 0 ∷ [])) (answer (refuse 20 2))
+    ∷ example exchange 1 (check (0 ∷ 1 ∷ 1 ∷ 0 ∷ [])) (answer (refuse 25 2))
+    ∷ example exchange 1 (encode (0 ∷ 1 ∷ 1 ∷ 0 ∷ []) (sevens 8)) (valuation (refuse 25 2) (sevens 8))
     ∷ example exchange 1 (write (sevens 72)) (words (written 72 24) exchangeWords)
-    -- on the path one agent closes up behind another, then waits for it
-    ∷ example (pathTwo 0 1 1 2) 1 (check (0 ∷ 1 ∷ 1 ∷ 2 ∷ [])) (answer (refuse 20 2))
+    -- on the path one agent closes up behind another, then waits for it, then drives into it where it stays
+    ∷ example (pathTwo 0 1 1 2) 1 (check (0 ∷ 1 ∷ 1 ∷ 2 ∷ [])) (answer (refuse 26 2))
     ∷ example (pathTwo 0 1 1 2) 2 (check (0 ∷ 1 ∷ 0 ∷ 2 ∷ 1 ∷ 2 ∷ [])) (answer (accept 2))
+    ∷ example (pathTwo 0 1 1 2) 1 (check (0 ∷ 1 ∷ 1 ∷ 1 ∷ [])) (answer (refuse 20 2))
+    -- agents 0 and 1 are at fault: the occupant that agent 0 meets moves on, the one that agent 1 meets stays
+    ∷ example pathFull 1 (check (0 ∷ 1 ∷ 2 ∷ 1 ∷ 2 ∷ 2 ∷ [])) (answer (refuse 26 3))
     -- one move and two waits cost 1
     ∷ example pair 3 (check (0 ∷ 0 ∷ 0 ∷ 1 ∷ [])) (answer (accept 1))
     -- two agents meet on one vertex

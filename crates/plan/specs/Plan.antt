@@ -1,10 +1,10 @@
 -- Plans: their rows, the three conditions as tests, makespan and cost.
 use mathlib.Core.List.{List}
-use mathlib.Core.Bool.{Bool, not, _||_}
+use mathlib.Core.Bool.{Bool, not, _||_, cond}
 use Prim.Native.Nat.{ℕ, zero, suc, _+_, _*_, _-_, _/_}
 use lib.ListN.{length, getD}
 use lib.Dec.{eqb}
-use Rattle.lists.specs.Loop.{for, unless, every, unlikeEarlier}
+use Rattle.lists.specs.Loop.{for, unless, every, first, unlikeEarlier}
 use Rattle.instance.specs.declared.Sizes.{Sizes}
 
 -- a row: the vertex of each agent at one time
@@ -49,6 +49,23 @@ abbrev pub condition : Sizes → (ℕ → ℕ → Bool) → ℕ → Row → Row 
 condition s near zero here next a = condition1 near here next a
 condition s near (suc zero) here next a = condition2 s here next a
 condition s near (suc (suc which)) here next a = condition3 next a
+
+-- Where an agent fails condition 2, the vertex that it enters was occupied.
+-- the occupant: the agent that stood on the vertex that agent a enters
+abbrev pub occupant : Sizes → Row → Row → ℕ → ℕ
+occupant s here next a = first (s .k) λ b. eqb (here b) (next a)
+
+-- how an occupant leaves: it stays, it moves to the entering agent's old vertex, or it moves to another
+pub data Leaving : Type 0 where
+  stays : Leaving
+  exchanges : Leaving
+  movesOn : Leaving
+
+-- how the occupant of the vertex that agent a enters leaves it
+unfoldable pub occupantLeaves : Sizes → Row → Row → ℕ → Leaving
+occupantLeaves s here next a =
+    let b = occupant s here next a in
+    cond (keeps here next b) stays (cond (eqb (next b) (here a)) exchanges movesOn)
 
 -- the number of steps of a plan: they lie between its rows of k bytes
 abbrev pub makespan : ℕ → List ℕ → ℕ

@@ -2,7 +2,7 @@
 use mathlib.Core.Path.{_≡_, sym, _∙_, ap, ap₂, subst}
 use mathlib.Core.Logic.{_≢_}
 use mathlib.Core.List.{List, [], _∷_, _++_}
-use mathlib.Core.Bool.{Bool, true, false}
+use mathlib.Core.Bool.{Bool, true, false, not}
 use Prim.Native.Nat.{ℕ, suc, _+_, _-_, _*_, _≤_, _<_}
 use native.Mathlib.Nat.{suc-mul, add-zero, zero-add, zero-mul}
 use native.Mathlib.Numerals.{add-one}
@@ -20,14 +20,15 @@ use Rattle.answers.proofs.Faults.{fault-ext}
 use Rattle.instance.specs.declared.Sizes.{Sizes}
 use Rattle.instance.specs.declared.Checked.{Checked}
 use Rattle.instance.specs.Instance.{Instance, adjacent, joined}
-use Rattle.plan.specs.Plan.{planBytes, planIndex, planRow, condition, cost}
-use Rattle.calls.specs.Questions.{question13, question18, question20, question21, question22}
+use Rattle.plan.specs.Plan.{Row, planBytes, planIndex, planRow, condition, condition2, occupantLeaves, cost}
+use Rattle.plan.proofs.Steps.{occupant-inside, leaves-stays, leaves-exchanges, leaves-on}
+use Rattle.calls.specs.Questions.{occupiedNumber, question13, question18, question20, question21, question22}
 use Rattle.calls.specs.Calls.{stepQuestions, planQuestions, checkRest}
 use Rattle.instance.specs.Accepted.{Accepted, instanceOf}
 use Rattle.instance.specs.Limits.{Limits}
 use Rattle.instance.specs.Shows.{ShowsGraph, Shows}
 use Rattle.instance.proofs.Accepted.{sizes-same}
-use Rattle.calls.proofs.Plan.{numbered-plan}
+use Rattle.calls.proofs.Plan.{numbered-step, numbered-plan}
 use Rattle.conditions.specs.Inside.{Inside}
 
 -- ---- counting the moves of a step, agent by agent
@@ -48,21 +49,57 @@ count-step p t k a moves ea e =
 pub count-more : (f : ℕ → List ℕ) (t moves more : ℕ) → moves ≡ length (for t f) → more ≡ length (f t) → moves + more ≡ length (for (t + 1) f)
 count-more f t moves more e h = rw (add-one t, length-append, e, h)
 
--- ---- a question of all agents, where k is their number as the code has it; `at` is where the row begins in which the place is named
-module _ (I : Instance) (k : ℕ) (ek : k ≡ I .sizes .k) (test : ℕ → Bool) (r : ℕ) (f : FirstFault (I .sizes .k) test r) (number row : ℕ) (qs : List Question) where
-  pub stop-agents : (at : ℕ) → at ≡ row * k → r < k
-      → refuse number (at + r) ≡ decide (askEach (I .sizes .k) test (λ a. refuse number (planIndex (I .sizes) row a)) ∷ qs) 0
-  stop-agents at ea l =
-      ap (λ (x : ℕ). refuse number (x + r)) (ea ∙ ap (λ (x : ℕ). row * x) ek)
-      ∙ sym (fault-stop f (λ a. refuse number (planIndex (I .sizes) row a)) qs 0 (rw (← ek) l))
+-- ---- question 20's number of agent a in step t
+abbrev numberOf : Sizes → List ℕ → ℕ → ℕ → ℕ
+numberOf s p t a = occupiedNumber (occupantLeaves s (planRow s p t) (planRow s p (suc t)) a)
 
-  pub pass-agents : k ≤ r → decide qs 0 ≡ decide (askEach (I .sizes .k) test (λ a. refuse number (planIndex (I .sizes) row a)) ∷ qs) 0
-  pass-agents l = sym (fault-pass f (λ a. refuse number (planIndex (I .sizes) row a)) qs 0 (rw (← ek) l))
+-- a fails condition 2 there, and b is the first agent found on the vertex that it enters
+module _ (s : Sizes) (p : List ℕ) (t a : ℕ) (fails : T (condition2 s (planRow s p t) (planRow s p (suc t)) a) → ⊥) (b : ℕ) (f : FirstFault (s .k) (λ c. not (eqb (getD p (t * s .k + c) 0) (getD p (t * s .k + s .k + a) 0))) b) where
+  abbrev here : Row
+  here = planRow s p t
+
+  abbrev next : Row
+  next = planRow s p (suc t)
+
+  -- the bytes of the next row
+  abbrev byte : ℕ → ℕ
+  byte c = getD p (t * s .k + s .k + c) 0
+
+  byte-next : (c : ℕ) → byte c ≡ next c
+  byte-next c = ap (λ (x : ℕ). getD p (x + c) 0) (sym (suc-mul t (s .k)))
+
+  found : FirstFault (s .k) (λ c. not (eqb (here c) (next a))) b
+  found = subst (λ (x : ℕ). FirstFault (s .k) (λ c. not (eqb (here c) x)) b) (byte-next a) f
+
+  pub occupant-below : b < s .k
+  occupant-below = occupant-inside s here next a fails b found
+
+  pub number-stays : byte b ≡ byte a → 20 ≡ numberOf s p t a
+  number-stays e = sym (ap occupiedNumber (leaves-stays s here next a fails b found (sym (byte-next b) ∙ e ∙ byte-next a)))
+
+  module _ (d : byte b ≢ byte a) where
+    moved : next b ≢ next a
+    moved e = d (byte-next b ∙ e ∙ sym (byte-next a))
+
+    pub number-exchanges : byte b ≡ here a → 25 ≡ numberOf s p t a
+    number-exchanges e = sym (ap occupiedNumber (leaves-exchanges s here next a fails b found moved (sym (byte-next b) ∙ e)))
+
+    pub number-on : byte b ≢ here a → 26 ≡ numberOf s p t a
+    number-on e = sym (ap occupiedNumber (leaves-on s here next a fails b found moved (λ x. e (byte-next b ∙ x))))
+
+-- ---- a question of all agents, where k is their number as the code has it; `at` is where the row begins in which the place is named
+module _ (I : Instance) (k : ℕ) (ek : k ≡ I .sizes .k) (test : ℕ → Bool) (r : ℕ) (f : FirstFault (I .sizes .k) test r) (number : ℕ → ℕ) (row : ℕ) (qs : List Question) where
+  abbrev refusal : ℕ → Answer
+  refusal a = refuse (number a) (planIndex (I .sizes) row a)
+
+  pub stop-agents : (at : ℕ) → at ≡ row * k → r < k → refuse (number r) (at + r) ≡ decide (askEach (I .sizes .k) test refusal ∷ qs) 0
+  stop-agents at ea l =
+      ap (λ (x : ℕ). refuse (number r) (x + r)) (ea ∙ ap (λ (x : ℕ). row * x) ek) ∙ sym (fault-stop f refusal qs 0 (rw (← ek) l))
+
+  pub pass-agents : k ≤ r → decide qs 0 ≡ decide (askEach (I .sizes .k) test refusal ∷ qs) 0
+  pass-agents l = sym (fault-pass f refusal qs 0 (rw (← ek) l))
 
 -- ---- 19 to 21 of step t: x, y and z are the first agents that fail the three conditions
-pub numbered-step : (I : Instance) (p : List ℕ) (t : ℕ) → T (all numbered (stepQuestions I p t))
-numbered-step I p t = simp (and-iff, each-all) ((λ a l f. tt), ((λ a l f. tt), ((λ a l f. tt), tt)))
-
 module _ (I : Instance) (s : Sizes) (words : List ℕ) (same : ShowsGraph I s words) (p : List ℕ) (t : ℕ) where
   es : s ≡ I .sizes
   es = same .sizes
@@ -84,22 +121,25 @@ module _ (I : Instance) (s : Sizes) (words : List ℕ) (same : ShowsGraph I s wo
     row-begins = ap (λ (u : ℕ). u * s .k) (add-one t)
 
     pub stop-19 : x < s .k → refuse 19 ((t + 1) * s .k + x) ≡ decide (stepQuestions I p t) 0
-    stop-19 = stop-agents I (s .k) ek _ x (fails 0 x f) 19 (suc t) (question20 I p t ∷ question21 I p t ∷ []) _ row-begins
+    stop-19 = stop-agents I (s .k) ek _ x (fails 0 x f) (λ a. 19) (suc t) (question20 I p t ∷ question21 I p t ∷ []) _ row-begins
 
     pass-19 : s .k ≤ x → decide (question20 I p t ∷ question21 I p t ∷ []) 0 ≡ decide (stepQuestions I p t) 0
-    pass-19 = pass-agents I (s .k) ek _ x (fails 0 x f) 19 (suc t) (question20 I p t ∷ question21 I p t ∷ [])
+    pass-19 = pass-agents I (s .k) ek _ x (fails 0 x f) (λ a. 19) (suc t) (question20 I p t ∷ question21 I p t ∷ [])
 
-    pub stop-20 : s .k ≤ x → y < s .k → refuse 20 ((t + 1) * s .k + y) ≡ decide (stepQuestions I p t) 0
-    stop-20 l m = stop-agents I (s .k) ek _ y (fails 1 y g) 20 (suc t) (question21 I p t ∷ []) _ row-begins m ∙ pass-19 l
+    pub stop-20 : (q : ℕ) → q ≡ numberOf s p t y → s .k ≤ x → y < s .k → refuse q ((t + 1) * s .k + y) ≡ decide (stepQuestions I p t) 0
+    stop-20 q e l m =
+        ap (λ (w : ℕ). refuse w ((t + 1) * s .k + y)) (e ∙ ap (λ (z : Sizes). numberOf z p t y) es)
+        ∙ stop-agents I (s .k) ek _ y (fails 1 y g) (numberOf (I .sizes) p t) (suc t) (question21 I p t ∷ []) _ row-begins m
+        ∙ pass-19 l
 
     pass-20 : s .k ≤ x → s .k ≤ y → decide (question21 I p t ∷ []) 0 ≡ decide (stepQuestions I p t) 0
-    pass-20 l m = pass-agents I (s .k) ek _ y (fails 1 y g) 20 (suc t) (question21 I p t ∷ []) m ∙ pass-19 l
+    pass-20 l m = pass-agents I (s .k) ek _ y (fails 1 y g) (numberOf (I .sizes) p t) (suc t) (question21 I p t ∷ []) m ∙ pass-19 l
 
     pub stop-21 : s .k ≤ x → s .k ≤ y → z < s .k → refuse 21 ((t + 1) * s .k + z) ≡ decide (stepQuestions I p t) 0
-    stop-21 l m n = stop-agents I (s .k) ek _ z (fails 2 z h) 21 (suc t) [] _ row-begins n ∙ pass-20 l m
+    stop-21 l m n = stop-agents I (s .k) ek _ z (fails 2 z h) (λ a. 21) (suc t) [] _ row-begins n ∙ pass-20 l m
 
     pub pass-21 : s .k ≤ x → s .k ≤ y → s .k ≤ z → accept 0 ≡ decide (stepQuestions I p t) 0
-    pass-21 l m n = asked-all ∙ pass-agents I (s .k) ek _ z (fails 2 z h) 21 (suc t) [] n ∙ pass-20 l m
+    pass-21 l m n = asked-all ∙ pass-agents I (s .k) ek _ z (fails 2 z h) (λ a. 21) (suc t) [] n ∙ pass-20 l m
 
 -- what the plan's length and the instance's limits say of the row offsets
 pub record Room (s : Sizes) (p : List ℕ) : Type 0 where
@@ -164,10 +204,10 @@ module _ (I : Instance) (s : Sizes) (starts goals near : List ℕ) (w : Shows I 
     pub stop-18 : r < s .k → refuse 18 r ≡ decide (question18 I p ∷ qs) 0
     stop-18 l =
         ap (refuse 18) (sym (zero-add r))
-        ∙ stop-agents I (s .k) agents-same _ r start-fault 18 0 qs 0 (sym (zero-mul (s .k))) l
+        ∙ stop-agents I (s .k) agents-same _ r start-fault (λ a. 18) 0 qs 0 (sym (zero-mul (s .k))) l
 
     pub pass-18 : s .k ≤ r → decide qs 0 ≡ decide (question18 I p ∷ qs) 0
-    pass-18 l = pass-agents I (s .k) agents-same _ r start-fault 18 0 qs l
+    pass-18 l = pass-agents I (s .k) agents-same _ r start-fault (λ a. 18) 0 qs l
 
   module _ (r : Answer) (er : r ≡ decide (for (s .m + 1 - 1) (stepQuestions I p)) 0) where
     steps-same : r ≡ decide stepsQuestions 0
@@ -192,10 +232,10 @@ module _ (I : Instance) (s : Sizes) (starts goals near : List ℕ) (w : Shows I 
     goal-fault = row-is (I .sizes .m) (s .m * s .k) horizon goals (I .goal) (w .goals-at) r f
 
     pub stop-22 : r < s .k → refuse 22 (s .m * s .k + r) ≡ decide goalQuestions 0
-    stop-22 l = stop-agents I (s .k) agents-same _ r goal-fault 22 (I .sizes .m) [] _ horizon l
+    stop-22 l = stop-agents I (s .k) agents-same _ r goal-fault (λ a. 22) (I .sizes .m) [] _ horizon l
 
     pub pass-22 : s .k ≤ r → accept 0 ≡ decide goalQuestions 0
-    pass-22 l = asked-all ∙ pass-agents I (s .k) agents-same _ r goal-fault 22 (I .sizes .m) [] l
+    pass-22 l = asked-all ∙ pass-agents I (s .k) agents-same _ r goal-fault (λ a. 22) (I .sizes .m) [] l
 
 -- ---- the whole check: 13, then the plan's questions, which answer r with the count 0
 module _ (b : List ℕ) (c : Checked) (w : Accepted b c) (p : List ℕ) where

@@ -2,19 +2,42 @@
 use answers::Answer;
 use instance::Sizes;
 ghost use mathlib.Core.Path.{_≡_};
-ghost use Prim.Native.Nat.{_+_, _-_, _<_, _≤_};
+ghost use Prim.Native.Nat.{suc, _+_, _-_, _<_, _≤_};
 ghost use lib.ListN.{length, getD};
-ghost use lib.Dec.{ltb, eqb};
+ghost use lib.Dec.{T, ltb, eqb};
 ghost use Rattle.lists.specs.Loop.{for};
 ghost use Rattle.answers.specs.Answers.{decide};
 ghost use Rattle.answers.specs.Fault.{FirstFault};
-ghost use Rattle.plan.specs.Plan.{planBytes, cost};
+ghost use Rattle.plan.specs.Plan.{planBytes, planRow, condition2, occupantLeaves, cost};
+ghost use Rattle.calls.specs.Questions.{occupiedNumber};
 ghost use Rattle.calls.specs.Calls.{stepQuestions, planQuestions, checkAnswer};
 ghost use Rattle.instance.specs.Instance.{Instance};
 ghost use Rattle.instance.specs.Limits.{Limits};
 ghost use Rattle.instance.specs.Shows.{ShowsGraph, Shows};
 ghost use Rattle.conditions.specs.Inside.{Inside};
 ghost use Rattle.plan_check.specs.Steps.{moversIn};
+
+// The number for agent a, which enters an occupied vertex in step t: 20, 25 or 26, by how the occupant leaves.
+fn occupied_number(s: Sizes, p: &[u8], t: usize, a: usize) -> u32
+    requires { ⌜ (length (now p) ≡ planBytes s) × (t < s .m) × (a < s .k) ⌝ }
+    requires { ⌜ (T (condition2 s (planRow s (now p) t) (planRow s (now p) (suc t)) a) → ⊥) ⌝ }
+    ensures { λ r. ⌜ r ≡ occupiedNumber (occupantLeaves s (planRow s (now (p .entry)) t) (planRow s (now (p .entry)) (suc t)) a) ⌝ }
+{
+    let k = s.k;
+    let row = t * k;
+    let next = row + k;
+    let old = p[row + a];
+    let entered = p[next + a];
+    let occupant = conditions::first_on(p, row, k, entered);
+    let end = p[next + occupant];
+    if end == entered {
+        return 20;
+    }
+    if end == old {
+        return 25;
+    }
+    26
+}
 
 // Questions 19 to 21 of step t.
 fn ask_step(s: Sizes, near: &[u64; 64], p: &[u8], t: usize) -> Answer
@@ -35,7 +58,7 @@ fn ask_step(s: Sizes, near: &[u64; 64], p: &[u8], t: usize) -> Answer
     }
     if entering < k {
         return Answer {
-            number: 20,
+            number: occupied_number(s, p, t, entering),
             second: next + entering,
         };
     }

@@ -25,8 +25,8 @@ pub use instance::check_instance;
 pub use plan::check_plan;
 pub use valuation::{decode, encode};
 
-/// `number` 0: accepted, `second` is the count. Otherwise `number` is the
-/// question answered no and `second` its place.
+/// `number` 0: accepted, `second` is the count. Otherwise `number` tells which
+/// question was answered no, and `second` is its place.
 #[derive(Debug, Clone, Copy, PartialEq, Eq)]
 pub struct Answer {
     pub number: u32,

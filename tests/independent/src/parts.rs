@@ -1,4 +1,4 @@
-//! An instance in its parts, right and damaged.
+//! An instance in its parts, right and damaged, and plans damaged with its help.
 
 use crate::sample::{instance_bytes, Generator};
 
@@ -39,6 +39,10 @@ impl Parts {
         self.edges.contains(&(v.min(w), v.max(w)))
     }
 
+    fn neighbours(&self, v: u8) -> Vec<u8> {
+        (0..self.n as u8).filter(|&w| self.has_edge(v, w)).collect()
+    }
+
     /// Clause counts of the families A to G.
     pub fn clause_counts(&self, m: usize) -> [u64; 7] {
         let (n, k, m) = (self.n as u64, self.k() as u64, m as u64);
@@ -63,6 +67,59 @@ impl Parts {
         }
         family
     }
+}
+
+/// Changes one step of a passing plan so that an agent enters an occupied vertex and the occupant does what `number`,
+/// 20, 25 or 26, tells; up to three others may do so too, each in any of these ways. All cross edges. None where the
+/// step does not allow it.
+pub fn enter_occupied(
+    g: &mut Generator,
+    number: u32,
+    parts: &Parts,
+    plan: &[u8],
+) -> Option<Vec<u8>> {
+    let k = parts.k();
+    let m = plan.len() / k - 1;
+    if m == 0 {
+        return None;
+    }
+    let t = g.below(m);
+    let row = &plan[t * k..(t + 1) * k];
+    let near: Vec<Vec<u8>> = row.iter().map(|&v| parts.neighbours(v)).collect();
+    // The entering agent, the occupant, and where that one goes.
+    let choices = |number: u32| {
+        let mut choices = Vec::new();
+        for (a, &v) in row.iter().enumerate() {
+            for (b, &w) in row.iter().enumerate() {
+                match number {
+                    _ if !near[a].contains(&w) => {}
+                    20 => choices.push((a, b, w)),
+                    25 => choices.push((a, b, v)),
+                    _ => {
+                        let others = near[b].iter().filter(|&&x| x != v);
+                        choices.extend(others.map(|&x| (a, b, x)));
+                    }
+                }
+            }
+        }
+        choices
+    };
+    if choices(number).is_empty() {
+        return None;
+    }
+    let mut damaged = plan.to_vec();
+    let next = &mut damaged[(t + 1) * k..(t + 2) * k];
+    // The one asked for comes last, so that it stands.
+    let mut numbers: Vec<u32> = (0..g.below(4)).map(|_| [20, 25, 26][g.below(3)]).collect();
+    numbers.push(number);
+    for choices in numbers.into_iter().map(choices) {
+        if !choices.is_empty() {
+            let (a, b, to) = choices[g.below(choices.len())];
+            next[a] = row[b];
+            next[b] = to;
+        }
+    }
+    Some(damaged)
 }
 
 /// Damages an accepted instance so that question `kind`, 1 to 9, is a likely first no; kind 0 and those above 9

@@ -40,8 +40,15 @@ pub(crate) fn check_rows(instance: &Instance, plan: &[u8]) -> Result<usize, Answ
         if let Some(a) = (0..k).find(|&a| moves(a) && !instance.has_edge(row[a], next[a])) {
             return refuse(19, place + a);
         }
-        if let Some(a) = (0..k).find(|&a| moves(a) && row.contains(&next[a])) {
-            return refuse(20, place + a);
+        let occupant = |a: usize| row.iter().position(|&v| v == next[a]);
+        let mut moving = (0..k).filter(|&a| moves(a));
+        if let Some((a, b)) = moving.find_map(|a| Some((a, occupant(a)?))) {
+            let number = match next[b] {
+                v if v == row[b] => 20,
+                v if v == row[a] => 25,
+                _ => 26,
+            };
+            return refuse(number, place + a);
         }
         if let Some(a) = (0..k).find(|&a| next[..a].contains(&next[a])) {
             return refuse(21, place + a);

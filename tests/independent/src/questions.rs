@@ -15,43 +15,56 @@ pub struct Handed<'a> {
     pub lent: usize,
 }
 
-/// A question answered no and its place.
+/// The number that a no gives, and its place.
 pub type Item = (u32, u64);
 
-/// What each call asks: the writer, one clause, the plan check, the decoder and
-/// the encoder.
+/// All numbers, 0 for accepted included, are below this one.
+pub const NUMBERS: usize = 27;
+
+/// The numbers that each call can give beside 0, in the order asked: the writer,
+/// one clause, the plan check, the decoder and the encoder.
 pub const ASKED: [&[u32]; 5] = [
     &[1, 2, 3, 4, 5, 6, 7, 8, 9, 10, 12],
     &[1, 2, 3, 4, 5, 6, 7, 8, 9, 10, 11, 12],
-    &[1, 2, 3, 4, 5, 6, 7, 8, 9, 10, 13, 17, 18, 19, 20, 21, 22],
+    &[
+        1, 2, 3, 4, 5, 6, 7, 8, 9, 10, 13, 17, 18, 19, 20, 25, 26, 21, 22,
+    ],
     &[1, 2, 3, 4, 5, 6, 7, 8, 9, 10, 14, 15, 23, 24],
     &[
-        1, 2, 3, 4, 5, 6, 7, 8, 9, 10, 13, 16, 17, 18, 19, 20, 21, 22,
+        1, 2, 3, 4, 5, 6, 7, 8, 9, 10, 13, 16, 17, 18, 19, 20, 25, 26, 21, 22,
     ],
 ];
 
-/// The places of all items for which the question is answered no, rising. Items
-/// that the bytes given do not reach are left out.
-pub fn failing(question: u32, handed: &Handed) -> Vec<u64> {
-    let places = all_places(question, handed).unwrap_or_default();
+/// The question whose no gives this number: 20, 25 and 26 are of one.
+pub fn question(number: u32) -> u32 {
+    match number {
+        25 | 26 => 20,
+        _ => number,
+    }
+}
+
+/// The places of all items whose no gives this number, rising. Items that the
+/// bytes given do not reach are left out.
+pub fn failing(number: u32, handed: &Handed) -> Vec<u64> {
+    let places = all_places(number, handed).unwrap_or_default();
     places.into_iter().map(|place| place as u64).collect()
 }
 
-/// The first no among these questions; 19 to 21 go step by step.
-pub fn first_no(questions: &[u32], handed: &Handed) -> Option<Item> {
-    let items = questions.iter().flat_map(|&question| {
-        let places = failing(question, handed);
-        places.into_iter().map(move |place| (question, place))
+/// The first no among those that give these numbers; 19 to 21 go step by step.
+pub fn first_no(numbers: &[u32], handed: &Handed) -> Option<Item> {
+    let items = numbers.iter().flat_map(|&number| {
+        let places = failing(number, handed);
+        places.into_iter().map(move |place| (number, place))
     });
-    items.min_by_key(|&(question, place)| match question {
-        19..=21 => (19, place / u64::from(handed.instance[1]), question, place),
-        _ => (question, 0, question, place),
+    items.min_by_key(|&(number, place)| match question(number) {
+        question @ 19..=21 => (19, place / u64::from(handed.instance[1]), question, place),
+        question => (question, 0, question, place),
     })
 }
 
 /// None where the bytes do not even reach the sizes that the question needs.
 /// Horizons are any, so places are counted in 128 bits.
-fn all_places(question: u32, handed: &Handed) -> Option<Vec<u128>> {
+fn all_places(number: u32, handed: &Handed) -> Option<Vec<u128>> {
     let &Handed {
         instance,
         horizon,
@@ -76,7 +89,7 @@ fn all_places(question: u32, handed: &Handed) -> Option<Vec<u128>> {
     let plan_length = || Some((m + 1) * k()?);
     let variables = || Some(n()? * plan_length()?);
 
-    let places = match question {
+    let places = match number {
         1 => only(length < 4, length),
         2 => only(!(1..=64).contains(&n()?), 0),
         3 => only(!(1..=16).contains(&k()?) || k()? > n()?, 1),
@@ -95,7 +108,7 @@ fn all_places(question: u32, handed: &Handed) -> Option<Vec<u128>> {
         }
         8 | 9 => {
             let n = n()?;
-            let from = 4 + 2 * e()? + if question == 8 { 0 } else { k()? };
+            let from = 4 + 2 * e()? + if number == 8 { 0 } else { k()? };
             let at = |a: u128| byte(from + a);
             let wrong = |a: u128| at(a).is_some_and(|v| v >= n || (0..a).any(|b| at(b) == Some(v)));
             let agents = (0..k()?).filter(|&a| wrong(a));
@@ -133,27 +146,36 @@ fn all_places(question: u32, handed: &Handed) -> Option<Vec<u128>> {
             let right = |a: u128| Some(vertex(a)? == start(a)?);
             (0..k()?).filter(|&a| right(a) == Some(false)).collect()
         }
-        19..=21 => {
+        19 | 20 | 21 | 25 | 26 => {
             let k = k()?;
             let joined = |v: u128, w: u128| {
                 let ends = Some((v.min(w), v.max(w)));
                 (0..e().unwrap_or(0)).any(|j| edge(j) == ends)
             };
-            let obeys = |t: u128, a: u128| {
-                let before = vertex(t * k + a)?;
-                let now = vertex((t + 1) * k + a)?;
-                let moves = before != now;
-                Some(match question {
-                    19 => !moves || joined(before, now),
-                    20 => !moves || (0..k).all(|b| vertex(t * k + b) != Some(now)),
-                    _ => (0..a).all(|b| vertex((t + 1) * k + b) != Some(now)),
-                })
-            };
-            // Steps as far as the plan goes.
+            // Step, agent, old and new vertex, as far as the plan goes.
             let steps = m.min(plan.len() as u128);
             let all = (0..steps).flat_map(|t| (0..k).map(move |a| (t, a)));
-            let at_fault = all.filter(|&(t, a)| obeys(t, a) == Some(false));
-            at_fault.map(|(t, a)| (t + 1) * k + a).collect()
+            let ways = all.filter_map(|(t, a)| {
+                let (old, new) = (vertex(t * k + a)?, vertex((t + 1) * k + a)?);
+                Some((t, a, old, new))
+            });
+            let ways: Vec<_> = ways.collect();
+            let at_fault = ways.iter().filter(|&&(t, a, old, new)| {
+                let goes = |v: u128, w: u128| ways.iter().any(|x| (x.0, x.2, x.3) == (t, v, w));
+                // Where several stood on the new vertex, a question asked before says no.
+                let stays = goes(new, new);
+                let exchanges = goes(new, old) && !stays;
+                let occupied = ways.iter().any(|x| (x.0, x.2) == (t, new));
+                let moves = old != new;
+                match number {
+                    19 => moves && !joined(old, new),
+                    20 => moves && stays,
+                    25 => moves && exchanges,
+                    26 => moves && occupied && !stays && !exchanges,
+                    _ => ways.iter().any(|x| (x.0, x.3) == (t, new) && x.1 < a),
+                }
+            });
+            at_fault.map(|&(t, a, ..)| (t + 1) * k + a).collect()
         }
         22 => {
             let from = m * k()?;
@@ -175,14 +197,14 @@ fn all_places(question: u32, handed: &Handed) -> Option<Vec<u128>> {
             });
             numbers.map(|number| number as u128).collect()
         }
-        _ => panic!("there is no question {question}"),
+        _ => panic!("there is no number {number}"),
     };
     Some(places)
 }
 
 /// Only an accepted instance has clauses.
 fn accepted(handed: &Handed) -> bool {
-    (1..=10).all(|question| failing(question, handed).is_empty())
+    (1..=10).all(|number| failing(number, handed).is_empty())
 }
 
 fn only(no: bool, place: u128) -> Vec<u128> {

@@ -2,6 +2,7 @@
 
 pub use independent::parts::{malform, Parts};
 
+use independent::parts::enter_occupied;
 use independent::sample::Generator;
 
 /// A grid of `side` times `side` vertices, with `k` agents that walk `m` valid steps.
@@ -123,7 +124,7 @@ pub fn break_condition(
 pub fn some_plan(g: &mut Generator, parts: &Parts, m: usize, passing: &[u8]) -> Vec<u8> {
     let (n, k) = (parts.n, parts.k());
     let mut plan = passing.to_vec();
-    match g.below(18) {
+    match g.below(21) {
         0..=2 => {}
         3 => {
             g.damage(&mut plan);
@@ -169,6 +170,12 @@ pub fn some_plan(g: &mut Generator, parts: &Parts, m: usize, passing: &[u8]) -> 
         16 => {
             let i = g.below(plan.len());
             plan[i] = [n as u8, 255, 128, 64][g.below(4)];
+        }
+        kind @ 17..=19 => {
+            let number = [20, 25, 26][kind - 17];
+            if let Some(damaged) = enter_occupied(g, number, parts, passing) {
+                plan = damaged;
+            }
         }
         _ => {
             // One byte is another vertex.

@@ -244,11 +244,10 @@ impl<'a> Spot<'a> {
     }
 
     /// Who else has the same vertex at a time.
-    fn other(&self, time: usize) -> Option<String> {
+    fn other(&self, time: usize) -> Option<usize> {
         let mut agents = 0..self.map.agents();
         let vertex = self.here()?;
-        let other = agents.find(|&b| b != self.agent && self.vertex(time, b) == Some(vertex))?;
-        Some(self.map.agent(other))
+        agents.find(|&b| b != self.agent && self.vertex(time, b) == Some(vertex))
     }
 
     /// The agent and the time, which the place alone tells, and what the plan tells beside.
@@ -291,13 +290,19 @@ pub fn jump(subject: Subject, place: usize) -> Option<String> {
     spot.told(step.map(|(from, to)| format!("from vertex {from} to vertex {to}")))
 }
 
+/// With the occupant of the vertex entered, and what it does.
 pub fn occupied(subject: Subject, place: usize) -> Option<String> {
     let spot = Spot::at(subject, place)?;
     let step = || {
         let (from, to, time) = (spot.before()?, spot.here()?, spot.time.checked_sub(1)?);
-        let other = spot.other(time)?;
+        let occupant = spot.other(time)?;
+        let does = match spot.vertex(spot.time, occupant)? {
+            vertex if vertex == to => "stays".to_string(),
+            vertex => format!("goes to vertex {vertex}"),
+        };
+        let occupant = spot.map.agent(occupant);
         Some(format!(
-            "from vertex {from} to vertex {to}, where {other} was at time {time}"
+            "from vertex {from} to vertex {to}, where {occupant} was at time {time} and {does}"
         ))
     };
     spot.told(step())
@@ -306,7 +311,8 @@ pub fn occupied(subject: Subject, place: usize) -> Option<String> {
 pub fn shared(subject: Subject, place: usize) -> Option<String> {
     let spot = Spot::at(subject, place)?;
     let both = spot.here().zip(spot.other(spot.time));
-    spot.told(both.map(|(v, other)| format!("at vertex {v}, and so is {other}")))
+    let told = |(v, other)| format!("at vertex {v}, and so is {}", spot.map.agent(other));
+    spot.told(both.map(told))
 }
 
 // The valuation

@@ -28,11 +28,13 @@ pub const REFUSALS: &[(u32, &str, &str, Terms)] = &[
     (17, "the plan names a vertex that is not on the map", "a byte of the plan", places::unknown_vertex),
     (18, "the plan does not begin with every agent at its start", "a byte of the plan", places::not_at_start),
     (19, "an agent jumps: no edge joins the vertices of its step", "a byte of the plan", places::jump),
-    (20, "an agent enters a vertex where another stood as the step began", "a byte of the plan", places::occupied),
+    (20, "an agent drives into another that stays where it is", "a byte of the plan", places::occupied),
     (21, "two agents are at the same vertex at the end of a step", "a byte of the plan", places::shared),
     (22, "the plan does not end with every agent at its goal", "a byte of the plan", places::not_at_goal),
     (23, "an entry of the valuation is neither its variable nor its negative", "an entry of the valuation", places::entry),
     (24, "the valuation makes a clause false, which does not mean that there is no plan", "a clause", places::falsified),
+    (25, "two agents meet head-on: they exchange vertices in one step", "a byte of the plan", places::occupied),
+    (26, "an agent closes up: it enters a vertex that another leaves in the same step", "a byte of the plan", places::occupied),
 ];
 
 pub fn describe(answer: Answer, subject: Subject) -> String {
@@ -115,7 +117,9 @@ mod tests {
             ("1", &[0, 2, 1, 3], "17: agent 1 (line 5) at time 1: at vertex 3, the map has only vertices 0 to 2 (place 3)"),
             ("1", &[0, 1, 1, 2], "18: agent 1 (line 5) at time 0: at vertex 1, its start is vertex 2 (place 1)"),
             ("1", &[0, 2, 0, 0], "19: agent 1 (line 5) at time 1: from vertex 2 to vertex 0 (place 3)"),
-            ("2", &[0, 2, 1, 2, 2, 2], "20: agent 0 (line 4) at time 2: from vertex 1 to vertex 2, where agent 1 (line 5) was at time 1 (place 4)"),
+            ("2", &[0, 2, 1, 2, 2, 2], "20: agent 0 (line 4) at time 2: from vertex 1 to vertex 2, where agent 1 (line 5) was at time 1 and stays (place 4)"),
+            ("2", &[0, 2, 1, 2, 2, 1], "25: agent 0 (line 4) at time 2: from vertex 1 to vertex 2, where agent 1 (line 5) was at time 1 and goes to vertex 1 (place 4)"),
+            ("2", &[0, 2, 0, 1, 1, 2], "26: agent 0 (line 4) at time 2: from vertex 0 to vertex 1, where agent 1 (line 5) was at time 1 and goes to vertex 2 (place 4)"),
             ("1", &[0, 2, 1, 1], "21: agent 1 (line 5) at time 1: at vertex 1, and so is agent 0 (line 4) (place 3)"),
             ("0", &[0, 2], "22: agent 0 (line 4) at time 0: at vertex 0, its goal is vertex 1 (place 0)"),
         ] {
@@ -150,8 +154,10 @@ mod tests {
     fn without_an_instance() {
         for (number, second, expected) in [
             (12, 24, "refused 12: the memory lent for the formula or the clause is too small: 24 words of 32 bits are needed (place 24)"),
-            (20, 5, "refused 20: an agent enters a vertex where another stood as the step began: the place is a byte of the plan (place 5)"),
-            (25, 5, "refused 25: this tool has no words for refusals of this number (place 5)"),
+            (20, 5, "refused 20: an agent drives into another that stays where it is: the place is a byte of the plan (place 5)"),
+            (25, 5, "refused 25: two agents meet head-on: they exchange vertices in one step: the place is a byte of the plan (place 5)"),
+            (26, 5, "refused 26: an agent closes up: it enters a vertex that another leaves in the same step: the place is a byte of the plan (place 5)"),
+            (36, 5, "refused 36: this tool has no words for refusals of this number (place 5)"),
         ] {
             assert_eq!(describe(Answer { number, second }, Subject::default()), expected);
         }

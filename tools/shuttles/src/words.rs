@@ -6,7 +6,7 @@ use crate::horizon::Horizon;
 use crate::places::Subject;
 use crate::refusals::{describe, REFUSALS};
 use runglaet::Answer;
-use std::collections::HashMap;
+use std::collections::{HashMap, HashSet};
 
 /// Lines of every kind of error, each with its kind.
 fn errors() -> Vec<(String, String)> {
@@ -62,4 +62,11 @@ fn the_first_forty_characters_tell_the_kind_and_nothing_else() {
         assert_eq!(kinds.entry(beginning).or_insert(kind), &kind, "{line}");
     }
     assert_eq!(kinds.len(), Kind::ALL.len() + REFUSALS.len() + 2);
+}
+
+/// Without the number too: behind "refused 25: " there is room for 28.
+#[test]
+fn the_first_words_of_a_refusal_tell_its_number() {
+    let beginnings = REFUSALS.iter().map(|refusal| &refusal.1[..28]);
+    assert_eq!(beginnings.collect::<HashSet<_>>().len(), REFUSALS.len());
 }

@@ -9,7 +9,7 @@ use Rattle.answers.proofs.Laws.{decide-count, step-stop, step-more}
 use Rattle.instance.specs.Instance.{Instance}
 use Rattle.calls.specs.Calls.{stepQuestions}
 use Rattle.instance.specs.Shows.{ShowsGraph}
-use Rattle.plan_check.proofs.Laws.{numbered-step}
+use Rattle.calls.proofs.Plan.{numbered-step}
 use borrow.Author.Needs.{needs}
 use Rattle.plan_check.proofs.ask_steps.Statement.{statement}
 use Rattle.plan_check.proofs.ask_steps.Tie as tie

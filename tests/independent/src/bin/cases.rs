@@ -7,7 +7,8 @@
 
 #![forbid(unsafe_code)]
 
-use independent::questions::{failing, Handed, Item, ASKED};
+use independent::parts::{enter_occupied, Parts};
+use independent::questions::{failing, question, Handed, Item, ASKED, NUMBERS};
 use independent::sample::{all_edges, instance_bytes, largest_instance, refused_twice, Generator};
 use independent::{check_plan, clause, decode, encode, plain, write_formula};
 use std::collections::BTreeSet;
@@ -25,7 +26,7 @@ const WORDS: usize = 65_536;
 const PLAN_BYTES: usize = 1_024;
 const ENTRIES: usize = 40_000;
 
-/// The questions that a kind asks, in order.
+/// The numbers that a kind can give beside 0, in the order asked.
 fn asked(kind: u8) -> &'static [u32] {
     ASKED[usize::from(kind) - 1]
 }
@@ -92,8 +93,9 @@ struct Cases {
     random: Generator,
     input: Vec<u8>,
     output: String,
-    times: [[usize; 25]; 6],
-    /// Kinds, with two questions that failed at once in a case that says so.
+    times: [[usize; NUMBERS]; 6],
+    /// Kinds, with the numbers of two items that failed at once in a case that
+    /// says so. Items that go step by step are of one step.
     twice: BTreeSet<(u8, u32, u32)>,
     /// Accepted plans with moves and waits, but not as many.
     uneven: usize,
@@ -365,16 +367,21 @@ impl Cases {
             entries: &entries,
             lent,
         };
-        for (question, place) in items {
-            let places = failing(question, &handed);
+        for (no, place) in items {
+            let places = failing(no, &handed);
             assert!(
-                asked(kind).contains(&question) && places.contains(&place),
-                "kind {kind}, {items:?}: {question} fails at {places:?}, not at {place}"
+                asked(kind).contains(&no) && places.contains(&place),
+                "kind {kind}, {items:?}: {no} fails at {places:?}, not at {place}"
             );
         }
         let answer = self.put(kind, given, number, payload, lent);
         assert_eq!(answer, Some(items[0]), "kind {kind}, {items:?}");
-        self.twice.insert((kind, items[0].0, items[1].0));
+        let [(first, place), (second, other)] = items;
+        let by_step = |no: u32| matches!(question(no), 19..=21);
+        let step = |place: u64| place / given.k() as u64;
+        if !(by_step(first) && by_step(second)) || step(place) == step(other) {
+            self.twice.insert((kind, first, second));
+        }
     }
 
     /// Cases on which two items fail: of neighbouring questions of each call, of
@@ -431,30 +438,27 @@ impl Cases {
             given(4, &[(0, 1), (1, 2), (2, 3)], starts, goals, m)
         };
         let star = given(4, &[(0, 1), (0, 2), (0, 3)], &[1, 2, 3], &[0, 1, 2], 1);
-        let apart = given(
-            5,
-            &[(0, 1), (0, 2), (3, 4)],
-            &[1, 2, 3, 4],
-            &[0, 1, 4, 3],
-            1,
-        );
-        let plans: [(Given, &[u8], [Item; 2]); 17] = [
+        let ring = given(3, &[(0, 1), (0, 2), (1, 2)], &[0, 1, 2], &[1, 2, 0], 1);
+        let plans: [(Given, &[u8], [Item; 2]); 18] = [
             (pair(33), &[0, 1, 0], [(10, 0), (13, 3)]),
             (pair(1), &[0, 1, 9], [(13, 3), (17, 2)]),
             (pair(1), &[1, 2], [(17, 1), (18, 0)]),
             (path(&[0], &[3], 1), &[1, 3], [(18, 0), (19, 1)]),
-            // 19 of agent 1, 20 of agent 0.
-            (path(&[0, 1], &[1, 3], 1), &[0, 1, 1, 3], [(19, 3), (20, 2)]),
+            // The occupant jumps, stays, enters an occupied vertex itself, or shares one.
+            (path(&[0, 1], &[1, 3], 1), &[0, 1, 1, 3], [(19, 3), (26, 2)]),
             (path(&[0, 1], &[1, 2], 1), &[0, 1, 1, 1], [(20, 2), (21, 3)]),
-            // 20 of agent 2, 21 of agent 1.
-            (apart, &[1, 2, 3, 4, 0, 0, 4, 4], [(20, 6), (21, 5)]),
-            (path(&[0, 2], &[1, 2], 1), &[0, 2, 1, 1], [(21, 3), (22, 3)]),
-            // 20 or 21 in step 0, 19 in step 1.
             (
-                path(&[0, 1], &[3, 2], 2),
-                &[0, 1, 1, 2, 3, 2],
-                [(20, 2), (19, 4)],
+                path(&[0, 1, 2], &[1, 2, 3], 1),
+                &[0, 1, 2, 1, 2, 2],
+                [(26, 3), (20, 4)],
             ),
+            (
+                path(&[0, 1, 3], &[1, 2, 3], 1),
+                &[0, 1, 3, 1, 2, 2],
+                [(26, 3), (21, 5)],
+            ),
+            (path(&[0, 2], &[1, 2], 1), &[0, 2, 1, 1], [(21, 3), (22, 3)]),
+            // 21 in step 0, 19 in step 1.
             (
                 path(&[0, 2], &[3, 1], 2),
                 &[0, 2, 1, 1, 3, 1],
@@ -469,13 +473,53 @@ impl Cases {
             ),
             (path(&[0, 1], &[2, 3], 1), &[0, 1, 2, 3], [(19, 2), (19, 3)]),
             (path(&[0], &[0], 2), &[0, 2, 0], [(19, 1), (19, 2)]),
-            (path(&[0, 1], &[1, 0], 1), &[0, 1, 1, 0], [(20, 2), (20, 3)]),
+            (path(&[0, 1], &[1, 0], 1), &[0, 1, 1, 0], [(25, 2), (25, 3)]),
+            (ring, &[0, 1, 2, 1, 2, 0], [(26, 3), (26, 4)]),
             (star, &[1, 2, 3, 0, 0, 0], [(21, 4), (21, 5)]),
             (path(&[0, 1], &[1, 2], 1), &[0, 1, 0, 1], [(22, 2), (22, 3)]),
         ];
         for (given, plan, items) in plans {
-            self.two(PLAN, &given, 0, plan, 0, items);
-            self.two(ENCODER, &given, 0, plan, given.variables(), items);
+            self.two_of_plan(&given, plan, items);
+        }
+        self.occupied_and_more();
+    }
+
+    /// The same case for both calls that take a plan.
+    fn two_of_plan(&mut self, given: &Given, plan: &[u8], items: [Item; 2]) {
+        self.two(PLAN, given, 0, plan, 0, items);
+        self.two(ENCODER, given, 0, plan, given.variables(), items);
+    }
+
+    /// An agent enters an occupied vertex in each of the three ways, and another
+    /// item fails. The paths are 0-1-2, 3-4-5 and 6-7-8.
+    fn occupied_and_more(&mut self) {
+        let edges = [(0, 1), (1, 2), (3, 4), (4, 5), (6, 7), (7, 8)];
+        let given = |starts: &[u8], m: u64| Given {
+            instance: instance_bytes(9, &edges, starts, starts),
+            m,
+        };
+        // Where the occupant of 1 goes while an agent comes from 0.
+        let ways = [(20, 1), (25, 0), (26, 2)];
+        for (number, to) in ways {
+            // 19 of a higher agent, in this step and in the next.
+            let three = [0, 1, 6];
+            let plan = [0, 1, 6, 1, to, 8];
+            self.two_of_plan(&given(&three, 1), &plan, [(19, 5), (number, 3)]);
+            let plan = [0, 1, 6, 1, to, 6, 1, to, 8];
+            self.two_of_plan(&given(&three, 2), &plan, [(number, 3), (19, 8)]);
+            // 21 of a lower agent.
+            let four = given(&[6, 8, 0, 1], 1);
+            let plan = [6, 8, 0, 1, 7, 7, 1, to];
+            self.two_of_plan(&four, &plan, [(number, 6), (21, 5)]);
+            for (other, there) in ways {
+                // A higher agent enters 4 from 3, in this step and in the next.
+                let four = [0, 1, 3, 4];
+                let there = 3 + there;
+                let plan = [0, 1, 3, 4, 1, to, 4, there];
+                self.two_of_plan(&given(&four, 1), &plan, [(number, 4), (other, 6)]);
+                let plan = [0, 1, 3, 4, 1, to, 3, 4, 1, to, 4, there];
+                self.two_of_plan(&given(&four, 2), &plan, [(number, 4), (other, 10)]);
+            }
         }
     }
 
@@ -571,6 +615,48 @@ impl Cases {
         self.decoder(&given, &entries, plan.len());
     }
 
+    /// `k` agents of which some enter occupied vertices. Each of the three numbers
+    /// is the answer, with 4 agents or more beside each of the others.
+    fn crowded(&mut self, k: usize) {
+        for number in [20, 25, 26] {
+            for other in [20, 25, 26] {
+                if k < 4 && other != number {
+                    continue;
+                }
+                let found = (0..10_000).find_map(|_| self.occupied(k, number, other));
+                let (given, plan) =
+                    found.unwrap_or_else(|| panic!("{k} agents: no {number} beside {other}"));
+                self.plan(&given, &plan);
+                self.encoder(&given, &plan, given.variables());
+            }
+        }
+    }
+
+    /// An instance and a plan that gets `number`, while `other` fails in the same
+    /// step, if chance gives them.
+    fn occupied(&mut self, k: usize, number: u32, other: u32) -> Option<(Given, Vec<u8>)> {
+        let n = k + 1 + self.random.below(8);
+        let m = 1 + self.random.below(3);
+        let percent = [30, 60, 100][self.random.below(3)];
+        let (instance, plan) = self.random.walk(n, k, percent, m);
+        let parts = Parts::of(&instance);
+        let plan = enter_occupied(&mut self.random, other, &parts, &plan)?;
+        let m = m as u64;
+        let answer = check_plan(&instance, m, &plan);
+        let handed = Handed {
+            instance: &instance,
+            horizon: m,
+            clause: None,
+            plan: &plan,
+            entries: &[],
+            lent: 0,
+        };
+        let step = |place: u64| place / k as u64;
+        let beside = |&place: &u64| step(place) == step(answer.second);
+        let comes = answer.number == number && failing(other, &handed).iter().any(beside);
+        comes.then_some((Given { instance, m }, plan))
+    }
+
     /// One instance of up to 20 vertices, for the writer and the clauses alone.
     fn formulas(&mut self) {
         let n = 1 + self.random.below(20);
@@ -638,7 +724,8 @@ impl Cases {
                 *byte = (rest % n) as u8;
                 rest /= n;
             }
-            if index % 4 == 3 {
+            // 5 shares no divisor with n, so each call gets every last byte.
+            if index % 5 == 4 {
                 self.encoder(given, &plan, given.variables());
             } else {
                 self.plan(given, &plan);
@@ -761,11 +848,14 @@ fn gate(cases: &mut Cases) {
     }
     cases.largest(true);
     cases.two_at_once();
+    for k in 2..=16 {
+        cases.crowded(k);
+    }
 }
 
-/// Fails where a kind never gives an answer that it can give, where two
-/// neighbouring questions never fail at once, or where every accepted plan has
-/// no moves, no waits or as many of both.
+/// Fails where a kind never gives an answer that it can give, where the items of
+/// two numbers of neighbouring questions or of one question never fail at once,
+/// or where every accepted plan has no moves, no waits or as many of both.
 fn require_all(cases: &Cases) {
     let mut missing = Vec::new();
     for kind in WRITER..=ENCODER {
@@ -775,9 +865,11 @@ fn require_all(cases: &Cases) {
                 missing.push(format!("kind {kind} never gives {number}"));
             }
         }
-        for both in asked(kind).windows(2) {
-            if !cases.twice.contains(&(kind, both[0], both[1])) {
-                missing.push(format!("kind {kind}: {both:?} never fail at once"));
+        for (first, second) in neighbours(asked(kind)) {
+            if !cases.twice.contains(&(kind, first, second)) {
+                missing.push(format!(
+                    "kind {kind}: {first} and {second} never fail at once, {first} the answer"
+                ));
             }
         }
     }
@@ -788,6 +880,20 @@ fn require_all(cases: &Cases) {
         eprintln!("{}", missing.join("\n"));
         process::exit(1);
     }
+}
+
+/// Two numbers of one question, in both orders, or of a question and the next.
+fn neighbours(numbers: &[u32]) -> Vec<(u32, u32)> {
+    let mut pairs = Vec::new();
+    for &first in numbers {
+        let mut later = numbers.iter().map(|&x| question(x));
+        let next = later.find(|&x| x > question(first));
+        pairs.extend(numbers.iter().filter_map(|&second| {
+            let near = question(second) == question(first) || Some(question(second)) == next;
+            (near && first != second).then_some((first, second))
+        }));
+    }
+    pairs
 }
 
 fn main() {
@@ -803,7 +909,7 @@ fn main() {
         random: Generator::new(seed.wrapping_mul(0x9E37_79B9_7F4A_7C15) | 1),
         input: Vec::new(),
         output: String::new(),
-        times: [[0; 25]; 6],
+        times: [[0; NUMBERS]; 6],
         twice: BTreeSet::new(),
         uneven: 0,
     };
@@ -819,7 +925,11 @@ fn main() {
                     1 => cases.formulas(),
                     2 | 3 => cases.larger(20),
                     4 | 5 => cases.larger(10),
-                    _ => cases.larger(5),
+                    6 => cases.larger(5),
+                    _ => {
+                        let k = 2 + cases.random.below(15);
+                        cases.crowded(k);
+                    }
                 }
             }
             cases.largest(false);

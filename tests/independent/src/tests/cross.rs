@@ -72,7 +72,7 @@ fn compare_plan(instance: &[u8], m: u64, plan: &[u8]) -> bool {
         assert_eq!(entries[..count], plain::valuation(n, plan));
         assert_eq!(entries[count], 7);
     } else {
-        assert!((17..=22).contains(&answer.number));
+        assert!(matches!(answer.number, 17..=22 | 25 | 26));
         assert_eq!(encoded, answer);
         assert!(entries.iter().all(|&entry| entry == 7));
     }

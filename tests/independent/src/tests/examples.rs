@@ -91,7 +91,11 @@ fn pair_not_decoded() {
 #[test]
 fn swap() {
     let instance = instance_bytes(2, &[(0, 1)], &[0, 1], &[1, 0]);
-    assert_eq!(check_plan(&instance, 1, &[0, 1, 1, 0]), says(20, 2));
+    assert_eq!(check_plan(&instance, 1, &[0, 1, 1, 0]), says(25, 2));
+    assert_eq!(
+        encode(&instance, 1, &[0, 1, 1, 0], &mut [7; 8]),
+        says(25, 2)
+    );
     let mut words = [7; 72];
     assert_eq!(write_formula(&instance, 1, &mut words), wrote(72, 24));
 }
@@ -99,8 +103,22 @@ fn swap() {
 #[test]
 fn following() {
     let instance = path(&[0, 1], &[1, 2]);
-    assert_eq!(check_plan(&instance, 1, &[0, 1, 1, 2]), says(20, 2));
+    assert_eq!(check_plan(&instance, 1, &[0, 1, 1, 2]), says(26, 2));
+    assert_eq!(
+        encode(&instance, 1, &[0, 1, 1, 2], &mut [7; 12]),
+        says(26, 2)
+    );
     assert_eq!(check_plan(&instance, 2, &[0, 1, 0, 2, 1, 2]), says(0, 2));
+}
+
+#[test]
+fn standing() {
+    let instance = path(&[0, 1], &[1, 2]);
+    assert_eq!(check_plan(&instance, 1, &[0, 1, 1, 1]), says(20, 2));
+    assert_eq!(
+        encode(&instance, 1, &[0, 1, 1, 1], &mut [7; 12]),
+        says(20, 2)
+    );
 }
 
 #[test]

@@ -1,10 +1,11 @@
 //! Each question, its place, and which of two refusals comes first.
 
 use super::{says, unwritten};
-use crate::parts::malform;
-use crate::questions::{first_no, Handed, ASKED};
+use crate::parts::{enter_occupied, malform, Parts};
+use crate::questions::{failing, first_no, Handed, Item, ASKED, NUMBERS};
 use crate::sample::{all_edges, instance_bytes, largest_instance, Generator};
 use crate::*;
+use std::collections::BTreeSet;
 
 const PAIR: [u8; 8] = [2, 1, 1, 0, 0, 1, 0, 1];
 
@@ -12,6 +13,16 @@ const PAIR: [u8; 8] = [2, 1, 1, 0, 0, 1, 0, 1];
 fn path(starts: &[u8], goals: &[u8]) -> Vec<u8> {
     instance_bytes(4, &[(0, 1), (1, 2), (2, 3)], starts, goals)
 }
+
+/// The paths 0-1-2, 3-4-5 and 6-7-8; the agents return to their starts.
+fn three_paths(starts: &[u8]) -> Vec<u8> {
+    let edges = [(0, 1), (1, 2), (3, 4), (4, 5), (6, 7), (7, 8)];
+    instance_bytes(9, &edges, starts, starts)
+}
+
+/// On such a path: the number, and where the occupant of the middle goes while
+/// another agent comes from the first vertex.
+const WAYS: [(u32, u8); 3] = [(20, 1), (25, 0), (26, 2)];
 
 /// The answer of `check_instance`, after seeing that all five calls refuse
 /// alike and change nothing.
@@ -154,9 +165,9 @@ fn questions_14_and_15() {
 fn plan_refused(instance: &[u8], horizon: u64, plan: &[u8]) -> Answer {
     let answer = check_plan(instance, horizon, plan);
     assert_ne!(answer.number, 0);
-    let mut entries = [7; 99];
+    let mut entries = vec![7; usize::from(instance[0]) * plan.len()];
     assert_eq!(encode(instance, horizon, plan, &mut entries), answer);
-    assert_eq!(entries, [7; 99]);
+    assert!(entries.iter().all(|&entry| entry == 7));
     answer
 }
 
@@ -176,7 +187,6 @@ fn questions_19_to_21_go_step_by_step() {
     assert_eq!(plan_refused(&instance, 1, &[0, 1, 3, 1, 1, 0]), says(19, 5));
     assert_eq!(plan_refused(&instance, 1, &[0, 1, 3, 2, 2, 2]), says(19, 3));
     assert_eq!(plan_refused(&instance, 1, &[0, 1, 3, 0, 2, 2]), says(21, 5));
-    assert_eq!(plan_refused(&instance, 1, &[0, 1, 3, 1, 2, 2]), says(20, 3));
     assert_eq!(plan_refused(&instance, 1, &[0, 1, 3, 0, 0, 3]), says(20, 4));
     assert_eq!(plan_refused(&instance, 1, &[0, 1, 3, 0, 2, 3]), says(22, 4));
     // A sharing in step 0 comes before a jump in step 1.
@@ -194,6 +204,144 @@ fn questions_19_to_21_go_step_by_step() {
         plan_refused(&instance, 2, &[0, 1, 3, 0, 2, 2, 0, 2, 2]),
         says(21, 5)
     );
+}
+
+/// The entering agent is the lower one, or the higher one.
+#[test]
+fn question_20_has_three_numbers() {
+    for (number, to) in WAYS {
+        let instance = path(&[0, 1], &[1, 2]);
+        assert_eq!(plan_refused(&instance, 1, &[0, 1, 1, to]), says(number, 2));
+        let instance = path(&[1, 0], &[1, 2]);
+        // Of two that exchange vertices both are at fault.
+        let place = if number == 25 { 2 } else { 3 };
+        assert_eq!(
+            plan_refused(&instance, 1, &[1, 0, to, 1]),
+            says(number, place)
+        );
+        // In a later step.
+        assert_eq!(
+            plan_refused(&path(&[0, 1], &[1, 2]), 2, &[0, 1, 0, 1, 1, to]),
+            says(number, 4)
+        );
+    }
+}
+
+/// Two agents on each of three paths: they stay, or one enters the vertex of the
+/// other in one of the three ways. The lowest agent at fault decides, whether
+/// the agents of the first path come first or last.
+#[test]
+fn the_lowest_agent_at_fault_decides() {
+    let ways = || [(0, 1)].into_iter().chain(WAYS);
+    for (first, second, third) in
+        ways().flat_map(|x| ways().flat_map(move |y| ways().map(move |z| (x, y, z))))
+    {
+        let (mut row, mut next) = (vec![], vec![]);
+        for (base, (number, to)) in [0, 3, 6].into_iter().zip([first, second, third]) {
+            row.extend([base, base + 1]);
+            next.extend([base + u8::from(number != 0), base + to]);
+        }
+        for reversed in [false, true] {
+            let mut numbers = [first.0, second.0, third.0];
+            if reversed {
+                numbers.reverse();
+                row.reverse();
+                next.reverse();
+            }
+            let (instance, plan) = (three_paths(&row), [&row[..], &next].concat());
+            let Some(pair) = numbers.iter().position(|&number| number != 0) else {
+                assert_eq!(check_plan(&instance, 1, &plan), says(0, 0));
+                continue;
+            };
+            let number = numbers[pair];
+            // In reverse the occupant is the lower one, at fault only by an exchange.
+            let agent = 2 * pair + usize::from(reversed && number != 25);
+            let place = (6 + agent) as u64;
+            assert_eq!(plan_refused(&instance, 1, &plan), says(number, place));
+        }
+    }
+}
+
+#[test]
+fn the_occupant_breaks_a_condition_itself() {
+    let instance = path(&[0, 1, 2], &[1, 2, 3]);
+    // It enters a vertex whose occupant stays, exchanges with it, or moves on.
+    assert_eq!(plan_refused(&instance, 1, &[0, 1, 2, 1, 2, 2]), says(26, 3));
+    assert_eq!(plan_refused(&instance, 1, &[0, 1, 2, 1, 2, 1]), says(26, 3));
+    assert_eq!(plan_refused(&instance, 1, &[0, 1, 2, 1, 2, 3]), says(26, 3));
+    // Where the occupant is the lowest, its own fault decides.
+    let instance = path(&[1, 0, 2], &[2, 1, 3]);
+    assert_eq!(plan_refused(&instance, 1, &[1, 0, 2, 2, 1, 2]), says(20, 3));
+    assert_eq!(plan_refused(&instance, 1, &[1, 0, 2, 2, 1, 1]), says(25, 3));
+    // It shares a vertex that was vacant.
+    let instance = path(&[0, 1, 3], &[0, 1, 3]);
+    assert_eq!(plan_refused(&instance, 1, &[0, 1, 3, 1, 2, 2]), says(26, 3));
+    // It crosses no edge: condition 1 is asked before.
+    let instance = path(&[0, 1, 2], &[1, 2, 3]);
+    assert_eq!(plan_refused(&instance, 1, &[0, 1, 2, 1, 3, 2]), says(19, 4));
+}
+
+#[test]
+fn the_three_come_after_19_and_before_21() {
+    for (number, to) in WAYS {
+        // A higher agent jumps, in this step or in the next.
+        let instance = three_paths(&[0, 1, 6]);
+        assert_eq!(
+            plan_refused(&instance, 1, &[0, 1, 6, 1, to, 8]),
+            says(19, 5)
+        );
+        assert_eq!(
+            plan_refused(&instance, 2, &[0, 1, 6, 1, to, 6, 1, to, 8]),
+            says(number, 3)
+        );
+        // Two lower agents share, in this step or in the one before.
+        let instance = three_paths(&[6, 8, 0, 1]);
+        assert_eq!(
+            plan_refused(&instance, 1, &[6, 8, 0, 1, 7, 7, 1, to]),
+            says(number, 6)
+        );
+        assert_eq!(
+            plan_refused(&instance, 2, &[6, 8, 0, 1, 7, 7, 0, 1, 7, 7, 1, to]),
+            says(21, 5)
+        );
+    }
+}
+
+/// A file of 2 to 16 agents goes on by one vertex, with the last or the first of
+/// it as agent 0, and into a vacant vertex or not at all at its head.
+#[test]
+fn a_file_closes_up() {
+    for k in 2..=16u8 {
+        let edges: Vec<(u8, u8)> = (0..k).map(|v| (v, v + 1)).collect();
+        let file = |agents: Vec<u8>, head: u8| {
+            let instance = instance_bytes(usize::from(k) + 1, &edges, &agents, &agents);
+            let ahead = agents.iter().map(|&v| if v + 1 < k { v + 1 } else { head });
+            let plan: Vec<u8> = agents.iter().copied().chain(ahead).collect();
+            plan_refused(&instance, 1, &plan)
+        };
+        let (forward, back) = ((0..k).collect::<Vec<_>>(), (0..k).rev().collect::<Vec<_>>());
+        let (k, staying) = (u64::from(k), if k == 2 { 20 } else { 26 });
+        assert_eq!(file(forward.clone(), k as u8), says(26, k));
+        assert_eq!(file(forward, k as u8 - 1), says(staying, k));
+        // Agent 1 follows agent 0.
+        assert_eq!(file(back.clone(), k as u8), says(26, k + 1));
+        assert_eq!(file(back, k as u8 - 1), says(20, k + 1));
+    }
+}
+
+/// 2 to 16 agents in a ring all go on by one vertex: two exchange, more do not.
+#[test]
+fn a_ring_turns() {
+    for k in 2..=16u8 {
+        let agents: Vec<u8> = (0..k).collect();
+        let instance = instance_bytes(usize::from(k), &all_edges(k.into()), &agents, &agents);
+        let number = if k == 2 { 25 } else { 26 };
+        for by in [1, k - 1] {
+            let turned = agents.iter().map(|v| (v + by) % k);
+            let plan: Vec<u8> = agents.iter().copied().chain(turned).collect();
+            assert_eq!(plan_refused(&instance, 1, &plan), says(number, k.into()));
+        }
+    }
 }
 
 #[test]
@@ -306,7 +454,7 @@ fn size_limits_are_accepted() {
 #[test]
 fn calls_answer_the_first_no() {
     let mut random = Generator::new(23);
-    let mut seen = [[false; 25]; 5];
+    let mut seen = [[false; NUMBERS]; 5];
     for _ in 0..40_000 {
         let n = 1 + random.below(5);
         let k = 1 + random.below(n.min(3));
@@ -317,6 +465,11 @@ fn calls_answer_the_first_no() {
         let mut entries = plain::valuation(n, &plan);
         let total = clause(&instance, horizon, u64::MAX, &mut []).second;
         let number = random.below(total as usize + 2) as u64;
+        if random.chance(20) {
+            let occupied = [20, 25, 26][random.below(3)];
+            let parts = Parts::of(&instance);
+            plan = enter_occupied(&mut random, occupied, &parts, &plan).unwrap_or(plan);
+        }
         if random.chance(40) {
             let kind = 1 + random.below(13);
             instance = malform(&mut random, kind, &instance);
@@ -340,7 +493,7 @@ fn calls_answer_the_first_no() {
             plan.pop();
             entries.push(1);
         }
-        for (call, questions) in ASKED.into_iter().enumerate() {
+        for (call, numbers) in ASKED.into_iter().enumerate() {
             let lent = match (random.below(4), call) {
                 (0, _) => random.below(6),
                 (_, 3) => 12,
@@ -365,14 +518,118 @@ fn calls_answer_the_first_no() {
                 entries: &entries,
                 lent,
             };
-            match first_no(questions, &handed) {
-                Some((question, place)) => assert_eq!(answer, says(question, place)),
+            match first_no(numbers, &handed) {
+                Some((number, place)) => assert_eq!(answer, says(number, place)),
                 None => assert_eq!(answer.number, 0),
             }
             seen[call][answer.number as usize] = true;
         }
     }
-    for (seen, questions) in seen.iter().zip(ASKED) {
-        assert!(seen[0] && questions.iter().all(|&number| seen[number as usize]));
+    for (seen, numbers) in seen.iter().zip(ASKED) {
+        assert!(seen[0] && numbers.iter().all(|&number| seen[number as usize]));
+    }
+}
+
+/// Compares plan check and encoder with the questions asked one by one; gives
+/// the items of 20, 25 and 26, by place.
+fn compare_occupied(instance: &[u8], horizon: u64, plan: &[u8]) -> (Answer, Vec<Item>) {
+    let handed = Handed {
+        instance,
+        horizon,
+        clause: None,
+        plan,
+        entries: &[],
+        lent: usize::from(instance[0]) * plan.len(),
+    };
+    let answer = check_plan(instance, horizon, plan);
+    for numbers in [ASKED[2], ASKED[4]] {
+        match first_no(numbers, &handed) {
+            Some((number, place)) => assert_eq!(answer, says(number, place)),
+            None => assert_eq!(answer.number, 0),
+        }
+    }
+    if answer.number != 0 {
+        assert_eq!(plan_refused(instance, horizon, plan), answer);
+    }
+    let numbers = [20, 25, 26].into_iter();
+    let mut items: Vec<Item> = numbers
+        .flat_map(|number| {
+            let places = failing(number, &handed).into_iter();
+            places.map(move |place| (number, place))
+        })
+        .collect();
+    items.sort_by_key(|item| item.1);
+    (answer, items)
+}
+
+/// Every step of three agents from some rows, on every graph of four vertices.
+#[test]
+fn all_steps_of_three_agents() {
+    let possible = all_edges(4);
+    let mut times = [0; NUMBERS];
+    for graph in 0..1 << possible.len() {
+        let chosen = (0..possible.len()).filter(|j| graph >> j & 1 == 1);
+        let edges: Vec<(u8, u8)> = chosen.map(|j| possible[j]).collect();
+        for starts in [[0, 1, 2], [3, 1, 0], [2, 3, 1], [1, 0, 3]] {
+            let instance = instance_bytes(4, &edges, &starts, &starts);
+            for next in 0..64 {
+                let next = [next >> 4, next >> 2 & 3, next & 3];
+                let (answer, items) = compare_occupied(&instance, 1, &[starts, next].concat());
+                times[answer.number as usize] += 1;
+                // One item, of one number, for each agent that enters an occupied vertex.
+                let enters = |&a: &usize| next[a] != starts[a] && starts.contains(&next[a]);
+                let places: Vec<u64> = items.iter().map(|item| item.1).collect();
+                let agents = (0..3).filter(enters).map(|a| 3 + a as u64);
+                assert_eq!(places, agents.collect::<Vec<_>>());
+            }
+        }
+    }
+    for number in [0, 19, 20, 25, 26, 21, 22] {
+        assert!(times[number] > 0, "{number} was never answered");
+    }
+}
+
+/// 2 to 16 agents of which some enter occupied vertices. With every number of
+/// agents each of the three comes, and with four or more each of them decides
+/// while a higher agent is at fault in each of the other ways.
+#[test]
+fn crowded_plans_answer_the_first_no() {
+    let mut random = Generator::new(29);
+    for k in 2..=16 {
+        let mut decided = BTreeSet::new();
+        let mut times = [0; NUMBERS];
+        for i in 0..900 {
+            let n = k + 1 + random.below(8);
+            let m = 1 + random.below(3);
+            let percent = 20 + random.below(81);
+            let (instance, plan) = random.walk(n, k, percent, m);
+            let parts = Parts::of(&instance);
+            let wanted = [20, 25, 26][i % 3];
+            let Some(plan) = enter_occupied(&mut random, wanted, &parts, &plan) else {
+                continue;
+            };
+            let (answer, items) = compare_occupied(&instance, m as u64, &plan);
+            times[answer.number as usize] += 1;
+            // All steps before are valid, and the agents only cross edges there.
+            assert!(matches!(answer.number, 20 | 25 | 26));
+            assert_eq!(items[0], (answer.number, answer.second));
+            let step = |item: &&Item| item.1 / k as u64 == answer.second / k as u64;
+            assert!(items.iter().filter(step).any(|item| item.0 == wanted));
+            let others = items.iter().filter(step).map(|item| item.0);
+            decided.extend(others.map(|other| (answer.number, other)));
+        }
+        for number in [20, 25, 26] {
+            assert!(
+                times[number] > 100,
+                "{k} agents: {number} came {} times",
+                times[number]
+            );
+            for other in [20, 25, 26] {
+                assert!(
+                    k < 4 || decided.contains(&(number as u32, other)),
+                    "{k} agents: {number} never decided over {other}"
+                );
+            }
+        }
     }
 }

@@ -1,5 +1,6 @@
 //! Each form against the independent program, on inputs right and damaged. A difference ends the benchmark.
 
+use independent::questions::{ASKED, NUMBERS};
 use independent::sample::Generator;
 use independent::text::print_formula;
 use independent::Written;
@@ -8,15 +9,6 @@ use std::fmt::Debug;
 use std::io::Write;
 use std::path::Path;
 use std::process::{Command, Stdio};
-
-/// What each call can answer beside 0 to 10: writer, one clause, plan check, decoder, encoder.
-const NUMBERS: [&[u32]; 5] = [
-    &[12],
-    &[11, 12],
-    &[13, 17, 18, 19, 20, 21, 22],
-    &[14, 15, 23, 24],
-    &[13, 16, 17, 18, 19, 20, 21, 22],
-];
 
 struct Case {
     /// The instance before it was damaged.
@@ -73,7 +65,7 @@ pub fn same<T: Clone + PartialEq, A: Debug + PartialEq>(
 /// Compares the five calls in so many random cases; gives the number of comparisons.
 pub fn compare_calls(cases: usize) -> usize {
     let mut g = Generator::new(2026);
-    let mut hits = [[0; 25]; 5];
+    let mut hits = [[0; NUMBERS]; 5];
     let mut falsified = [0; 7];
     for _ in 0..cases {
         let case = draw(&mut g);
@@ -139,8 +131,8 @@ pub fn compare_calls(cases: usize) -> usize {
         .number;
         hits[4][number as usize] += 1;
     }
-    for (hits, numbers) in hits.iter().zip(NUMBERS) {
-        for number in (0..=10).chain(numbers.iter().copied()) {
+    for (hits, numbers) in hits.iter().zip(ASKED) {
+        for &number in [0].iter().chain(numbers) {
             assert!(hits[number as usize] > 0, "{number} was never answered");
         }
     }

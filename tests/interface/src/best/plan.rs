@@ -90,7 +90,13 @@ fn refuse_step<T>(
         return refuse(19, place + a);
     }
     if let Some(a) = moves().position(|(v, w)| v != w && stood >> w & 1 == 1) {
-        return refuse(20, place + a);
+        let occupant = moves().find(|(&v, _)| v == next[a]);
+        let number = match occupant.map(|(_, &w)| w) {
+            Some(w) if w == next[a] => 20,
+            Some(w) if w == row[a] => 25,
+            _ => 26,
+        };
+        return refuse(number, place + a);
     }
     let shares = |&a: &usize| next[..a].contains(&next[a]);
     refuse(21, place + (0..next.len()).find(shares).unwrap_or(0))

@@ -5,7 +5,7 @@
 
 #![forbid(unsafe_code)]
 
-use independent::questions::ASKED;
+use independent::questions::{ASKED, NUMBERS};
 use independent::sample::{all_edges, instance_bytes, largest_instance, Generator};
 use interface::input::*;
 use std::fmt::Debug;
@@ -122,7 +122,7 @@ struct Run {
     /// Items kept before each lent slice in this case.
     before: usize,
     /// Calls that gave each number.
-    hits: [[u64; 25]; 5],
+    hits: [[u64; NUMBERS]; 5],
     /// By family: clauses given, and clauses that refusal 24 named.
     given: [u64; 7],
     falsified: [u64; 7],
@@ -200,7 +200,7 @@ impl Run {
             );
         }
         let number = answer.number as usize;
-        if number > 24 || !gives(asked.call, number) {
+        if !gives(asked.call, number) {
             self.fail(asked, &format!("{answer:?}: not a number of this call"));
         }
         self.hits[asked.call][number] += 1;
@@ -628,7 +628,7 @@ impl Run {
         print!("{:>8}", "number");
         NAMES.iter().for_each(|name| print!("{name:>12}"));
         println!();
-        for number in 0..25 {
+        for number in 0..NUMBERS {
             let row: Vec<String> = (0..5)
                 .map(|call| match self.hits[call][number] {
                     _ if !gives(call, number) => "-".to_string(),
@@ -738,7 +738,7 @@ fn main() {
         part: "",
         case: 0,
         before: 1,
-        hits: [[0; 25]; 5],
+        hits: [[0; NUMBERS]; 5],
         given: [0; 7],
         falsified: [0; 7],
         round_trips: 0,

@@ -1,0 +1,73 @@
+-- Question 20 has three numbers. Where the questions of a step answer one of them, it is that of the lowest agent that enters an
+-- occupied vertex.
+use mathlib.Core.Path.{_≡_, _∙_, subst}
+use mathlib.Core.Logic.{⊎-elim}
+use mathlib.Core.List.{List, [], _∷_, _++_}
+use mathlib.Core.Bool.{Bool, not, _||_}
+use Prim.Native.Nat.{ℕ, suc, _<_}
+use lib.Dec.{T, ltb, eqb}
+use Rattle.lists.specs.Loop.{all}
+use Rattle.lists.proofs.Tests.{and-iff, not-iff}
+use Rattle.answers.specs.declared.Answer.{Answer}
+use Rattle.answers.specs.Answers.{Question, refuse, decide, clear}
+use Rattle.answers.specs.Fault.{FirstFault}
+use Rattle.answers.proofs.Laws.{each-all, decide-after, decide-each, decide-past, decide-count}
+use Rattle.instance.specs.declared.Sizes.{Sizes}
+use Rattle.instance.specs.Instance.{Instance, adjacent}
+use Rattle.plan.specs.Plan.{Row, planRow, planIndex, condition1, condition2, Leaving, stays, exchanges, movesOn, occupantLeaves}
+use Rattle.calls.specs.Questions.{occupiedNumber, question20, question21}
+use Rattle.calls.specs.Calls.{stepQuestions}
+
+-- a number of question 20
+abbrev pub occupied? : ℕ → Bool
+occupied? number = eqb number 20 || (eqb number 25 || eqb number 26)
+
+abbrev pub Occupied : Answer → Type 0
+Occupied answer = T (occupied? (answer .number))
+
+-- every refusal of these questions has another number
+abbrev pub Others : List Question → Type 0
+Others qs = T (all (all (λ r. not (occupied? (r .number)))) qs)
+
+-- so one of question 20's numbers comes from the questions behind them
+pub past : (qs rs : List Question) (c : ℕ) → Others qs → Occupied (decide (qs ++ rs) c)
+    → T (all clear qs) × (decide (qs ++ rs) c ≡ decide rs c)
+past qs rs c h o =
+    let yes : T (all clear qs) =
+    ⊎-elim (λ yes. yes) (λ other. absurd (not-iff (occupied? (decide (qs ++ rs) c .number)) .0 other o)) (decide-past (λ r. not (occupied? (r .number))) qs rs c h) in
+    (yes, decide-after qs rs c yes)
+
+-- none of question 20's numbers is 0
+pub numbered-occupied : (w : Leaving) → T (ltb 0 (occupiedNumber w))
+numbered-occupied stays = tt
+numbered-occupied exchanges = tt
+numbered-occupied movesOn = tt
+
+module _ (I : Instance) (p : List ℕ) where
+  open Instance I using (sizes)
+  open Sizes sizes using (k)
+
+  abbrev P : ℕ → Row
+  P = planRow sizes p
+
+  -- what the questions of step t say there
+  pub record InStep (t : ℕ) (answer : Answer) : Type 0 where
+    pub a : ℕ
+    pub agent : a < k
+    -- condition 1 holds for all agents of the step, and a is the lowest that fails condition 2
+    pub crosses : (c : ℕ) → c < k → T (condition1 (adjacent I) (P t) (P (suc t)) c)
+    pub lowest : FirstFault k (condition2 sizes (P t) (P (suc t))) a
+    pub given : answer ≡ refuse (occupiedNumber (occupantLeaves sizes (P t) (P (suc t)) a)) (planIndex sizes (suc t) a)
+
+  pub in-step : (t : ℕ) → Occupied (decide (stepQuestions I p t) 0) → InStep t (decide (stepQuestions I p t) 0)
+  in-step t o =
+      ⊎-elim
+      (λ w.
+      ⊎-elim
+      (λ u.
+      let after = past (question21 I p t ∷ []) [] 0 (simp (and-iff, each-all) ((λ a l f. tt), tt)) (subst Occupied (w .1 ∙ u .1) o) in
+      absurd (subst Occupied (w .1 ∙ u .1 ∙ after .1 ∙ decide-count [] 0 tt) o))
+      (λ u. record { a = u .0; agent = u .1; crosses = w .0; lowest = u .2; given = w .1 ∙ u .3 })
+      (decide-each k (condition2 sizes (P t) (P (suc t))) _ (question21 I p t ∷ []) 0))
+      (λ w. absurd (subst Occupied (w .3) o))
+      (decide-each k (condition1 (adjacent I) (P t) (P (suc t))) _ (question20 I p t ∷ question21 I p t ∷ []) 0)
