@@ -1,4 +1,4 @@
--- Plans: their rows, the three conditions as tests, makespan and cost.
+-- Plans: their rows, the three conditions as tests, the occupant of a vertex that is entered, makespan and cost.
 use mathlib.Core.List.{List}
 use mathlib.Core.Bool.{Bool, not, _||_, cond}
 use Prim.Native.Nat.{ℕ, zero, suc, _+_, _*_, _-_, _/_}
@@ -55,7 +55,8 @@ condition s near (suc (suc which)) here next a = condition3 next a
 abbrev pub occupant : Sizes → Row → Row → ℕ → ℕ
 occupant s here next a = first (s .k) λ b. eqb (here b) (next a)
 
--- how an occupant leaves: it stays, it moves to the entering agent's old vertex, or it moves to another
+-- how an occupant leaves: it stays, it moves to the entering agent's old vertex (a swapping conflict), or it moves to another (a
+-- following conflict)
 pub data Leaving : Type 0 where
   stays : Leaving
   exchanges : Leaving

@@ -12,13 +12,7 @@ use std::process::{exit, Command, Stdio};
 use std::time::Duration;
 
 /// The most that a call may take of its time with the earlier library. A call that is not here has no target.
-const TARGETS: [(&str, &str, f64); 5] = [
-    ("writer", "grid", 0.8),
-    ("writer", "largest", 1.0),
-    ("plan check", "largest", 0.8),
-    ("decoder", "largest", 1.0),
-    ("one clause F", "largest", 1.0),
-];
+const TARGETS: [(&str, &str, f64); 1] = [("plan check", "largest", 1.0)];
 
 /// Each program runs so often for a call, and samples it for so long at least.
 const TURNS: usize = 20;

@@ -235,14 +235,39 @@ fn instance_check(table: &mut Table, input: &Input) {
     table.row("instance check", input, row, None, note);
 }
 
+/// The plan check; of the largest instance also against the independent program, and with a plan that is refused.
 fn plan_check(table: &mut Table, input: &Input) {
-    let (instance, m, plan) = (&input.instance[..], input.m, &input.plan[..]);
+    let passing = times_of_plan(input, &input.plan, 0);
+    table.row("plan check", input, passing, Some(1.2), "");
+    if input.name == "largest" {
+        let mut against = |[ours, _, independent]: [f64; 3], note| {
+            let row = [ours, independent, independent];
+            table.row("plan check", input, row, Some(1.0), note);
+        };
+        against(passing, "  against the independent program");
+        let refused = times_of_plan(input, &exchanged(input), 25);
+        against(refused, "  the same, refused by 25 in the last step");
+    }
+}
+
+/// Of a plan that gets this number.
+fn times_of_plan(input: &Input, plan: &[u8], number: u32) -> [f64; 3] {
+    let (instance, m) = (&input.instance[..], input.m);
     agree::<u8>(&[], |form, _| PLAN_CHECKS[form](instance, m, plan));
-    let times = times(|form| {
+    times(|form| {
         let said = PLAN_CHECKS[form](black_box(instance), m, black_box(plan));
-        assert_eq!(said.0, 0);
-    });
-    table.row("plan check", input, times, Some(1.2), "");
+        assert_eq!(said.0, number);
+    })
+}
+
+/// The plan with another last step, for an instance with all edges: the last two agents exchange, the others stay.
+fn exchanged(input: &Input) -> Vec<u8> {
+    let k = usize::from(input.instance[1]);
+    let mut plan = input.plan.clone();
+    let (end, last) = (plan.len(), plan.len() - k);
+    plan.copy_within(last - k..last, last);
+    plan.swap(end - 2, end - 1);
+    plan
 }
 
 fn decoder(table: &mut Table, input: &Input) {
