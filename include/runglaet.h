@@ -1,7 +1,7 @@
 /* Runglaet: shuttle formulas, valuations and plans.
  *
  * Every call takes any bytes and any numbers, checks all of them itself, keeps no pointer and allocates nothing.
- * An answer's number is 0 for accepted, or the number that the first question answered no gives; `second` is then the
+ * An answer's number is 0 for accepted, or the number given by the first question answered no; `second` is then the
  * place of the refusal, and the count of an acceptance. A refusal changes nothing that was lent. An accepted call fills
  * the first places of its slice and touches none beyond.
  *
@@ -51,7 +51,7 @@ runglaet_answer runglaet_clause(const uint8_t *instance, size_t instance_len, ui
                                 int32_t *words, size_t words_len);
 
 /* The plan check.
- * Asks 1 to 10, 13 and 17 to 22. Where an agent enters a vertex on which another stood, a no to 20, the number tells
+ * Asks 1 to 10, 13 and 17 to 22. Where an agent enters a vertex on which another stood, question 20, the number tells
  * what the other one does: 20 it stays, 25 the two exchange vertices, 26 it goes elsewhere. The lowest such agent of the
  * step decides. Accepted: `second` is the plan's cost, its number of moves. */
 runglaet_answer runglaet_check_plan(const uint8_t *instance, size_t instance_len, uint64_t horizon,

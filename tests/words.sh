@@ -64,7 +64,7 @@ exec 8<&-
 description() { printf '%s\n' "${@:2}" >"$1"; }
 description path.txt 'vertices 3' 'edge 0 1' 'edge 1 2' 'agent 0 1' 'agent 1 2'
 description pair.txt 'vertices 2' 'edge 0 1' 'agent 0 1'
-description square.txt 'vertices 4' 'edge 0 1' 'edge 0 3' 'agent 0 3' 'agent 2 0' 'edge 1 2'
+description four.txt 'vertices 4' 'edge 0 1' 'edge 0 3' 'agent 0 3' 'agent 2 0' 'edge 1 2'
 mkdir folder
 
 # Errors of the tool: files.
@@ -216,14 +216,14 @@ refuse 18 'agent 0 (line 3) at time 0: at vertex 1, its start is vertex 0' "$shu
 refuse 19 'agent 0 (line 4) at time 1: from vertex 0 to vertex 2' "$shuttles" check path.txt 1  0 1  2 1
 refuse 19 'agent 1 (line 5) at time 2: from vertex 2 to vertex 0' "$shuttles" check path.txt 2  0 1  0 2  0 0
 # The occupant of the vertex entered stays, goes to the vertex that the agent had, or goes to another.
-entered='agent 0 (line 4) at time 1: from vertex 0 to vertex 1, where agent 1 (line 5) was at time 0'
+entered='agent 0 (line 4) at time 1: from vertex 0 to vertex 1,'
 for call in check encode; do
-    refuse 20 "$entered and stays" "$shuttles" "$call" path.txt 1  0 1  1 1
-    refuse 25 "$entered and goes to vertex 0" "$shuttles" "$call" path.txt 1  0 1  1 0
-    refuse 26 "$entered and goes to vertex 2" "$shuttles" "$call" path.txt 1  0 1  1 2
+    refuse 20 "$entered where agent 1 (line 5) stays" "$shuttles" "$call" path.txt 1  0 1  1 1
+    refuse 25 "$entered which agent 1 (line 5) leaves for vertex 0" "$shuttles" "$call" path.txt 1  0 1  1 0
+    refuse 26 "$entered which agent 1 (line 5) leaves for vertex 2" "$shuttles" "$call" path.txt 1  0 1  1 2
 done
-refuse 20 'agent 1 (line 5) at time 1: from vertex 1 to vertex 0, where agent 0 (line 4) was at time 0 and stays' "$shuttles" check path.txt 1  0 1  0 0
-refuse 26 'agent 1 (line 5) at time 3: from vertex 1 to vertex 0, where agent 0 (line 4) was at time 2 and goes to vertex 3' "$shuttles" check square.txt 3  0 2  0 2  0 1  3 0
+refuse 20 'agent 1 (line 5) at time 1: from vertex 1 to vertex 0, where agent 0 (line 4) stays' "$shuttles" check path.txt 1  0 1  0 0
+refuse 26 'agent 1 (line 5) at time 3: from vertex 1 to vertex 0, which agent 0 (line 4) leaves for vertex 3' "$shuttles" check four.txt 3  0 2  0 2  0 1  3 0
 description r.txt 'vertices 3' 'edge 0 1' 'edge 1 2' 'agent 0 1' 'agent 2 2'
 refuse 21 'agent 1 (line 5) at time 1: at vertex 1, and so is agent 0 (line 4)' "$shuttles" check r.txt 1  0 2  1 1
 refuse 21 'agent 1 (line 5) at time 2: at vertex 1, and so is agent 0 (line 4)' "$shuttles" encode r.txt 2  0 2  0 2  1 1

@@ -1,6 +1,6 @@
 -- Question 20 has three numbers. Where the questions of a step answer one of them, it is that of the lowest agent that enters an
--- occupied vertex.
-use mathlib.Core.Path.{_≡_, _∙_, subst}
+-- occupied vertex; and where condition 1 holds for all agents and some agent enters an occupied vertex, one of them is answered.
+use mathlib.Core.Path.{_≡_, sym, _∙_, subst}
 use mathlib.Core.Logic.{⊎-elim}
 use mathlib.Core.List.{List, [], _∷_, _++_}
 use mathlib.Core.Bool.{Bool, not, _||_}
@@ -37,8 +37,15 @@ past qs rs c h o =
     ⊎-elim (λ yes. yes) (λ other. absurd (not-iff (occupied? (decide (qs ++ rs) c .number)) .0 other o)) (decide-past (λ r. not (occupied? (r .number))) qs rs c h) in
     (yes, decide-after qs rs c yes)
 
+pub number-occupied : (w : Leaving) → T (occupied? (occupiedNumber w))
+unfolding occupiedNumber
+number-occupied stays = tt
+number-occupied exchanges = tt
+number-occupied movesOn = tt
+
 -- none of question 20's numbers is 0
 pub numbered-occupied : (w : Leaving) → T (ltb 0 (occupiedNumber w))
+unfolding occupiedNumber
 numbered-occupied stays = tt
 numbered-occupied exchanges = tt
 numbered-occupied movesOn = tt
@@ -49,6 +56,18 @@ module _ (I : Instance) (p : List ℕ) where
 
   abbrev P : ℕ → Row
   P = planRow sizes p
+
+  pub gives-step : (t : ℕ) → ((c : ℕ) → c < k → T (condition1 (adjacent I) (P t) (P (suc t)) c))
+      → (a : ℕ) → a < k → (T (condition2 sizes (P t) (P (suc t)) a) → ⊥) → Occupied (decide (stepQuestions I p t) 0)
+  gives-step t crosses a r fails =
+      ⊎-elim
+      (λ w.
+      ⊎-elim
+      (λ u. absurd (fails (u .0 a r)))
+      (λ u. subst Occupied (sym (w .1 ∙ u .3)) (number-occupied _))
+      (decide-each k (condition2 sizes (P t) (P (suc t))) _ (question21 I p t ∷ []) 0))
+      (λ w. absurd (w .2 .here (w .1) (crosses (w .0) (w .1))))
+      (decide-each k (condition1 (adjacent I) (P t) (P (suc t))) _ (question20 I p t ∷ question21 I p t ∷ []) 0)
 
   -- what the questions of step t say there
   pub record InStep (t : ℕ) (answer : Answer) : Type 0 where

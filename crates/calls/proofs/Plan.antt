@@ -1,5 +1,6 @@
--- The plan check's questions are answered yes exactly for the plans that pass; and where they answer a number of question 20.
-use mathlib.Core.Path.{_≡_, sym, _∙_, subst}
+-- The plan check's questions are answered yes exactly for the plans that pass, and they answer a number of question 20 exactly where it
+-- is its turn and an agent fails condition 2.
+use mathlib.Core.Path.{_≡_, refl, sym, _∙_, ap, subst}
 use mathlib.Core.Logic.{_↔_, _≢_, ⊎-elim, Iff·trans}
 use mathlib.Core.List.{List, [], _∷_, _++_}
 use Prim.Native.Nat.{ℕ, suc, _<_}
@@ -10,19 +11,19 @@ use Rattle.lists.proofs.Tests.{and-iff, or-imp, not-iff, eqb-iff, ltb-iff, ever
 use Rattle.lists.proofs.Loops.{all-append, for-all}
 use Rattle.answers.specs.declared.Answer.{Answer}
 use Rattle.answers.specs.Answers.{Question, decide, clear}
-use Rattle.answers.proofs.Laws.{numbered, clear-iff, each-all, each-nil, decide-iff, decide-count, decide-after, decide-lists, ask-nil, ask-all}
+use Rattle.answers.proofs.Laws.{numbered, clear-iff, each-all, each-nil, decide-iff, decide-count, decide-after, decide-refused, decide-lists, step-stop, ask-nil, ask-all}
 use Rattle.instance.specs.declared.Sizes.{Sizes}
 use Rattle.instance.specs.Instance.{Instance, instance, adjacent}
-use Rattle.plan.specs.Plan.{Row, condition1, condition2, condition3, planRow, occupantLeaves}
+use Rattle.plan.specs.Plan.{Row, condition1, condition2, condition3, planRow}
 use Rattle.plan.specs.Passing.{ValidStep, Passes}
 use Rattle.plan.proofs.Steps.{apart-any, crosses-iff}
 use Rattle.calls.specs.Questions.{question13, question17, question18, question22}
 use Rattle.instance.specs.Questions.{instanceQuestions}
 use Rattle.calls.specs.Calls.{stepQuestions, planQuestions, checkAnswer}
-use Rattle.calls.proofs.Occupied.{Occupied, past, numbered-occupied, InStep, in-step}
+use Rattle.calls.proofs.Occupied.{occupied?, Occupied, past, numbered-occupied, InStep, in-step}
 
 module _ (I : Instance) (p : List ℕ) where
-  open Instance I using (sizes, start)
+  open Instance I using (sizes)
   open Sizes sizes using (k, m)
 
   abbrev P : ℕ → Row
@@ -31,7 +32,7 @@ module _ (I : Instance) (p : List ℕ) where
   pub numbered-step : (t : ℕ) → T (all numbered (stepQuestions I p t))
   numbered-step t =
       simp (and-iff, each-all)
-      ((λ a l f. tt), ((λ a l f. numbered-occupied (occupantLeaves sizes (P t) (P (suc t)) a)), ((λ a l f. tt), tt)))
+      ((λ a l f. tt), ((λ a l f. numbered-occupied _), ((λ a l f. tt), tt)))
 
   pub numbered-plan : T (all numbered (question13 I p ∷ planQuestions I p))
   unfolding planQuestions
@@ -43,7 +44,7 @@ module _ (I : Instance) (p : List ℕ) where
           (
             (λ a l f. tt),
             (
-              (λ t l. ((λ a r f. tt), ((λ a r f. numbered-occupied (occupantLeaves sizes (P t) (P (suc t)) a)), ((λ a r f. tt), tt)))),
+              (λ t l. ((λ a r f. tt), ((λ a r f. numbered-occupied _), ((λ a r f. tt), tt)))),
               ((λ a l f. tt), tt),
             ),
           ),
@@ -94,22 +95,28 @@ module _ (I : Instance) (p : List ℕ) where
             )),
       )
 
-  -- what a number of question 20 says of the plan: it comes from the first step that is not valid
+  abbrev pub early : List Question
+  early = question17 I p ∷ question18 I p ∷ []
+
+  abbrev steps : List Question
+  steps = for m (stepQuestions I p)
+
+  abbrev goals : List Question
+  goals = question22 I p ∷ []
+
+  -- a number of question 20 comes from the first step that is not valid
   pub record OccupiedAt (answer : Answer) : Type 0 where
     pub t : ℕ
     pub step : t < m
-    -- row 0 is the starts, and the steps before are valid
-    pub starts : (c : ℕ) → c < k → P 0 c ≡ start c
+    pub first : T (all clear early)
     pub before : (u : ℕ) → u < t → ValidStep I (P u) (P (suc u))
     pub here : InStep I p t answer
 
   pub occupied-at : (c : ℕ) → Occupied (decide (planQuestions I p) c) → OccupiedAt (decide (planQuestions I p) c)
   unfolding planQuestions
   occupied-at c o =
-      let steps : List Question = for m (stepQuestions I p) in
-      let goals : List Question = question22 I p ∷ [] in
-      let early = past (question17 I p ∷ question18 I p ∷ []) (steps ++ goals) c (simp (and-iff, each-all) ((λ i l f. tt), ((λ a l f. tt), tt))) o in
-      let o′ = subst Occupied (early .1) o in
+      let begun = past early (steps ++ goals) c (simp (and-iff, each-all) ((λ i l f. tt), ((λ a l f. tt), tt))) o in
+      let o′ = subst Occupied (begun .1) o in
       ⊎-elim
       (λ yes.
       let e = decide-after steps goals c yes in
@@ -119,11 +126,23 @@ module _ (I : Instance) (p : List ℕ) where
       record {
         t = w .0;
         step = w .1;
-        starts = (simp (and-iff, clear-iff, each-nil, eqb-iff) at early .0) .1 .0;
+        first = begun .0;
         before = λ u l. clear-step u .0 (for-all clear (w .0) (stepQuestions I p) .0 (w .2) u l);
-        here = subst (InStep I p (w .0)) (sym (early .1 ∙ w .3)) (in-step I p (w .0) (subst Occupied (w .3) o′));
+        here = subst (InStep I p (w .0)) (sym (begun .1 ∙ w .3)) (in-step I p (w .0) (subst Occupied (w .3) o′));
       })
       (decide-lists (stepQuestions I p) numbered-step m goals c)
+
+  -- and one of them is given wherever it is its turn and an agent fails condition 2
+  pub occupied-given : (c : ℕ) → T (all clear early) → (t : ℕ) → t < m → ((u : ℕ) → u < t → ValidStep I (P u) (P (suc u)))
+      → Occupied (decide (stepQuestions I p t) 0) → Occupied (decide (planQuestions I p) c)
+  unfolding planQuestions
+  occupied-given c first t l before o =
+      let yes : T (all clear (for t (stepQuestions I p))) = for-all clear t (stepQuestions I p) .1 (λ u h. clear-step u .1 (before u h)) in
+      let refused : decide (stepQuestions I p t) 0 .number ≢ 0 = λ e. subst (λ (x : ℕ). T (occupied? x)) e o in
+      let e : decide (stepQuestions I p t) 0 ≡ decide steps 0 = step-stop (stepQuestions I p) t (decide (stepQuestions I p t) 0) refl yes m l refused in
+      let e′ : decide (steps ++ goals) c ≡ decide steps 0 =
+      decide-refused steps goals 0 c (λ z. refused (ap (λ (a : Answer). a .number) e ∙ z)) in
+      subst Occupied (e ∙ sym (decide-after early (steps ++ goals) c first ∙ e′)) o
 
 -- the plan check passes a plan exactly when it leads from the starts to the goals and every step obeys the three conditions
 pub check-iff : (b : List ℕ) (m : ℕ) → T (all clear (instanceQuestions b m)) → (p : List ℕ)

@@ -35,8 +35,8 @@ question15 I size = ask (leb (planBytes (I .sizes)) size) (refuse 15 (planBytes 
 abbrev pub question16 : Formula → ℕ → Question
 question16 f size = ask (leb (f .variables) size) (refuse 16 (f .variables))
 
--- the number of question 20's refusal says how the occupant of the vertex entered leaves it
-abbrev pub occupiedNumber : Leaving → ℕ
+-- the number of question 20's refusal says what the occupant of the vertex entered does
+unfoldable pub occupiedNumber : Leaving → ℕ
 occupiedNumber stays = 20
 occupiedNumber exchanges = 25
 occupiedNumber movesOn = 26

@@ -29,7 +29,7 @@ pathOne s g = 3 ∷ 1 ∷ 2 ∷ 0 ∷ 0 ∷ 1 ∷ 1 ∷ 2 ∷ s ∷ g ∷ []
 abbrev pub pathTwo : ℕ → ℕ → ℕ → ℕ → List ℕ
 pathTwo s₀ s₁ g₀ g₁ = 3 ∷ 2 ∷ 2 ∷ 0 ∷ 0 ∷ 1 ∷ 1 ∷ 2 ∷ s₀ ∷ s₁ ∷ g₀ ∷ g₁ ∷ []
 
--- the path with an agent on each vertex, each of which stays
+-- the path with an agent on each vertex, whose goals are their starts
 abbrev pub pathFull : List ℕ
 pathFull = 3 ∷ 3 ∷ 2 ∷ 0 ∷ 0 ∷ 1 ∷ 1 ∷ 2 ∷ 0 ∷ 1 ∷ 2 ∷ 0 ∷ 1 ∷ 2 ∷ []
 

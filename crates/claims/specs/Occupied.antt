@@ -3,10 +3,13 @@ use mathlib.Core.Path.{_≡_}
 use mathlib.Core.Logic.{_↔_, _≢_, _⊎_}
 use mathlib.Core.List.{List}
 use Prim.Native.Nat.{ℕ, suc, _≤_, _<_}
+use lib.ListN.{length, getD}
 use Rattle.answers.specs.declared.Answer.{Answer}
 use Rattle.instance.specs.declared.Sizes.{Sizes}
 use Rattle.instance.specs.Instance.{Instance, instance, Edge}
-use Rattle.plan.specs.Plan.{Row, planRow, planIndex}
+use Rattle.instance.specs.Questions.{instanceAnswer}
+use Rattle.formula.specs.Formula.{formula}
+use Rattle.plan.specs.Plan.{Row, planBytes, planRow, planIndex}
 use Rattle.plan.specs.Passing.{ValidStep}
 use Rattle.calls.specs.Calls.{checkAnswer, encodeAnswer}
 
@@ -31,36 +34,55 @@ MovesOn here next a b = (next b ≢ here b) × (next b ≢ here a)
 abbrev pub OneOfThree : Answer → Type 0
 OneOfThree answer = (answer .number ≡ 20) ⊎ ((answer .number ≡ 25) ⊎ (answer .number ≡ 26))
 
--- an answer to an instance and a plan
-module _ (I : Instance) (p : List ℕ) (answer : Answer) where
-  open Instance I using (sizes)
-  open Sizes sizes using (k, m)
+-- an instance and a plan
+module _ (I : Instance) (p : List ℕ) where
+  open Instance I using (sizes, start)
+  open Sizes sizes using (n, k, m)
 
   abbrev P : ℕ → Row
   P = planRow sizes p
 
-  -- it tells how agent a met agent b in step t
-  pub record Tells : Type 0 where
+  -- It is question 20's turn in step t: the plan has its size and holds vertices, it begins with the starts, the steps before are
+  -- valid, and condition 1 holds for every agent of the step.
+  pub record Turn (t : ℕ) : Type 0 where
+    pub step : t < m
+    pub size : length p ≡ planBytes sizes
+    pub inside : (i : ℕ) → i < planBytes sizes → getD p i 0 < n
+    pub starts : (c : ℕ) → c < k → P 0 c ≡ start c
+    pub before : (u : ℕ) → u < t → ValidStep I (P u) (P (suc u))
+    pub crosses : (c : ℕ) → c < k → (P t c ≡ P (suc t) c) ⊎ Edge I (P t c) (P (suc t) c)
+
+  -- agent a enters in step t a vertex on which an agent stood
+  abbrev pub EntersOccupied : ℕ → ℕ → Type 0
+  EntersOccupied t a = (P t a ≢ P (suc t) a) × ((c : ℕ) × (c < k) × (P t c ≡ P (suc t) a))
+
+  -- an answer tells how agent a met agent b in step t
+  pub record Tells (answer : Answer) : Type 0 where
     pub t : ℕ
     pub a : ℕ
     pub b : ℕ
-    pub step : t < m
     pub agent : a < k
     pub place : answer .second ≡ planIndex sizes (suc t) a
-    -- the steps before are valid, and no row up to t has a vertex twice
-    pub before : (u : ℕ) → u < t → ValidStep I (P u) (P (suc u))
+    pub turn : Turn t
+    -- no lower agent enters an occupied vertex
+    pub lowest : (c : ℕ) → c < a → EntersOccupied t c → ⊥
+    -- no row up to t has a vertex twice, so exactly one agent, b, stood on the vertex that a enters
     pub apart : (u : ℕ) → u ≤ t → (c d : ℕ) → c < k → d < k → c ≢ d → P u c ≢ P u d
-    -- in step t condition 1 holds for every agent, and condition 2 for those below a
-    pub crosses : (c : ℕ) → c < k → (P t c ≡ P (suc t) c) ⊎ Edge I (P t c) (P (suc t) c)
-    pub lowest : (c : ℕ) → c < a → P t c ≢ P (suc t) c → (d : ℕ) → d < k → P t d ≢ P (suc t) c
-    -- exactly one agent, b, stood on the vertex that a enters
     pub enters : Enters k (P t) (P (suc t)) a b
     -- the number says what it does
     pub stays : (answer .number ≡ 20) ↔ Stays (P t) (P (suc t)) a b
     pub exchanges : (answer .number ≡ 25) ↔ Exchanges (P t) (P (suc t)) a b
     pub movesOn : (answer .number ≡ 26) ↔ MovesOn (P t) (P (suc t)) a b
 
--- for all bytes, horizons and plans, and both calls that ask
+  -- at question 20's turn some agent enters an occupied vertex
+  abbrev pub Meeting : Type 0
+  Meeting = (t : ℕ) × (a : ℕ) × Turn t × (a < k) × EntersOccupied t a
+
+-- For all bytes, horizons and plans, and both calls that ask: one of the three numbers tells how the vertex was occupied; and of an
+-- accepted instance, with a long enough slice for the valuation, one of them is answered wherever there is such a meeting.
 pub record Claim : Type 0 where
   pub check : (b : List ℕ) (m : ℕ) (p : List ℕ) → OneOfThree (checkAnswer b m p) → Tells (instance b m) p (checkAnswer b m p)
+  pub checkGives : (b : List ℕ) (m : ℕ) (p : List ℕ) → instanceAnswer b m .number ≡ 0 → Meeting (instance b m) p → OneOfThree (checkAnswer b m p)
   pub encoder : (b : List ℕ) (m : ℕ) (p : List ℕ) (size : ℕ) → OneOfThree (encodeAnswer b m p size) → Tells (instance b m) p (encodeAnswer b m p size)
+  pub encoderGives : (b : List ℕ) (m : ℕ) (p : List ℕ) (size : ℕ) → instanceAnswer b m .number ≡ 0 → formula (instance b m) .variables ≤ size
+      → Meeting (instance b m) p → OneOfThree (encodeAnswer b m p size)

@@ -55,14 +55,14 @@ condition s near (suc (suc which)) here next a = condition3 next a
 abbrev pub occupant : Sizes → Row → Row → ℕ → ℕ
 occupant s here next a = first (s .k) λ b. eqb (here b) (next a)
 
--- how an occupant leaves: it stays, it moves to the entering agent's old vertex (a swapping conflict), or it moves to another (a
+-- what an occupant does: it stays, it moves to the entering agent's old vertex (a swapping conflict), or it moves to another (a
 -- following conflict)
 pub data Leaving : Type 0 where
   stays : Leaving
   exchanges : Leaving
   movesOn : Leaving
 
--- how the occupant of the vertex that agent a enters leaves it
+-- what the occupant of the vertex that agent a enters does
 unfoldable pub occupantLeaves : Sizes → Row → Row → ℕ → Leaving
 occupantLeaves s here next a =
     let b = occupant s here next a in

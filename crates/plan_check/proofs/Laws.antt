@@ -75,6 +75,7 @@ module _ (s : Sizes) (p : List ℕ) (t a : ℕ) (fails : T (condition2 s (planRo
   occupant-below = occupant-inside s here next a fails b found
 
   pub number-stays : byte b ≡ byte a → 20 ≡ numberOf s p t a
+  unfolding occupiedNumber
   number-stays e = sym (ap occupiedNumber (leaves-stays s here next a fails b found (sym (byte-next b) ∙ e ∙ byte-next a)))
 
   module _ (d : byte b ≢ byte a) where
@@ -82,9 +83,11 @@ module _ (s : Sizes) (p : List ℕ) (t a : ℕ) (fails : T (condition2 s (planRo
     moved e = d (byte-next b ∙ e ∙ sym (byte-next a))
 
     pub number-exchanges : byte b ≡ here a → 25 ≡ numberOf s p t a
+    unfolding occupiedNumber
     number-exchanges e = sym (ap occupiedNumber (leaves-exchanges s here next a fails b found moved (sym (byte-next b) ∙ e)))
 
     pub number-on : byte b ≢ here a → 26 ≡ numberOf s p t a
+    unfolding occupiedNumber
     number-on e = sym (ap occupiedNumber (leaves-on s here next a fails b found moved (λ x. e (byte-next b ∙ x))))
 
 -- ---- a question of all agents, where k is their number as the code has it; `at` is where the row begins in which the place is named

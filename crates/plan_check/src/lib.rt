@@ -17,7 +17,7 @@ ghost use Rattle.instance.specs.Shows.{ShowsGraph, Shows};
 ghost use Rattle.conditions.specs.Inside.{Inside};
 ghost use Rattle.plan_check.specs.Steps.{moversIn};
 
-// The number for agent a, which enters an occupied vertex in step t: 20, 25 or 26, by how the occupant leaves.
+// The number for agent a, which enters an occupied vertex in step t: 20, 25 or 26, by what the occupant does.
 fn occupied_number(s: Sizes, p: &[u8], t: usize, a: usize) -> u32
     requires { ⌜ (length (now p) ≡ planBytes s) × (t < s .m) × (a < s .k) ⌝ }
     requires { ⌜ (T (condition2 s (planRow s (now p) t) (planRow s (now p) (suc t)) a) → ⊥) ⌝ }

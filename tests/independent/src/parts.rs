@@ -70,8 +70,8 @@ impl Parts {
 }
 
 /// Changes one step of a passing plan so that an agent enters an occupied vertex and the occupant does what `number`,
-/// 20, 25 or 26, tells; up to three others may do so too, each in any of these ways. All cross edges. None where the
-/// step does not allow it.
+/// 20, 25 or 26, tells; up to three others may do so too, each in any of these ways. Whoever moves crosses an
+/// edge. None where the plan has no step, or the step does not allow it.
 pub fn enter_occupied(
     g: &mut Generator,
     number: u32,

@@ -296,14 +296,12 @@ pub fn occupied(subject: Subject, place: usize) -> Option<String> {
     let step = || {
         let (from, to, time) = (spot.before()?, spot.here()?, spot.time.checked_sub(1)?);
         let occupant = spot.other(time)?;
+        let name = spot.map.agent(occupant);
         let does = match spot.vertex(spot.time, occupant)? {
-            vertex if vertex == to => "stays".to_string(),
-            vertex => format!("goes to vertex {vertex}"),
+            vertex if vertex == to => format!("where {name} stays"),
+            vertex => format!("which {name} leaves for vertex {vertex}"),
         };
-        let occupant = spot.map.agent(occupant);
-        Some(format!(
-            "from vertex {from} to vertex {to}, where {occupant} was at time {time} and {does}"
-        ))
+        Some(format!("from vertex {from} to vertex {to}, {does}"))
     };
     spot.told(step())
 }

@@ -117,9 +117,9 @@ mod tests {
             ("1", &[0, 2, 1, 3], "17: agent 1 (line 5) at time 1: at vertex 3, the map has only vertices 0 to 2 (place 3)"),
             ("1", &[0, 1, 1, 2], "18: agent 1 (line 5) at time 0: at vertex 1, its start is vertex 2 (place 1)"),
             ("1", &[0, 2, 0, 0], "19: agent 1 (line 5) at time 1: from vertex 2 to vertex 0 (place 3)"),
-            ("2", &[0, 2, 1, 2, 2, 2], "20: agent 0 (line 4) at time 2: from vertex 1 to vertex 2, where agent 1 (line 5) was at time 1 and stays (place 4)"),
-            ("2", &[0, 2, 1, 2, 2, 1], "25: agent 0 (line 4) at time 2: from vertex 1 to vertex 2, where agent 1 (line 5) was at time 1 and goes to vertex 1 (place 4)"),
-            ("2", &[0, 2, 0, 1, 1, 2], "26: agent 0 (line 4) at time 2: from vertex 0 to vertex 1, where agent 1 (line 5) was at time 1 and goes to vertex 2 (place 4)"),
+            ("2", &[0, 2, 1, 2, 2, 2], "20: agent 0 (line 4) at time 2: from vertex 1 to vertex 2, where agent 1 (line 5) stays (place 4)"),
+            ("2", &[0, 2, 1, 2, 2, 1], "25: agent 0 (line 4) at time 2: from vertex 1 to vertex 2, which agent 1 (line 5) leaves for vertex 1 (place 4)"),
+            ("2", &[0, 2, 0, 1, 1, 2], "26: agent 0 (line 4) at time 2: from vertex 0 to vertex 1, which agent 1 (line 5) leaves for vertex 2 (place 4)"),
             ("1", &[0, 2, 1, 1], "21: agent 1 (line 5) at time 1: at vertex 1, and so is agent 0 (line 4) (place 3)"),
             ("0", &[0, 2], "22: agent 0 (line 4) at time 0: at vertex 0, its goal is vertex 1 (place 0)"),
         ] {
