@@ -29,6 +29,12 @@ use Rattle.calls.proofs.Plan.{early, OccupiedAt, occupied-at, occupied-given}
 use Rattle.claims.specs.Occupied.{Stays, Exchanges, MovesOn, OneOfThree, Turn, EntersOccupied, Tells, Meeting, Claim}
 
 -- ---- what the number says of the occupant b
+both : {A B : Type 0} → A → B → A ↔ B
+both x y = ((λ z. y), (λ z. x))
+
+neither : {A B : Type 0} → (A → ⊥) → (B → ⊥) → A ↔ B
+neither f g = ((λ x. absurd (f x)), (λ y. absurd (g y)))
+
 module _ (s : Sizes) (here next : Row) (a : ℕ) (fails : T (condition2 s here next a) → ⊥) (b : ℕ) (f : FirstFault (s .k) (λ c. not (eqb (here c) (next a))) b) where
   abbrev Says : ℕ → Type 0
   Says number =
@@ -41,23 +47,17 @@ module _ (s : Sizes) (here next : Row) (a : ℕ) (fails : T (condition2 s here n
       let other : next b ≡ here b → next b ≢ here a = λ x y. changes s here next a fails (sym y ∙ x ∙ stood) in
       by-cases (ℕ-discrete (next b) (here b))
       (λ x.
-      let n : number ≡ 20 = e ∙ ap occupiedNumber (leaves-stays s here next a fails b f (x ∙ stood)) in (
-        ((λ q. x), (λ h. n)),
-        (((λ q. absurd (let z : ⊥ = omega arith in z)), (λ h. absurd (other x h))), ((λ q. absurd (let z : ⊥ = omega arith in z)), (λ h. absurd (h .0 x)))),
-      ))
+      let n : number ≡ 20 = e ∙ ap occupiedNumber (leaves-stays s here next a fails b f (x ∙ stood)) in
+      (both n x, (neither (λ q. omega arith) (other x), neither (λ q. omega arith) (λ h. h .0 x))))
       (λ d.
       let d′ : next b ≢ next a = λ x. d (x ∙ sym stood) in
       by-cases (ℕ-discrete (next b) (here a))
       (λ x.
-      let n : number ≡ 25 = e ∙ ap occupiedNumber (leaves-exchanges s here next a fails b f d′ x) in (
-        ((λ q. absurd (let z : ⊥ = omega arith in z)), (λ h. absurd (d h))),
-        (((λ q. x), (λ h. n)), ((λ q. absurd (let z : ⊥ = omega arith in z)), (λ h. absurd (h .1 x)))),
-      ))
+      let n : number ≡ 25 = e ∙ ap occupiedNumber (leaves-exchanges s here next a fails b f d′ x) in
+      (neither (λ q. omega arith) d, (both n x, neither (λ q. omega arith) (λ h. h .1 x))))
       (λ x.
-      let n : number ≡ 26 = e ∙ ap occupiedNumber (leaves-on s here next a fails b f d′ x) in (
-        ((λ q. absurd (let z : ⊥ = omega arith in z)), (λ h. absurd (d h))),
-        (((λ q. absurd (let z : ⊥ = omega arith in z)), (λ h. absurd (x h))), ((λ q. (d, x)), (λ h. n))),
-      )))
+      let n : number ≡ 26 = e ∙ ap occupiedNumber (leaves-on s here next a fails b f d′ x) in
+      (neither (λ q. omega arith) d, (neither (λ q. omega arith) x, both n (d, x)))))
 
 -- ---- the plan's questions
 module _ (I : Instance) (p : List ℕ) where

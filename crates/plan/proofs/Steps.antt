@@ -13,7 +13,7 @@ use Rattle.answers.proofs.Faults.{fault-first}
 use Rattle.instance.specs.declared.Sizes.{Sizes}
 use Rattle.instance.specs.Instance.{Instance, adjacent, Edge}
 use Rattle.instance.proofs.Graph.{adjacent-iff}
-use Rattle.plan.specs.Plan.{Row, condition2, occupant, Leaving, stays, exchanges, movesOn, occupantLeaves}
+use Rattle.plan.specs.Plan.{Row, condition2, occupant, stays, exchanges, movesOn, occupantLeaves}
 
 -- "no two share" from "no two, the lower first, share"
 pub apart-any : (k : ℕ) (P : Row) → ((a b : ℕ) → a < b → b < k → P a ≢ P b) → (a b : ℕ) → a < k → b < k → a ≢ b → P a ≢ P b

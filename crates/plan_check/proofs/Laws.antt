@@ -15,7 +15,7 @@ use Rattle.lists.proofs.Loops.{for-all}
 use Rattle.answers.specs.declared.Answer.{Answer}
 use Rattle.answers.specs.Answers.{Question, refuse, accept, askEach, decide}
 use Rattle.answers.specs.Fault.{FirstFault}
-use Rattle.answers.proofs.Laws.{numbered, each-all, decide-iff, decide-count, decide-after, decide-front, count-free, asked-all, fault-pass, fault-stop, ask-yes, ask-no}
+use Rattle.answers.proofs.Laws.{numbered, decide-iff, decide-count, decide-after, decide-front, count-free, asked-all, fault-pass, fault-stop, ask-yes, ask-no}
 use Rattle.answers.proofs.Faults.{fault-ext}
 use Rattle.instance.specs.declared.Sizes.{Sizes}
 use Rattle.instance.specs.declared.Checked.{Checked}

@@ -1,9 +1,7 @@
 -- `plan_check::occupied_number` meets its contract. The first agent found on the vertex entered is the occupant, since the agent fails condition 2. Assumes nothing.
-use Prim.Native.Nat.{_<_}
 use native.Mathlib.Omega.{arith}
 use Rattle.plan.proofs.Rows.{Rows, rows}
 use Rattle.plan_check.proofs.Laws.{occupant-below, number-stays, number-exchanges, number-on}
-use borrow.Author.Needs.{needs}
 use Rattle.plan_check.proofs.occupied_number.Statement.{statement}
 use Rattle.plan_check.proofs.occupied_number.Tie as tie
 
