@@ -1,3 +1,4 @@
 pub mod Occupied
 pub mod Plan
 pub mod Valuation
+pub mod Text

@@ -47,6 +47,14 @@ module _ (f : Formula) (es : List ℤ) where
   pub numbered-valuation : T (all numbered (question14 f es ∷ question23 f es ∷ question24 f es ∷ []))
   numbered-valuation = simp (and-iff, each-all, ask-all) ((λ f. tt), ((λ i l f. tt), ((λ i l f. tt), tt)))
 
+  -- 14 and 23
+  pub clear-entries : T (all clear (question14 f es ∷ question23 f es ∷ [])) ↔ Valuation variables es
+  clear-entries =
+      simp (and-iff, clear-iff, each-nil, ask-nil, eqb-iff) (
+        (λ h. record { size = h .0; each = λ i l. right-iff es i .0 (h .1 .0 i l) }),
+        (λ v. (v .size, ((λ i l. right-iff es i .1 (v .each i l)), tt))),
+      )
+
   pub clear-valuation : T (all clear (question14 f es ∷ question23 f es ∷ question24 f es ∷ []))
       ↔ (Valuation variables es × Sat (true? es) clauses)
   clear-valuation =

@@ -13,7 +13,8 @@ use Rattle.instance.specs.Questions.{instanceQuestions}
 use Rattle.formula.specs.Formula.{Formula, formula, line, words}
 use Rattle.plan.specs.Plan.{planBytes, cost}
 use Rattle.valuation.specs.Valuation.{namedPlan, planValuation}
-use Rattle.calls.specs.Questions.{question11, question12, question13, question14, question15, question16, question17, question18, question19, question20, question21, question22, question23, question24}
+use Rattle.solver_text.specs.Form.{given, inOrder}
+use Rattle.calls.specs.Questions.{question11, question12, question13, question14, question15, question16, question17, question18, question19, question20, question21, question22, question23, question24, questions27, question28, question29}
 
 -- the three questions of step t
 abbrev pub stepQuestions : Instance → List ℕ → ℕ → List Question
@@ -22,6 +23,10 @@ stepQuestions I p t = question19 I p t ∷ question20 I p t ∷ question21 I p t
 -- 17 to 22: 19, 20 and 21 are asked of step 0, then of step 1, and so on
 unfoldable pub planQuestions : Instance → List ℕ → List Question
 planQuestions I p = question17 I p ∷ question18 I p ∷ for (I .sizes .m) (stepQuestions I p) ++ question22 I p ∷ []
+
+-- 27 to 29
+unfoldable pub textQuestions : Formula → List ℕ → List Question
+textQuestions f text = questions27 f text ++ question28 f text ∷ question29 f text ∷ []
 
 -- What each call asks of an accepted instance, after 1 to 10.
 module _ (I : Instance) where
@@ -49,6 +54,10 @@ module _ (I : Instance) where
   -- the encoder: 13, 16 to 22
   abbrev pub encodeRest : List ℕ → ℕ → List Question
   encodeRest p size = question13 I p ∷ question16 (formula I) size ∷ planQuestions I p
+
+  -- the reader: 16, 27 to 29
+  abbrev pub readRest : List ℕ → ℕ → List Question
+  readRest text size = question16 (formula I) size ∷ textQuestions (formula I) text
 
 module _ (b : List ℕ) (m : ℕ) where
   abbrev I : Instance
@@ -104,3 +113,13 @@ module _ (b : List ℕ) (m : ℕ) where
 
   unfoldable pub encodeSlice : List ℕ → List ℤ → List ℤ
   encodeSlice p s = lent (encodeAnswer p (length s)) (planValuation (I .sizes) p) s
+
+  -- ---- the reader: 1 to 10, 16, 27 to 29
+  abbrev pub readQuestions : List ℕ → ℕ → List Question
+  readQuestions text size = instanceQuestions b m ++ readRest I text size
+
+  unfoldable pub readAnswer : List ℕ → ℕ → Answer
+  readAnswer text size = decide (readQuestions text size) (base .variables)
+
+  unfoldable pub readSlice : List ℕ → List ℤ → List ℤ
+  readSlice text s = lent (readAnswer text (length s)) (inOrder (base .variables) (given text)) s

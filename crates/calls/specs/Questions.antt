@@ -1,15 +1,18 @@
 -- The questions asked after 1 to 10: under each number, what is asked and the place that a no names.
-use mathlib.Core.List.{List, []}
+use mathlib.Core.List.{List, [], _∷_}
 use Prim.Native.Nat.{ℕ, suc}
 use lib.ListN.{length, getD}
 use lib.Dec.{leb, ltb, eqb}
 use lib.IntN.{ℤ}
+use Rattle.lists.specs.Loop.{any}
 use Rattle.answers.specs.Answers.{Question, ask, askEach, refuse}
 use Rattle.instance.specs.declared.Sizes.{Sizes}
 use Rattle.instance.specs.Instance.{Instance, adjacent}
 use Rattle.formula.specs.Formula.{Formula}
 use Rattle.plan.specs.Plan.{planBytes, planIndex, planRow, condition1, condition2, condition3, Leaving, stays, exchanges, movesOn, occupantLeaves}
 use Rattle.valuation.specs.Valuation.{rightEntry, satisfied?}
+use Rattle.solver_text.specs.Text.{lines}
+use Rattle.solver_text.specs.Form.{textMost, rightLine, offset, complete?, satisfiable?, statusPlace, given, times}
 
 -- Of a formula f: is the clause number below the clause count?
 abbrev pub question11 : Formula → ℕ → Question
@@ -81,3 +84,21 @@ module _ (f : Formula) (entries : List ℤ) where
   -- Has every clause a true literal?
   abbrev pub question24 : Question
   question24 = askEach (length (f .clauses)) (λ c. satisfied? entries (getD (f .clauses) c [])) λ c. refuse 24 c
+
+-- of a formula f and the text that a solver printed
+module _ (f : Formula) (text : List ℕ) where
+  -- Is the text of the form? In three parts: Is it short enough? May each line stand where it stands? Are the s line and the 0 there?
+  abbrev pub questions27 : List Question
+  questions27 =
+      ask (leb (length text) textMost) (refuse 27 textMost)
+      ∷ askEach (length (lines text)) (rightLine text (f .variables)) (λ i. refuse 27 (offset text i))
+      ∷ ask (complete? (lines text)) (refuse 27 (length text))
+      ∷ []
+
+  -- Is the s line SATISFIABLE?
+  abbrev pub question28 : Question
+  question28 = ask (any satisfiable? (lines text)) (refuse 28 (statusPlace text))
+
+  -- Is each variable given once?
+  abbrev pub question29 : Question
+  question29 = askEach (f .variables) (λ i. eqb (times (suc i) (given text)) 1) λ i. refuse 29 (suc i)

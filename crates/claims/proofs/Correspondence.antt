@@ -36,7 +36,7 @@ use Rattle.claims.proofs.Formula.{plan-steps}
 use Rattle.claims.specs.Correspondence.{Accepts, Correspondence, Claim, bytes, N, handedBack, written}
 
 -- a question whether a slice of s places has x or more
-fits : (x s : ℕ) (r : Answer) → x ≤ s → T (clear (ask (leb x s) r))
+pub fits : (x s : ℕ) (r : Answer) → x ≤ s → T (clear (ask (leb x s) r))
 fits x s r l = clear-iff (ask (leb x s) r) .1 (ask-nil (leb x s) r .1 (leb-iff x s .1 l))
 
 module _ (I : Instance) where

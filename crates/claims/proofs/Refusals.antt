@@ -19,10 +19,11 @@ use Rattle.instance.specs.Questions.{instanceQuestions, instanceAnswer}
 use Rattle.instance.proofs.Instance.{numbered-instance}
 use Rattle.formula.specs.Formula.{Formula, formula}
 use Rattle.calls.specs.Questions.{question13, question14, question15, question16, question23, question24}
-use Rattle.calls.specs.Calls.{stepQuestions, planQuestions, writeQuestions, writeAnswer, writeSlice, clauseQuestions, clauseAnswer, clauseSlice, checkQuestions, checkAnswer, decodeQuestions, decodeAnswer, decodeSlice, encodeQuestions, encodeAnswer, encodeSlice}
+use Rattle.calls.specs.Calls.{stepQuestions, planQuestions, writeQuestions, writeAnswer, writeSlice, clauseQuestions, clauseAnswer, clauseSlice, checkQuestions, checkAnswer, decodeQuestions, decodeAnswer, decodeSlice, encodeQuestions, encodeAnswer, encodeSlice, textQuestions, readQuestions, readAnswer, readSlice}
 use Rattle.calls.proofs.Plan.{numbered-plan}
 use Rattle.calls.proofs.Valuation.{numbered-valuation}
-use Rattle.claims.specs.Refusals.{FirstItem, FirstNo, Honest, Refusals, Claim}
+use Rattle.calls.proofs.Text.{numbered-text}
+use Rattle.claims.specs.Refusals.{FirstItem, FirstNo, Honest, Claim}
 
 -- ---- the shape of a question
 record Asked (q : Question) : Type 0 where
@@ -159,8 +160,16 @@ module _ (b : List ℕ) (m : ℕ) where
       numbered-more b m _
       (numbered-second (question13 I p) (question16 F size) (planQuestions I p) (simp ask-all (λ f. tt)) (numbered-plan I p))
 
+  pub numbered-read : (text : List ℕ) (size : ℕ) → T (all numbered (readQuestions b m text size))
+  numbered-read text size =
+      numbered-more b m _ (and-iff (numbered (question16 F size)) _ .1 (simp ask-all (λ f. tt), numbered-text F text))
+
+  asked-text : (text : List ℕ) → EachAsked (textQuestions F text)
+  unfolding textQuestions
+  asked-text text = (one _ _, (many _ _ _, (one _ _, (one _ _, (many _ _ _, tt)))))
+
 pub refusals : Claim
-unfolding instanceAnswer writeAnswer writeSlice withClauses clauseAnswer clauseSlice checkAnswer decodeAnswer decodeSlice encodeAnswer encodeSlice
+unfolding instanceAnswer writeAnswer writeSlice withClauses clauseAnswer clauseSlice checkAnswer decodeAnswer decodeSlice encodeAnswer encodeSlice readAnswer readSlice
 refusals b m =
     record {
       instance = honest (instanceQuestions b m) 0 (numbered-instance b m) (asked-instance b m);
@@ -177,4 +186,7 @@ refusals b m =
       encoder = λ p size.
           honest (encodeQuestions b m p size) _ (numbered-encode b m p size) (asked-more b m _ (one _ _, (one _ _, asked-plan b m p)));
       encoderSlice = λ p s d. lent-refused _ _ s d;
+      reader = λ text size.
+          honest (readQuestions b m text size) _ (numbered-read b m text size) (asked-more b m _ (one _ _, asked-text b m text));
+      readerSlice = λ text s d. lent-refused _ _ s d;
     }

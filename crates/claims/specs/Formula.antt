@@ -13,7 +13,7 @@ use Rattle.plan.specs.Plan.{cost}
 use Rattle.plan.specs.Plan as plan
 use Rattle.plan.specs.Passing.{Passes}
 use Rattle.instance.specs.Questions.{instanceAnswer}
-use Rattle.calls.specs.Calls.{writeAnswer, clauseAnswer, checkAnswer, decodeAnswer, encodeAnswer}
+use Rattle.calls.specs.Calls.{writeAnswer, clauseAnswer, checkAnswer, decodeAnswer, encodeAnswer, readAnswer}
 
 -- the numbers of the table are the lengths of the families
 pub record Lengths (numbers : Families) (length′ : List Clause → ℕ) (I : Instance) : Type 0 where
@@ -57,11 +57,13 @@ module _ (b : List ℕ) (m : ℕ) where
         → (c < clauseCount (I .sizes)) × (clauseAnswer b m c size .second ≡ suc (length (getD (clauses I) c [])))
     -- the plan check: the cost
     pub check : (p : List ℕ) → checkAnswer b m p .number ≡ 0 → checkAnswer b m p .second ≡ cost (I .sizes) p
-    -- the decoder: (m+1)·k; the encoder: N
+    -- the decoder: (m+1)·k; the encoder and the reader: N
     pub decoder : (entries : List ℤ) (size : ℕ) → decodeAnswer b m entries size .number ≡ 0
         → decodeAnswer b m entries size .second ≡ (m + 1) * I .sizes .k
     pub encoder : (p : List ℕ) (size : ℕ) → encodeAnswer b m p size .number ≡ 0
         → encodeAnswer b m p size .second ≡ I .sizes .n * I .sizes .k * (m + 1)
+    pub reader : (text : List ℕ) (size : ℕ) → readAnswer b m text size .number ≡ 0
+        → readAnswer b m text size .second ≡ I .sizes .n * I .sizes .k * (m + 1)
 
 -- for every accepted instance and horizon
 pub record Claim : Type 0 where

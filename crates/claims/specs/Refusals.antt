@@ -11,7 +11,7 @@ use Rattle.lists.specs.Loop.{all}
 use Rattle.answers.specs.declared.Answer.{Answer}
 use Rattle.answers.specs.Answers.{Question, refuse, askEach, clear}
 use Rattle.instance.specs.Questions.{instanceQuestions, instanceAnswer}
-use Rattle.calls.specs.Calls.{writeQuestions, writeAnswer, writeSlice, clauseQuestions, clauseAnswer, clauseSlice, checkQuestions, checkAnswer, decodeQuestions, decodeAnswer, decodeSlice, encodeQuestions, encodeAnswer, encodeSlice}
+use Rattle.calls.specs.Calls.{writeQuestions, writeAnswer, writeSlice, clauseQuestions, clauseAnswer, clauseSlice, checkQuestions, checkAnswer, decodeQuestions, decodeAnswer, decodeSlice, encodeQuestions, encodeAnswer, encodeSlice, readQuestions, readAnswer, readSlice}
 
 -- of items 0 to n - 1, each with a test and a refusal: the first that fails gives this answer, and every item before it passes
 pub record FirstItem (n : ℕ) (test : ℕ → Bool) (refusal : ℕ → Answer) (answer : Answer) : Type 0 where
@@ -58,6 +58,9 @@ module _ (b : List ℕ) (m : ℕ) where
     pub encoder : (p : List ℕ) (size : ℕ)
         → Honest (encodeQuestions b m p size) (encodeAnswer b m p size .number) (encodeAnswer b m p size .second)
     pub encoderSlice : (p : List ℕ) (s : List ℤ) → Unchanged (encodeAnswer b m p (length s) .number) s (encodeSlice b m p s)
+    pub reader : (text : List ℕ) (size : ℕ)
+        → Honest (readQuestions b m text size) (readAnswer b m text size .number) (readAnswer b m text size .second)
+    pub readerSlice : (text : List ℕ) (s : List ℤ) → Unchanged (readAnswer b m text (length s) .number) s (readSlice b m text s)
 
 abbrev pub Claim : Type 0
 Claim = (b : List ℕ) (m : ℕ) → Refusals b m

@@ -7,8 +7,9 @@ use lib.IntN.{pos, negℤ}
 use Rattle.instance.specs.Instance.{instance, adjacent}
 use Rattle.formula.specs.Variables.{index}
 use Rattle.formula.specs.Formula.{A, B, C, D, E, F, G, clauses, formula}
-use Rattle.dimacs.proofs.Laws.{decimal-one, decimal-more}
-use Rattle.dimacs.specs.Text.{digit, digits, decimal, signed, wordText, clauseText, headerText, refusalText, formulaText}
+use Rattle.decimals.proofs.Laws.{decimal-one, decimal-more}
+use Rattle.decimals.specs.Decimals.{digit, digits, decimal, signed}
+use Rattle.dimacs.specs.Text.{wordText, clauseText, headerText, refusalText, formulaText}
 
 -- two vertices, one agent, one edge, m 1: the nine lines, from "p cnf 4 8" to "-2 4 3 0"
 pub pair : formulaText (formula (instance (2 ∷ 1 ∷ 1 ∷ 0 ∷ 0 ∷ 1 ∷ 0 ∷ 1 ∷ []) 1))

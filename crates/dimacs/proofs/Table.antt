@@ -20,9 +20,11 @@ use Rattle.lists.specs.Slice.{filled, Wrote}
 use Rattle.lists.proofs.Tests.{below-suc, leb-iff}
 use Rattle.lists.proofs.Loops.{all-getD, each-append}
 use Rattle.lists.proofs.Slices.{take-filled, filled-length, sets-filled}
-use Rattle.dimacs.specs.Text.{digit, digits, decimal, ended, signed, after, wordText}
+use Rattle.decimals.specs.Decimals.{digit, digits, decimal, signed}
+use Rattle.dimacs.specs.Text.{ended, after, wordText}
 use Rattle.dimacs.specs.Table.{Begins, Entry, entryAt, entryOf, Sized, Numbers, Negatives, Texts, Within, Pairs, pairText}
-use Rattle.dimacs.proofs.Laws.{length-word, length-most, word-size, end-space, put-more, put-after}
+use Rattle.decimals.proofs.Laws.{length-most}
+use Rattle.dimacs.proofs.Laws.{length-word, word-size, end-space, put-more, put-after}
 
 -- ---- a slice that begins with a text
 fits : (text s : List ℕ) (r : ℕ) → Begins text s r → r ≤ length s

@@ -1,34 +1,15 @@
 -- The text of a formula, as bytes: a byte is its number in ASCII.
-use mathlib.Core.Bool.{cond}
 use mathlib.Core.List.{List, [], _∷_, _++_}
-use Prim.Native.Nat.{ℕ, zero, suc, _+_, _*_, _-_, _/_, _%_}
-use lib.Dec.{ltb}
+use Prim.Native.Nat.{ℕ, zero, suc}
 use lib.IntN.{ℤ, pos, negsuc}
 use lib.ListN.{length}
 use Rattle.lists.specs.Loop.{each}
+use Rattle.decimals.specs.Decimals.{decimal, signed}
 use Rattle.formula.specs.Formula.{Clause, Formula}
-
--- the digit d, below 10: 0 is byte 48
-abbrev pub digit : ℕ → ℕ
-digit d = 48 + d
-
--- The decimal digits of x: below 10 it is one digit, from 10 on those of x / 10 and then that of x % 10.
--- The recursion is counted down from x, which has at most x digits after its first.
-unfoldable pub digits : ℕ → ℕ → List ℕ
-digits zero x = digit x ∷ []
-digits (suc more) x = cond (ltb x 10) (digit x ∷ []) (digits more (x / 10) ++ digit (x % 10) ∷ [])
-
-unfoldable pub decimal : ℕ → List ℕ
-decimal x = digits x x
 
 -- a number and one byte after it
 abbrev pub ended : ℕ → ℕ → List ℕ
 ended x byte = decimal x ++ byte ∷ []
-
--- a word's number, with "-" where it is negative
-unfoldable pub signed : ℤ → List ℕ
-signed (pos x) = decimal x
-signed (negsuc x) = 45 ∷ decimal (suc x)
 
 -- what follows a word: the word 0 ends its line, any other is followed by a space
 abbrev pub after : ℤ → ℕ
@@ -59,8 +40,3 @@ refusalText number place =
 -- what is printed of a formula: the header, with its variables and its clause count, then a line a clause
 unfoldable pub formulaText : Formula → List ℕ
 formulaText f = headerText (f .variables) (length (f .clauses)) ++ each clauseText (f .clauses)
-
--- The number that digits say, read from the first to the last, after those that say x.
-abbrev pub readOn : ℕ → List ℕ → ℕ
-readOn x [] = x
-readOn x (d ∷ l) = readOn (10 * x + (d - 48)) l

@@ -5,7 +5,8 @@ ghost use Prim.Native.Nat.{_+_, _*_, _/_, _≤_, _<_};
 ghost use lib.IntN.{pos, negℤ, natAbs};
 ghost use lib.ListN.{length, take};
 ghost use Rattle.lists.specs.Slice.{filled, Wrote};
-ghost use Rattle.dimacs.specs.Text.{digit, decimal, ended, after, wordText, wordsText, headerText, refusalText};
+ghost use Rattle.decimals.specs.Decimals.{digit, decimal};
+ghost use Rattle.dimacs.specs.Text.{ended, after, wordText, wordsText, headerText, refusalText};
 ghost use Rattle.dimacs.specs.Table.{Begins, Entry, Sized, Numbers, Negatives, Texts, entryOf, Within, Pairs, pairText};
 
 // The byte of a digit.

@@ -8,8 +8,9 @@ use borrow.Fn.Kinds.{In}
 use borrow.Fn.PlainCycle.{Measures, is, falls, and}
 use lib.ListN.{length}
 use Rattle.lists.proofs.Slices.{sets-filled}
-use Rattle.dimacs.specs.Text.{digit}
-use Rattle.dimacs.proofs.Laws.{decimal-one, length-more, put-more}
+use Rattle.decimals.specs.Decimals.{digit}
+use Rattle.decimals.proofs.Laws.{decimal-one, length-more}
+use Rattle.dimacs.proofs.Laws.{put-more}
 use Rattle.dimacs.proofs.put_digits.Reads as put-digits
 use Rattle.dimacs.proofs.put_digits.Kinds as put-digits-kinds
 use Rattle.dimacs.proofs.+put_digits.Lts-put_digits as put-digits-lts

@@ -1,6 +1,7 @@
 -- `dimacs::put_entry` meets its contract: a text of at most seven bytes, and then its length. Assumes nothing.
 use native.Mathlib.Omega.{arith}
-use Rattle.dimacs.proofs.Laws.{length-most, word-size}
+use Rattle.decimals.proofs.Laws.{length-most}
+use Rattle.dimacs.proofs.Laws.{word-size}
 use Rattle.dimacs.proofs.Table.{entry-put}
 use borrow.Author.Needs.{needs}
 use Rattle.dimacs.proofs.put_entry.Statement.{statement}

@@ -7,7 +7,7 @@ use lib.ListN.{length, length-take, length-drop, length-append}
 use Rattle.lists.specs.Slice.{filled}
 use Rattle.lists.proofs.Slices.{filled-part, filled-copy}
 use Rattle.dimacs.specs.Text.{ended}
-use Rattle.dimacs.proofs.Laws.{length-any}
+use Rattle.decimals.proofs.Laws.{length-any}
 use borrow.Author.Needs.{needs}
 use Rattle.dimacs.proofs.put_line.Statement.{statement}
 use Rattle.dimacs.proofs.put_line.Tie as tie

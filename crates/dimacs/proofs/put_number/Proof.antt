@@ -1,6 +1,6 @@
 -- `dimacs::put_number` meets its contract: a number below 2 ^ 64 has at most 20 digits. Assumes nothing.
 use native.Mathlib.Omega.{arith}
-use Rattle.dimacs.proofs.Laws.{length-any}
+use Rattle.decimals.proofs.Laws.{length-any}
 use borrow.Author.Needs.{needs}
 use Rattle.dimacs.proofs.put_number.Statement.{statement}
 use Rattle.dimacs.proofs.put_number.Tie as tie

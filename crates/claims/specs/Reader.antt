@@ -1,0 +1,55 @@
+-- What the reader's answer and slice say of a solver's text: one claim.
+use mathlib.Core.Path.{_≡_}
+use mathlib.Core.Logic.{_↔_}
+use mathlib.Core.List.{List, [], _∷_}
+use Prim.Native.Nat.{ℕ, _≤_}
+use lib.ListN.{length, take}
+use lib.Dec.{T}
+use lib.IntN.{ℤ}
+use Rattle.lists.specs.Loop.{all}
+use Rattle.answers.specs.Answers.{clear}
+use Rattle.instance.specs.Instance.{Instance, instance}
+use Rattle.instance.specs.Questions.{instanceAnswer}
+use Rattle.formula.specs.Variables.{Literal}
+use Rattle.formula.specs.Formula.{Formula, formula}
+use Rattle.valuation.specs.Satisfying.{True, Valuation, Satisfies, Names}
+use Rattle.solver_text.specs.Form.{given}
+use Rattle.solver_text.specs.Printed.{printed, gathered, some?}
+use Rattle.calls.specs.Questions.{question14, question23}
+use Rattle.calls.specs.Calls.{checkAnswer, decodeAnswer, readAnswer, readSlice}
+use Rattle.claims.specs.Correspondence.{Accepts, N, bytes, handedBack}
+
+-- for the instance bytes b and the horizon m
+module _ (b : List ℕ) (m : ℕ) where
+  abbrev I : Instance
+  I = instance b m
+
+  -- the base formula
+  abbrev base : Formula
+  base = formula I
+
+  -- the valuation read: the first N entries of its slice z
+  abbrev pub entriesRead : List ℕ → List ℤ → List ℤ
+  entriesRead text z = take (N b m) (readSlice b m text z)
+
+  pub record Reader : Type 0 where
+    -- what is accepted is a valuation of the formula's variables, for which 14 and 23 are answered yes
+    pub valuation : (text : List ℕ) (z : List ℤ) → Accepts (readAnswer b m text (length z))
+        → Valuation (N b m) (entriesRead text z)
+        × T (all clear (question14 base (entriesRead text z) ∷ question23 base (entriesRead text z) ∷ []))
+    -- its entries are exactly the literals of the text
+    pub literals : (text : List ℕ) (z : List ℤ) → Accepts (readAnswer b m text (length z))
+        → (literal : Literal) → True (entriesRead text z) literal ↔ True (given text) literal
+    -- the competition's text of any valuation, its v lines cut anywhere, is accepted and reads back to the same entries
+    pub back : (groups : List (List ℤ)) (last z : List ℤ) → T (all some? groups) → Valuation (N b m) (gathered groups last) → N b m ≤ length z
+        → Accepts (readAnswer b m (printed groups last) (length z)) × (entriesRead (printed groups last) z ≡ gathered groups last)
+    -- where it satisfies the formula, the decoder comes to the plan that it names, which passes the check
+    pub plan : (groups : List (List ℤ)) (last z : List ℤ) (s : List ℕ) → T (all some? groups) → Valuation (N b m) (gathered groups last)
+        → N b m ≤ length z → bytes b m ≤ length s → Satisfies base (gathered groups last)
+        → Accepts (decodeAnswer b m (entriesRead (printed groups last) z) (length s))
+        × Names (I .sizes) (gathered groups last) (handedBack b m (entriesRead (printed groups last) z) s)
+        × Accepts (checkAnswer b m (handedBack b m (entriesRead (printed groups last) z) s))
+
+-- for every accepted instance and horizon
+abbrev pub Claim : Type 0
+Claim = (b : List ℕ) (m : ℕ) → Accepts (instanceAnswer b m) → Reader b m

@@ -1,0 +1,3 @@
+-- Laws of decimal digits.
+pub mod Laws
+pub mod Reading

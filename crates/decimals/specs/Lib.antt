@@ -1,0 +1,2 @@
+-- Decimal digits.
+pub mod Decimals

@@ -1,0 +1,1 @@
+// Decimal digits, written and read: definitions and their laws. There is no code here.

@@ -1,0 +1,5 @@
+-- Laws of a solver's text.
+pub mod Pieces
+pub mod Walk
+pub mod Given
+pub mod RoundTrip
