@@ -7,7 +7,8 @@
  *
  * A pointer must be valid and aligned for as many elements as its length says; with length 0 it may be NULL. So a size
  * is asked: refusals 12, 15 and 16 give what is needed. No two slices of a call may overlap. Each call uses less than
- * 12 KiB of stack. The calls share nothing, so several threads may call at once.
+ * 12 KiB of stack, but the reader, which uses less than 64 KiB. The calls share nothing, so several threads may call at
+ * once.
  *
  * An instance is bytes: n vertices, k agents, e edges (two bytes, the low one first); the low ends of all edges, then
  * their high ends, sorted by low end and then by high end; the starts of all agents, then their goals. Vertices, agents
@@ -68,6 +69,18 @@ runglaet_answer runglaet_decode(const uint8_t *instance, size_t instance_len, ui
  * first in `entries`, and `second` is how many they are. */
 runglaet_answer runglaet_encode(const uint8_t *instance, size_t instance_len, uint64_t horizon,
                                 const uint8_t *plan, size_t plan_len, int32_t *entries, size_t entries_len);
+
+/* From what a solver printed, in the SAT competition's text, to the valuation: at most RUNGLAET_TEXT_MAX bytes.
+ * Lines end with byte 10, which the last may lack. Empty lines and those that begin with c are skipped. One line is
+ * "s SATISFIABLE", "s UNSATISFIABLE" or "s UNKNOWN". A line that begins "v " has tokens, single spaces between: literals
+ * of the variables 1 to N, in any order, each variable once, and at their end 0, after which no v line may follow.
+ * Asks 1 to 10, 16 and 27 to 29. Accepted: the valuation's entries stand first in `entries`, in variable order, and
+ * `second` is how many they are. Refusal 27 gives the offset of the first wrong line, or the text's length where no line
+ * is wrong but the s line or the 0 is missing, or RUNGLAET_TEXT_MAX for any longer text; 28 the offset of the s line; 29
+ * the lowest variable that is missing or repeated. Whether the valuation satisfies the formula, the decoder asks. */
+#define RUNGLAET_TEXT_MAX 524288
+runglaet_answer runglaet_read_valuation(const uint8_t *instance, size_t instance_len, uint64_t horizon,
+                                        const uint8_t *text, size_t text_len, int32_t *entries, size_t entries_len);
 
 #ifdef __cplusplus
 }

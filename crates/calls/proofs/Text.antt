@@ -9,7 +9,6 @@ use Rattle.lists.specs.Loop.{all, any}
 use Rattle.lists.proofs.Tests.{and-iff, leb-iff, eqb-iff}
 use Rattle.answers.specs.Answers.{clear}
 use Rattle.answers.proofs.Laws.{numbered, clear-iff, each-all, each-nil, ask-nil, ask-all}
-use Rattle.formula.specs.Formula.{Formula}
 use Rattle.solver_text.specs.Text.{lines}
 use Rattle.solver_text.specs.Form.{textMost, rightLine, complete?, satisfiable?, given, times}
 use Rattle.calls.specs.Calls.{textQuestions}
@@ -22,14 +21,12 @@ pub record Readable (N : ℕ) (text : List ℕ) : Type 0 where
   pub satisfied : T (any satisfiable? (lines text))
   pub once : (i : ℕ) → i < N → times (suc i) (given text) ≡ 1
 
-module _ (f : Formula) (text : List ℕ) where
-  open Formula f using (variables)
-
-  pub numbered-text : T (all numbered (textQuestions f text))
+module _ (N : ℕ) (text : List ℕ) where
+  pub numbered-text : T (all numbered (textQuestions N text))
   unfolding textQuestions
   numbered-text = simp (and-iff, each-all, ask-all) ((λ f. tt), ((λ i l f. tt), ((λ f. tt), ((λ f. tt), ((λ i l f. tt), tt)))))
 
-  pub clear-text : T (all clear (textQuestions f text)) ↔ Readable variables text
+  pub clear-text : T (all clear (textQuestions N text)) ↔ Readable N text
   unfolding textQuestions
   clear-text =
       simp (and-iff, clear-iff, each-nil, ask-nil, leb-iff, eqb-iff) (

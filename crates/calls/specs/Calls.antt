@@ -25,8 +25,8 @@ unfoldable pub planQuestions : Instance → List ℕ → List Question
 planQuestions I p = question17 I p ∷ question18 I p ∷ for (I .sizes .m) (stepQuestions I p) ++ question22 I p ∷ []
 
 -- 27 to 29
-unfoldable pub textQuestions : Formula → List ℕ → List Question
-textQuestions f text = questions27 f text ++ question28 f text ∷ question29 f text ∷ []
+unfoldable pub textQuestions : ℕ → List ℕ → List Question
+textQuestions N text = questions27 N text ++ question28 N text ∷ question29 N text ∷ []
 
 -- What each call asks of an accepted instance, after 1 to 10.
 module _ (I : Instance) where
@@ -57,7 +57,7 @@ module _ (I : Instance) where
 
   -- the reader: 16, 27 to 29
   abbrev pub readRest : List ℕ → ℕ → List Question
-  readRest text size = question16 (formula I) size ∷ textQuestions (formula I) text
+  readRest text size = question16 (formula I) size ∷ textQuestions (formula I .variables) text
 
 module _ (b : List ℕ) (m : ℕ) where
   abbrev I : Instance

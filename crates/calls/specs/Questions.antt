@@ -85,13 +85,13 @@ module _ (f : Formula) (entries : List ℤ) where
   abbrev pub question24 : Question
   question24 = askEach (length (f .clauses)) (λ c. satisfied? entries (getD (f .clauses) c [])) λ c. refuse 24 c
 
--- of a formula f and the text that a solver printed
-module _ (f : Formula) (text : List ℕ) where
+-- of the number N of a formula's variables, and of the text that a solver printed
+module _ (N : ℕ) (text : List ℕ) where
   -- Is the text of the form? In three parts: Is it short enough? May each line stand where it stands? Are the s line and the 0 there?
   abbrev pub questions27 : List Question
   questions27 =
       ask (leb (length text) textMost) (refuse 27 textMost)
-      ∷ askEach (length (lines text)) (rightLine text (f .variables)) (λ i. refuse 27 (offset text i))
+      ∷ askEach (length (lines text)) (rightLine text N) (λ i. refuse 27 (offset text i))
       ∷ ask (complete? (lines text)) (refuse 27 (length text))
       ∷ []
 
@@ -101,4 +101,4 @@ module _ (f : Formula) (text : List ℕ) where
 
   -- Is each variable given once?
   abbrev pub question29 : Question
-  question29 = askEach (f .variables) (λ i. eqb (times (suc i) (given text)) 1) λ i. refuse 29 (suc i)
+  question29 = askEach N (λ i. eqb (times (suc i) (given text)) 1) λ i. refuse 29 (suc i)

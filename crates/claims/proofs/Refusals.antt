@@ -162,9 +162,9 @@ module _ (b : List ℕ) (m : ℕ) where
 
   pub numbered-read : (text : List ℕ) (size : ℕ) → T (all numbered (readQuestions b m text size))
   numbered-read text size =
-      numbered-more b m _ (and-iff (numbered (question16 F size)) _ .1 (simp ask-all (λ f. tt), numbered-text F text))
+      numbered-more b m _ (and-iff (numbered (question16 F size)) _ .1 (simp ask-all (λ f. tt), numbered-text (F .variables) text))
 
-  asked-text : (text : List ℕ) → EachAsked (textQuestions F text)
+  asked-text : (text : List ℕ) → EachAsked (textQuestions (F .variables) text)
   unfolding textQuestions
   asked-text text = (one _ _, (many _ _ _, (one _ _, (one _ _, (many _ _ _, tt)))))
 

@@ -1,8 +1,8 @@
-// Runs the five calls on cases made elsewhere, at most a million of them. A case: the kind of call (1 byte: 1 the formula writer,
-// 2 one clause, 3 the plan check, 4 the decoder, 5 the encoder), the horizon and the clause number (8 bytes each), the instance's
-// length (2 bytes), the payload's length in bytes and the lent slice's length in elements (4 bytes each), low bytes first; then the
-// instance, then the payload: a plan, or entries of 4 bytes. Each case prints a line: the answer's number, its second number, the
-// clauses, and a hash of the lent slice after the call; or "skip" where the slice is longer than the array here.
+// Runs the six calls on cases made elsewhere, at most a million of them. A case: the kind of call (1 byte: 1 the formula writer,
+// 2 one clause, 3 the plan check, 4 the decoder, 5 the encoder, 6 the reader), the horizon and the clause number (8 bytes each), the
+// instance's length (2 bytes), the payload's length in bytes and the lent slice's length in elements (4 bytes each), low bytes first;
+// then the instance, then the payload: a plan, entries of 4 bytes, or a text. Each case prints a line: the answer's number, its second
+// number, the clauses, and a hash of the lent slice after the call; or "skip" where the slice is longer than the array here.
 mod case;
 mod lent;
 mod outcome;
@@ -27,6 +27,7 @@ fn run_case(h: Head, b: &[u8], s: &[u8], words: &mut [i32], plan: &mut [u8]) -> 
         3 => plans::check_plan(h, b, s),
         4 => plans::decode(h, b, s, &mut words[0..40000], plan),
         5 => plans::encode(h, b, s, &mut words[0..40000]),
+        6 => plans::read_valuation(h, b, s, &mut words[0..40000]),
         _ => skipped(),
     }
 }
@@ -79,10 +80,10 @@ fn run(input: &mut [u8], words: &mut [i32], plan: &mut [u8])
 }
 
 // The arrays stand in functions of their own, which say no more than their lengths.
-fn input_space() -> [u8; 262144]
-    ensures { λ r. ⌜ 262144 ≡ length r ⌝ }
+fn input_space() -> [u8; 540672]
+    ensures { λ r. ⌜ 540672 ≡ length r ⌝ }
 {
-    [0; 262144]
+    [0; 540672]
 }
 
 fn word_space() -> [i32; 65536]

@@ -1,4 +1,4 @@
-// The calls on plans and valuations.
+// The calls on plans, valuations and solvers' texts.
 use crate::case::Head;
 use crate::case::read_entries;
 use crate::lent::fill_bytes;
@@ -39,5 +39,16 @@ pub fn encode(h: Head, b: &[u8], p: &[u8], entries: &mut [i32]) -> Outcome {
     let z = &mut entries[0..lent];
     fill_words(z);
     let r = encoder::encode(b, h.m, p, z);
+    answered(r, hash_words(z))
+}
+
+pub fn read_valuation(h: Head, b: &[u8], text: &[u8], entries: &mut [i32]) -> Outcome {
+    let lent = h.lent;
+    if entries.len() < lent {
+        return skipped();
+    }
+    let z = &mut entries[0..lent];
+    fill_words(z);
+    let r = reader::read_valuation(b, h.m, text, z);
     answered(r, hash_words(z))
 }

@@ -1,9 +1,9 @@
-// The five calls for programs in other languages; include/runglaet.h declares them for C.
+// The six calls for programs in other languages; include/runglaet.h declares them for C.
 use answers::Answer;
 use answers::Written;
 ghost use mathlib.Core.Path.{_≡_};
 ghost use lib.ListN.{length};
-ghost use Rattle.calls.specs.Calls.{writeAnswer, writeSlice, clauseAnswer, clauseSlice, checkAnswer, decodeAnswer, decodeSlice, encodeAnswer, encodeSlice};
+ghost use Rattle.calls.specs.Calls.{writeAnswer, writeSlice, clauseAnswer, clauseSlice, checkAnswer, decodeAnswer, decodeSlice, encodeAnswer, encodeSlice, readAnswer, readSlice};
 
 #[no_mangle]
 pub extern "C" fn runglaet_write_formula(
@@ -61,4 +61,17 @@ pub extern "C" fn runglaet_encode(
     ensures { λ _. ⌜ now (entries .exit) ≡ encodeSlice (now (instance .entry)) horizon (now (plan .entry)) (now (entries .entry)) ⌝ }
 {
     encoder::encode(instance, horizon as usize, plan, entries)
+}
+
+#[no_mangle]
+pub extern "C" fn runglaet_read_valuation(
+    instance: &[u8],
+    horizon: u64,
+    text: &[u8],
+    entries: &mut [i32],
+) -> Answer
+    ensures { λ r. ⌜ r ≡ readAnswer (now (instance .entry)) horizon (now (text .entry)) (length (now (entries .entry))) ⌝ }
+    ensures { λ _. ⌜ now (entries .exit) ≡ readSlice (now (instance .entry)) horizon (now (text .entry)) (now (entries .entry)) ⌝ }
+{
+    reader::read_valuation(instance, horizon as usize, text, entries)
 }

@@ -1,4 +1,4 @@
-//! The five calls of include/runglaet.h, safe to call from Rust.
+//! The six calls of include/runglaet.h, safe to call from Rust.
 
 /// The answer of every call but the writer.
 #[repr(C)]
@@ -65,7 +65,20 @@ extern "C" {
         entries: *mut i32,
         entries_len: usize,
     ) -> Answer;
+
+    fn runglaet_read_valuation(
+        instance: *const u8,
+        instance_len: usize,
+        horizon: u64,
+        text: *const u8,
+        text_len: usize,
+        entries: *mut i32,
+        entries_len: usize,
+    ) -> Answer;
 }
+
+/// The bytes of a solver's text that are read; a longer one is refused.
+pub const TEXT_MAX: usize = 524_288;
 
 // Each pointer and length below come from one slice, which stays borrowed while the call runs, and the library keeps
 // no pointer.
@@ -134,6 +147,21 @@ pub fn encode(instance: &[u8], horizon: u64, plan: &[u8], entries: &mut [i32]) -
             horizon,
             plan.as_ptr(),
             plan.len(),
+            entries.as_mut_ptr(),
+            entries.len(),
+        )
+    }
+}
+
+/// Writes the valuation that a solver printed; the count is its entries.
+pub fn read_valuation(instance: &[u8], horizon: u64, text: &[u8], entries: &mut [i32]) -> Answer {
+    unsafe {
+        runglaet_read_valuation(
+            instance.as_ptr(),
+            instance.len(),
+            horizon,
+            text.as_ptr(),
+            text.len(),
             entries.as_mut_ptr(),
             entries.len(),
         )

@@ -1,0 +1,2 @@
+-- The marks of the variables, asked and written.
+pub mod Marks

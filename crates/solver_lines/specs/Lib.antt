@@ -1,0 +1,2 @@
+-- What the lines of a text say.
+pub mod Lines

@@ -1,0 +1,2 @@
+-- What is read from a place of a text.
+pub mod Token
