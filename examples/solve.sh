@@ -9,7 +9,8 @@
 # Exit status: 0 a plan that passes; 1 refused by the library; 3 no plan of this makespan; 2 anything else, a signal too.
 #
 # A refusal is a line on standard output, any other failure one on standard error. The first forty characters of either
-# tell its kind; details come behind, and a path comes last.
+# tell its kind; details come behind, and a path comes last. A line "note: ..." on standard error says that what minisat
+# or cryptominisat printed was brought into the form that the library reads.
 set -u
 solvers="cadical kissat minisat picosat cryptominisat5"
 root=$(realpath "$(dirname "$(realpath "$0")")/..") || exit 2
@@ -32,10 +33,11 @@ quietly() {
 # ends the solver, once it runs.
 trap '' PIPE XFSZ
 exec 4>&2
-solver=''
+solving=no
 # shellcheck disable=SC2317  # A trap calls it.
 interrupted() {
-    [ -z "$solver" ] || kill "$solver" 2>/dev/null
+    # The job's number as the shell has it: a signal may come before a variable could take it.
+    [ "$solving" = no ] || kill "${!:-}" 2>/dev/null
     # While the script waits, the shell's words go nowhere; this line does not.
     exec 2>&4
     stop "this run was ended by a signal before its result: $1"
@@ -153,10 +155,10 @@ cryptominisat5) command=(cryptominisat5 --verb 0 "$formula") printed=$output ;;
 esac
 solved=0
 SECONDS=0
+solving=yes
 (exec "${limit[@]}" "${command[@]}" >"$printed" 4>&-) &
-solver=$!
-{ wait "$solver"; } 2>/dev/null || solved=$?
-solver=''
+{ wait "$!"; } 2>/dev/null || solved=$?
+solving=no
 room
 
 # Why the solver ended without a verdict, and what to do.
@@ -178,7 +180,7 @@ no_verdict() {
 }
 [ "$solved" -eq 10 ] || [ "$solved" -eq 20 ] || no_verdict
 
-# The plan that its valuation names, checked and shown.
+# The plan that its valuation names, checked and shown. What the solver printed is the library's to accept or to refuse.
 answer=$("$shuttles" decode "$description" "$horizon" <"$output") || status=$?
 case "$solved $status" in
 "10 0" | "10 1" | "20 3")

@@ -43,6 +43,11 @@ if [ -n "$before" ]; then
     for side in now before; do
         if [ "$side" = now ]; then library=$RUNGLAET_LIB; else library=$before; fi
         objcopy --set-section-alignment '.text*=4096' "$library" "$folder/$side.a"
+        # An earlier library may lack the reader: a stand-in lets the program link, and its rows are left out.
+        if ! nm --defined-only "$library" | grep ' T runglaet_read_valuation$' >/dev/null; then
+            gcc -std=c11 -O2 -Iinclude -c tests/interface/absent.c -o "$folder/absent.o"
+            ar rs "$folder/$side.a" "$folder/absent.o"
+        fi
         RUNGLAET_LIB=$folder/$side.a cargo build --quiet --release --offline --bin benchmark \
             --manifest-path tests/interface/Cargo.toml --target-dir "$folder"
         cp "$folder/release/benchmark" "$folder/$side"

@@ -2,8 +2,8 @@
 # Compares the proved program `comparison` with the independent one on fresh cases.
 #   tests/compare.sh SEED PIECES COUNT
 # Each piece has its own seed, SEED and up, and COUNT random instances. Before them come all small instances (up to 4
-# vertices, 2 agents, horizon 2), all clauses of every eleventh, all plans of tiny ones and all sign patterns of some
-# with at most 16 variables.
+# vertices, 2 agents, horizon 2), all clauses of every eleventh, all plans of tiny ones, all sign patterns of some with
+# at most 16 variables, and all short texts of some kinds for the reader.
 # RUNGLAET_COMPARISON: the program, if it is not target/bin/comparison.
 set -eu
 cd "$(dirname "$0")/.."
@@ -30,7 +30,7 @@ piece() {
 
 : >"$work/times"
 : >"$work/skips"
-for mode in small clauses plans valuations; do
+for mode in small clauses plans valuations texts; do
     piece "$mode" "$seed" 0
 done
 i=0
@@ -40,10 +40,10 @@ while [ "$i" -lt "$pieces" ]; do
 done
 awk '{ times[$1, $2] += $3 }
     END {
-        split("writer clause plan decoder encoder", name, " ")
-        for (kind = 1; kind <= 5; kind++) {
+        split("writer clause plan decoder encoder reader", name, " ")
+        for (kind = 1; kind <= 6; kind++) {
             line = ""
-            for (number = 0; number <= 26; number++)
+            for (number = 0; number <= 29; number++)
                 if ((kind, number) in times) line = line " " number ":" times[kind, number]
             print name[kind] line
         }

@@ -2,7 +2,9 @@
 # Solvers from Debian's packages on formulas that the formula program printed; outside the gate.
 #
 # Solves every example of the table in examples/README.md and the cases below with each solver installed, and compares
-# with the answer known beforehand. A plan must pass the plan check, and its own valuation must decode to it again.
+# with the answer known beforehand. A plan must pass the plan check, and its own valuation must decode to it again. What
+# cadical, kissat and picosat print is read as it is; of minisat's and cryptominisat's output a note says that it was
+# brought into the form that is read, and nothing else is said on standard error.
 # INSTALL=yes installs the solvers first (as root). RUNGLAET_LIB and RUNGLAET_PROGRAM as in examples/solve.sh.
 # Status 77: no solver is installed, and the table alone was read.
 set -u
@@ -124,9 +126,28 @@ if [ -n "${RUNGLAET_PROGRAM:-}" ]; then
     RUNGLAET_PROGRAM=$(realpath -e "$RUNGLAET_PROGRAM") || exit 1
 fi
 
+# own_form SOLVER OUTPUT: the solver whose form the output has, or nothing. Cryptominisat ends every v line but its last
+# with a space; one line alone is read as it is.
+own_form() {
+    case $1 in
+    minisat) echo minisat ;;
+    cryptominisat5) if grep -q '^v .* $' "$2"; then echo cryptominisat; fi ;;
+    esac
+}
+
+# noted FORM ERRORS: of what was said, a fault unless it is the note for this form, or nothing where there is no form.
+noted() {
+    if [ -z "$1" ]; then
+        [ ! -s "$2" ] || echo "not read as printed"
+    elif [ "$(wc -l <"$2")" -ne 1 ] || ! grep -q "^note: the text is in $1's form and was brought into" "$2"; then
+        echo "not the note for $1's form alone"
+    fi
+}
+
 ran=0
 plans=0
 for solver in $installed; do
+    brought=0
     while read -r example horizon expected; do
         ran=$((ran + 1))
         run=$folder/run
@@ -143,26 +164,37 @@ for solver in $installed; do
         3) answer=UNSAT ;;
         *) answer="status $status" ;;
         esac
-        fault=
+        form=$(own_form "$solver" "$run/output.txt")
+        [ -z "$form" ] || brought=$((brought + 1))
+        fault=$(noted "$form" "$run/errors")
         if [ "$answer" != "$expected" ]; then
             fault="expected $expected"
-        elif [ -s "$run/errors" ]; then
-            fault="complaint"
+        elif [ -n "$fault" ]; then
+            :
         elif [ "$answer" = UNSAT ]; then
             [ "$last" = "no plan of makespan $horizon" ] || fault="wrong last line"
         else
             plans=$((plans + 1))
             instance=$run/instance.bin
             [[ $last == "plan passes: makespan $horizon, cost "* ]] || fault="wrong last line"
-            "$shuttles" decode --numbers "$instance" "$horizon" <"$run/output.txt" >"$run/plan" || fault="does not decode"
+            "$shuttles" decode --numbers "$instance" "$horizon" <"$run/output.txt" >"$run/plan" 2>"$run/errors" ||
+                fault="does not decode"
+            fault=$fault$(noted "$form" "$run/errors")
             [ "$("$shuttles" check "$instance" "$horizon" - <"$run/plan")" = "$last" ] || fault="does not pass"
             "$shuttles" encode "$instance" "$horizon" - <"$run/plan" >"$run/valuation" || fault="does not encode"
-            "$shuttles" decode --numbers "$instance" "$horizon" <"$run/valuation" | cmp -s - "$run/plan" ||
-                fault="decodes to another plan"
+            "$shuttles" decode --numbers "$instance" "$horizon" <"$run/valuation" 2>"$run/errors" |
+                cmp -s - "$run/plan" || fault="decodes to another plan"
+            fault=$fault$(noted '' "$run/errors")
         fi
         echo "$solver $example $horizon: $answer ($took ms)${fault:+ FAILED: $fault: $last $(head -c 300 "$run/errors")}"
         [ -z "$fault" ] || failed=$((failed + 1))
     done <"$folder/cases"
+    case $solver in
+    minisat | cryptominisat5)
+        echo "$solver: $brought outputs brought into the form that is read"
+        [ "$brought" -gt 0 ] || fail "$solver: no output had a form of its own"
+        ;;
+    esac
 done
 echo "solvers:$installed; $ran cases, $plans plans, $failed failed"
 [ "$failed" -eq 0 ]

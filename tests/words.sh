@@ -2,7 +2,8 @@
 # What the tool, examples/solve.sh, the scripts that build and the formula program say of faults: tests/words.sh.
 #
 # Provokes every error that there is, and every refusal, by command lines. Each must end with its documented status and
-# say one line, whose first forty characters tell its kind: equal within a kind, different between kinds.
+# say one line, whose first forty characters tell its kind: equal within a kind, different between kinds. So it is with
+# the notes that a solver's text was brought into the form that is read, which are lines beside.
 # Installs nothing: the solvers here are scripts. RUNGLAET_LIB and RUNGLAET_PROGRAM as in examples/solve.sh.
 #
 # What stands in single quotes is for those scripts to expand.
@@ -32,18 +33,28 @@ result() {
 }
 
 # expect KIND STATUS COMMAND...: the command says one line, of this kind, and ends with this status. A refusal is said
-# on standard output, anything else on standard error; only a usage has more lines.
+# on standard output, anything else on standard error; only a usage has more lines. `note=SOLVER expect ...`: a note says
+# beside that the text was in this solver's form; otherwise there is none.
+note=''
 expect() {
     local kind=$1 status=$2 got=0 line fault=''
     shift 2
     "$@" >said 2>errors || got=$?
-    { grep -a '^refused ' said; grep -av '^proving ' errors; } >lines
+    { grep -a '^refused ' said; grep -av -e '^proving ' -e '^note: ' errors; } >lines
     line=$(head -n 1 lines | tr -d '\0')
     [ "$kind" = Usage ] || [ "$(wc -l <lines)" -eq 1 ] || fault="not one line: $(head -c 400 lines)"
     [ "${#line}" -ge 40 ] || fault="a short line: $line"
     [ "$got" -eq "$status" ] || fault="status $got, not $status: $line"
+    noted errors || fault="not the note expected${note:+, $note}: $(grep -a '^note: ' errors)"
     printf '%s\t%s\n' "$kind" "${line:0:40}" >>kinds
     result "$fault" "$kind: $*"
+}
+# noted FILE: it has the note that is expected, and no other.
+noted() {
+    local wanted=${note:+1}
+    grep -a '^note: ' "$1" >notes
+    [ -z "$note" ] || printf 'note %s\t%s\n' "$note" "$(head -c 40 notes)" >>kinds
+    [ "$(wc -l <notes)" -eq "${wanted:-0}" ]
 }
 
 # The ways a command is run: with a text on standard input, or with a standard input or output that fails.
@@ -123,33 +134,12 @@ expect Edges 2 "$shuttles" instance edges.txt
 cat edges.txt path.txt >more.txt
 expect Edges 2 "$shuttles" instance more.txt
 
-# Errors of the tool: plans, refusals and solvers' output.
+# Errors of the tool: plans and refusals.
 expect PlanWord 2 "$shuttles" check path.txt 2 0 x
 expect PlanWord 2 fed '0 256' "$shuttles" encode pair.txt 1 -
 expect RefusalWord 2 "$shuttles" refusal x 1
 expect RefusalWord 2 "$shuttles" refusal 99999999999 1
 expect RefusalWord 2 "$shuttles" refusal 8 -1
-decode() { expect "$1" "$2" fed "$3" "$shuttles" decode pair.txt 1; }
-decode NoVerdict 2 ''
-decode NoVerdict 2 'c s SATISFIABLE\nSATISFIABLE\n'
-for verdict in 's' 's SAT' 's SATISFIABL' 's UNSAT\n' 's UNK' 's INDET\n' 'SA' 'UNSA\n' 'IND'; do
-    decode CutVerdict 2 "$verdict"
-done
-decode UnknownVerdict 2 's PERHAPS\n'
-decode UnknownVerdict 2 'c\ns SATISFIABLE 1\n'
-decode SecondVerdict 2 's SATISFIABLE\ns SATISFIABLE\n'
-decode SecondVerdict 2 'SAT\n1 0\nUNSAT\n'
-decode NotLiteral 2 's SATISFIABLE\nv 1 x 0\n'
-decode NotLiteral 2 'SAT\nv 1 0\n'
-decode AfterClosing 2 's SATISFIABLE\nv 1 0 2\n'
-decode AfterClosing 2 'SAT\n1 0\n2\n'
-decode Contradiction 2 's SATISFIABLE\nv 1 -1 0\n'
-decode Contradiction 2 'SAT\n-2 1 2 0\n'
-decode NoClosing 0 's SATISFIABLE\nv 1 -2 -3 4\n'
-decode NoClosing 0 'SAT\n4 -3 -2 1 9'
-decode GaveUp 2 's UNKNOWN\n'
-decode GaveUp 2 'INDET\n'
-decode GaveUp 2 's INDETERMINATE\n'
 
 # Refusals, with the place in the reader's terms.
 # told TERMS: the place was told like this.
@@ -207,8 +197,6 @@ refuse 10 '"-1" was given' "$shuttles" encode path.txt -1 0 1
 refuse 10 '"02" was given' fed 's UNSATISFIABLE\n' "$shuttles" decode path.txt 02
 refuse 13 '3 vertices given, 2 agents at times 0 to 1 need 4' "$shuttles" check path.txt 1  0 1  0
 refuse 13 '0 vertices given, 1 agent at times 0 to 0 need 1' "$shuttles" encode pair.txt 0
-refuse 14 '3 entries given, 1 agent on 2 vertices at times 0 to 1 need 4' fed 'SAT\n1 -2 -3 0\n' "$shuttles" decode pair.txt 1
-refuse 14 '5 entries given, 1 agent on 2 vertices at times 0 to 1 need 4' fed 'SAT\n1 2 3 4 5 0\n' "$shuttles" decode pair.txt 1
 refuse 17 'agent 1 (line 5) at time 1: at vertex 3, the map has only vertices 0 to 2' "$shuttles" check path.txt 1  0 1  0 3
 refuse 17 'agent 0 (line 3) at time 0: at vertex 255, the map has only vertices 0 to 1' "$shuttles" encode pair.txt 1  255  1
 refuse 18 'agent 1 (line 5) at time 0: at vertex 2, its start is vertex 1' "$shuttles" check path.txt 1  0 2  0 2
@@ -229,18 +217,125 @@ refuse 21 'agent 1 (line 5) at time 1: at vertex 1, and so is agent 0 (line 4)' 
 refuse 21 'agent 1 (line 5) at time 2: at vertex 1, and so is agent 0 (line 4)' "$shuttles" encode r.txt 2  0 2  0 2  1 1
 refuse 22 'agent 0 (line 3) at time 0: at vertex 0, its goal is vertex 1' "$shuttles" check pair.txt 0  0
 refuse 22 'agent 0 (line 4) at time 1: at vertex 0, its goal is vertex 1' "$shuttles" check path.txt 1  0 1  0 1
-# valuation NUMBER TERMS ENTRIES: refused so, for the pair at horizon 1.
-valuation() { refuse "$1" "$2" fed "SAT\n$3 0\n" "$shuttles" decode pair.txt 1; }
-valuation 23 'entry 2 must be 3 or -3, for agent 0 (line 3) at vertex 0 at time 1; the solver left it out' '1 -2 4'
-valuation 23 'entry 0 must be 1 or -1, for agent 0 (line 3) at vertex 0 at time 0; the solver left it out' '-2 -3 4'
-valuation 24 'clause 0 of family A (each agent begins at its start), for agent 0 (line 3) at vertex 0 at time 0' '-1 -2 -3 -4'
-valuation 24 'clause 1 of family B (each agent ends at its goal), for agent 0 (line 3) at vertex 1 at time 1' '1 -2 3 -4'
-valuation 24 'clause 5 of family D (no agent is at two vertices at one time), for agent 0 (line 3) at vertices 0 and 1 at time 1' '1 -2 3 4'
+# valuation TERMS ENTRIES: a clause is false, for the pair at horizon 1.
+valuation() { refuse 24 "$1" fed "s SATISFIABLE\nv $2 0\n" "$shuttles" decode pair.txt 1; }
+valuation 'clause 0 of family A (each agent begins at its start), for agent 0 (line 3) at vertex 0 at time 0' '-1 -2 -3 -4'
+valuation 'clause 1 of family B (each agent ends at its goal), for agent 0 (line 3) at vertex 1 at time 1' '1 -2 3 -4'
+valuation 'clause 5 of family D (no agent is at two vertices at one time), for agent 0 (line 3) at vertices 0 and 1 at time 1' '1 -2 3 4'
+
+# Refusals of what a solver printed, for the pair at horizon 1, which has four variables. Each reason with its line.
+# text NUMBER TERMS TEXT: refused so.
+text() { refuse "$1" "$2" fed "$3" "$shuttles" decode pair.txt 1; }
+from() { "${@:2}" <"$1"; }
+text 27 'line 1: a carriage return stands at its end: "s SATISFIABLE\r"' 's SATISFIABLE\r\nv 1 -2 -3 4 0\r\n'
+text 27 'line 3: a carriage return stands at its end: "v 1 -2\r"' 'c pasted\r\ns SATISFIABLE\nv 1 -2\r\nv -3 4 0\r\n'
+text 27 'line 1: a carriage return stands at its end: "SAT\r"' 'SAT\r\n1 -2 -3 4 0\r\n'
+text 27 'line 2: a carriage return stands at its end: "\r"' 's SATISFIABLE\n\r\nv 1 -2 -3 4 0\n'
+text 27 'line 1: a carriage return stands at column 14: "s SATISFIABLE\rv 1 -2 -3 4 0\r"' 's SATISFIABLE\rv 1 -2 -3 4 0\r'
+text 27 'line 2: a tab stands at column 4: "v 1\t-2 -3 4 0"' 's SATISFIABLE\nv 1\t-2 -3 4 0\n'
+text 27 'line 2: a tab stands at column 2: "v\t1 -2 -3 4 0"' 's SATISFIABLE\nv\t1 -2 -3 4 0\n'
+text 27 'line 4: a space stands at its beginning: " v 1 -2 -3 4 0"' '\n\ns SATISFIABLE\n v 1 -2 -3 4 0\n'
+text 27 'line 1: a space stands at its beginning: " c"' ' c\ns UNSATISFIABLE\n'
+text 27 'line 2: two spaces in a row stand at column 7: "v 1 -2  -3 4 0"' 's SATISFIABLE\nv 1 -2  -3 4 0\n'
+text 27 'line 2: two spaces in a row stand at column 14: "v 1 -2 -3 4 0  "' 's SATISFIABLE\nv 1 -2 -3 4 0  \n'
+text 27 'line 1: a space stands at its end: "s SATISFIABLE "' 's SATISFIABLE \nv 1 -2 -3 4 0\n'
+text 27 'line 2: no literal stands behind its v: "v"' 's SATISFIABLE\nv\nv 1 -2 -3 4 0\n'
+text 27 'line 2: no literal stands behind its v: "v "' 's SATISFIABLE\nv \nv 1 -2 -3 4 0\n'
+text 27 'line 2: "x" at column 5 is no number: "v 1 x 0"' 's SATISFIABLE\nv 1 x 0\n'
+text 27 'line 3: "-" at column 3 is no number: "v -"' 's SATISFIABLE\nv 1\nv -'
+text 27 'line 2: "--1" at column 3 is no number: "v --1 0"' 's SATISFIABLE\nv --1 0\n'
+text 27 'line 2: "1\0\xff" at column 3 is no number: "v 1\0\xff"' 's SATISFIABLE\nv 1\0000\0377\n'
+text 27 'line 2: "-0" at column 5 has a sign, and 0 has none: "v 1 -0"' 's SATISFIABLE\nv 1 -0\n'
+text 27 'line 2: "00" at column 3 begins with a 0: "v 00"' 's SATISFIABLE\nv 00\n'
+text 27 'line 2: "-01" at column 3 begins with a 0: "v -01"' 's SATISFIABLE\nv -01\n'
+text 27 'line 2: "+1" at column 3 has a plus sign: "v +1 -2"' 's SATISFIABLE\nv +1 -2\n'
+text 27 'line 2: "5" at column 13 names a variable that does not exist, the highest is 4: "v 1 -2 -3 4 5 0"' 's SATISFIABLE\nv 1 -2 -3 4 5 0\n'
+text 27 'line 2: "-99999999999" at column 3 names a variable that does not exist, the highest is 4: "v -99999999999 0"' 's SATISFIABLE\nv -99999999999 0\n'
+text 27 'line 2: "-3" at column 7 stands behind the closing 0: "v 1 0 -3"' 's SATISFIABLE\nv 1 0 -3\n'
+text 27 'line 2: "0" at column 15 stands behind the closing 0: "v 1 -2 -3 4 0 0"' 's SATISFIABLE\nv 1 -2 -3 4 0 0\n'
+text 27 'line 4: a v line stands behind the closing 0, which is in line 2: "v 4"' 's SATISFIABLE\nv 1 -2 -3 0\nc\nv 4\n'
+text 27 'line 3: a second s line, the first is line 1: "s SATISFIABLE"' 's SATISFIABLE\nv 1 -2 -3 4 0\ns SATISFIABLE\n'
+text 27 'line 4: a second s line, the first is line 2: "s UNSATISFIABLE"' 'c\ns UNKNOWN\n\ns UNSATISFIABLE'
+for verdict in s 's SAT' 's SATISFIABL' 's UNSAT' 's UNK'; do
+    text 27 "line 2: its verdict is cut short: \"$verdict\"" "c\n$verdict"
+    text 27 "line 1: its verdict is cut short: \"$verdict\"" "$verdict\n"
+done
+text 27 'line 1: its verdict is none of SATISFIABLE, UNSATISFIABLE and UNKNOWN: "s PERHAPS"' 's PERHAPS\n'
+text 27 'line 2: its verdict is none of SATISFIABLE, UNSATISFIABLE and UNKNOWN: "s INDET"' 'c\ns INDET\n'
+text 27 'line 2: it begins with none of "c", "s " and "v ": "SATISFIABLE"' 'c minisat prints this where it has no file for its result\nSATISFIABLE\n'
+text 27 'line 2: it begins with none of "c", "s " and "v ": "1 -2 -3 4 0"' 's SATISFIABLE\n1 -2 -3 4 0\n'
+text 27 'line 2: it begins with none of "c", "s " and "v ": "v1 0"' 's SATISFIABLE\nv1 0\n'
+text 27 'line 1: a byte order mark (UTF-8) stands before it: "\u{feff}s SATISFIABLE"' '\0357\0273\0277s SATISFIABLE\nv 1 -2 -3 4 0\n'
+text 27 'line 1: a byte order mark (UTF-16) stands before it: "\xff\xfes\0"' '\0377\0376s\0000\n\0000'
+text 27 'the text is empty' ''
+text 27 'the s line is missing, the text was probably cut short' 'c s SATISFIABLE\nv 1 -2 -3 4 0\n'
+text 27 'the s line is missing, line 1 goes on as a comment behind a carriage return' 'c Mac\rs SATISFIABLE\rv 1 -2 -3 4 0\r'
+text 27 'the closing 0 is missing, the text was probably cut short: 0 of 4 literals are there' 's SATISFIABLE'
+text 27 'the closing 0 is missing, the text was probably cut short: 4 of 4 literals are there' 's SATISFIABLE\nv 1 -2\nv -3 4\n'
+{ printf 's SATISFIABLE\nv '; printf '1 %.0s' {1..998}; echo 1; } >long.txt
+refuse 27 'the closing 0 is missing, the text was probably cut short: 999 of 4 literals are there' from long.txt "$shuttles" decode pair.txt 1
+echo 'v x' >>long.txt
+refuse 27 'line 3: "x" at column 3 is no number: "v x"' from long.txt "$shuttles" decode pair.txt 1
+sed -i 's/ 1$/ 1 x/' long.txt
+refuse 27 'line 2: "x" at column 2001 is no number: "v 1 1 1 1 1 1 1 1 1 1 1 1 1 1 1 1 1 1 1 1 1 1 1 1 1 1 1 1 1 " and more' from long.txt "$shuttles" decode pair.txt 1
+head -c 524289 /dev/zero | tr '\0' '\n' >long.txt
+refuse 27 '524289 bytes were given, 524288 are the most' from long.txt "$shuttles" decode pair.txt 1
+refuse 27 '524289 bytes were given, 524288 are the most' from long.txt "$shuttles" decode --numbers pair.txt 1
+text 28 'line 1: the solver gave up, so there may be a plan or none: "s UNKNOWN"' 's UNKNOWN\n'
+text 28 'line 3: the solver gave up, so there may be a plan or none: "s UNKNOWN"' 'c\nv 1 -2\ns UNKNOWN'
+text 29 'variable 1, for agent 0 (line 3) at vertex 0 at time 0, is missing' 's SATISFIABLE\nv 0\n'
+text 29 'variable 3, for agent 0 (line 3) at vertex 0 at time 1, is missing' 's SATISFIABLE\nv 1 -2 4 0\n'
+text 29 'variable 2, for agent 0 (line 3) at vertex 1 at time 0, is there 2 times: -2 in line 2, 2 in line 4 of the text' 's SATISFIABLE\nv 1 -2 -3 4\nc\nv 2 0\n'
+text 29 'variable 4, for agent 0 (line 3) at vertex 1 at time 1, is there 5 times: 4 in line 2, 4 in line 2, -4 in line 2, 4 in line 2 of the text and more' 's SATISFIABLE\nv 1 -2 -3 4 4 -4 4\nv 4 0\n'
+# In minisat's and in cryptominisat's form.
+note=minisat text 27 'line 3: "x" at column 5 is no number: "v 4 x 0"' 'SAT\n1 -2 -3\n4 x 0\n'
+note=minisat text 27 'line 2: "v" at column 3 is no number: "v v 1 0"' 'SAT\nv 1 0\n'
+note=minisat text 27 'the closing 0 is missing, the text was probably cut short: 4 of 4 literals are there' 'SAT\n1 -2 -3 4'
+note=minisat text 27 'line 3: a v line stands behind the closing 0, which is in line 2: "v UNSAT"' 'SAT\n1 -2 -3 4 0\nUNSAT\n'
+note=minisat text 28 'line 1: the solver gave up, so there may be a plan or none: "s UNKNOWN"' 'INDET\n'
+note=minisat text 29 'variable 3, for agent 0 (line 3) at vertex 0 at time 1, is missing' 'SAT\n1 -2 4 0\n'
+note=cryptominisat text 27 'line 3: a space stands at its end: "s UNKNOWN "' 'v 1 -2 -3 4 \nv 0 \ns UNKNOWN \n'
+note=cryptominisat text 28 'line 2: the solver gave up, so there may be a plan or none: "s UNKNOWN"' 'c\ns INDETERMINATE\n'
+note=cryptominisat text 29 'variable 2, for agent 0 (line 3) at vertex 1 at time 0, is missing' 's SATISFIABLE\nv 1 -3 \nv 4 0 \n'
+# reads STATUS LAST TEXT: not refused; the last line of what is said, and the note.
+reads() {
+    local got=0 fault=''
+    fed "$3" "$shuttles" decode pair.txt 1 >said 2>errors || got=$?
+    [ "$got $(tail -n 1 said)" = "$1 $2" ] || fault="status $got: $(cat said errors)"
+    noted errors && ! grep -qv '^note: ' errors || fault="said beside: $(cat errors)"
+    result "$fault" "reads: $3"
+}
+passes='plan passes: makespan 1, cost 1'
+reads 0 "$passes" 's SATISFIABLE\nv 1 -2 -3 4 0\n'
+reads 0 "$passes" 'c\0377\r\n\nv 4 -3\nv -2\ns SATISFIABLE\nv 1\nv 0'
+reads 3 'no plan of makespan 1' 'c\ns UNSATISFIABLE\n'
+note=minisat reads 0 "$passes" 'SAT\n1 -2 -3 4 0\n'
+note=minisat reads 0 "$passes" 'SAT\n\n4 -3\n-2 1\n0'
+note=minisat reads 3 'no plan of makespan 1' 'UNSAT\n'
+note=cryptominisat reads 0 "$passes" 's SATISFIABLE\nv 1 -2 \nv -3 4 \nv 0 \n'
+reads 0 "$passes" "$("$shuttles" encode pair.txt 1 0 1)\n"
+{ echo 's SATISFIABLE'; echo 'v 1 -2 -3 4 0'; head -c 524260 /dev/zero | tr '\0' '\n'; } >long.txt
+result "$([ "$(wc -c <long.txt) $(from long.txt "$shuttles" decode pair.txt 1 2>&1 | tail -n 1)" = "524288 $passes" ] || echo refused)" \
+    'the longest text'
 # Those that the library does not give for what the tool asks of it.
-for number in 11 12 15 16; do
+for number in 11 12 14 15 16 23; do
     expect "refusal $number" 0 "$shuttles" refusal "$number" 24
     expect "refusal $number" 0 "$shuttles" refusal "$number" 8 path.txt 2
 done
+expect 'refusal 14' 0 "$shuttles" refusal 14 3 pair.txt 1
+told '3 entries given, 1 agent on 2 vertices at times 0 to 1 need 4'
+expect 'refusal 23' 0 "$shuttles" refusal 23 2 pair.txt 1
+told 'entry 2 must be 3 or -3, for agent 0 (line 3) at vertex 0 at time 1'
+for number in 27 28; do
+    expect "refusal $number" 0 "$shuttles" refusal "$number" 45
+    told 'the place is a byte of the text'
+    expect "refusal $number" 0 "$shuttles" refusal "$number" 45 pair.txt 1
+    told 'the place is a byte of the text'
+done
+expect 'refusal 29' 0 "$shuttles" refusal 29 3
+told 'the place is a variable'
+expect 'refusal 29' 0 "$shuttles" refusal 29 3 pair.txt 1
+told 'variable 3, for agent 0 (line 3) at vertex 0 at time 1'
 for number in 20 25 26; do
     expect "refusal $number" 0 "$shuttles" refusal "$number" 2
     told 'the place is a byte of the plan'
@@ -254,10 +349,10 @@ for number in 0 36 4294967295; do
     expect "refusal $number" 0 "$shuttles" refusal "$number" 18446744073709551615 path.txt 2
 done
 
-# solve.sh, with a solver that does what FAKE says; $2 is the formula and $3 the file for the result.
+# solve.sh, with a solver that does what FAKE says; $2 is the formula and $3 the file for minisat's result.
 mkdir fake bare
-printf '#!/bin/sh\neval "$FAKE"\n' >fake/minisat
-chmod +x fake/minisat
+printf '#!/bin/sh\neval "$FAKE"\n' | tee fake/minisat >fake/cryptominisat5
+chmod +x fake/minisat fake/cryptominisat5
 ln -s /usr/bin/* bare 2>/dev/null
 rm -f bare/{cargo,rt,cadical,kissat,minisat,picosat,cryptominisat5}
 # with FAKE COMMAND...: nothing on the path but the fake solver; no cargo and no rt either.
@@ -268,13 +363,18 @@ solves() {
     local got=0 fault=''
     with "$2" "${@:4}" >said 2>&1 || got=$?
     [ "$got $(tail -n 1 said)" = "$1 $3" ] || fault="status $got: $(cat said)"
+    noted said || fault="not the note expected: $(cat said)"
     ! grep -qE '^(shuttles|shuttles/build\.sh|solve\.sh): ' said || fault="a complaint: $(cat said)"
     result "$fault" "${*:4}"
 }
-solves 0 "$plan" 'plan passes: makespan 1, cost 1' "$solve" pair.txt 1
-solves 0 "$plan" 'plan passes: makespan 1, cost 1' env LIMIT=9 KEEP=kept "$solve" pair.txt 1
-solves 3 'echo UNSAT >$3; exit 20' 'no plan of makespan 1' "$solve" pair.txt 1
-solves 0 "$plan" 'plan passes: makespan 1, cost 1' "$solve" <(cat pair.txt) 1
+printed='printf "s SATISFIABLE\nv 1 -2 -3 4 \nv 0\n"; exit 10'
+note=minisat solves 0 "$plan" "$passes" "$solve" pair.txt 1
+note=minisat solves 0 "$plan" "$passes" env LIMIT=9 KEEP=kept "$solve" pair.txt 1
+note=minisat solves 3 'echo UNSAT >$3; exit 20' 'no plan of makespan 1' "$solve" pair.txt 1
+note=minisat solves 0 "$plan" "$passes" "$solve" <(cat pair.txt) 1
+note=cryptominisat solves 0 "$printed" "$passes" env SOLVER=cryptominisat5 "$solve" pair.txt 1
+solves 0 "${printed/ \\n/\\n}" "$passes" env SOLVER=cryptominisat5 "$solve" pair.txt 1
+solves 3 'echo s UNSATISFIABLE; exit 20' 'no plan of makespan 1' env SOLVER=cryptominisat5 "$solve" pair.txt 1
 
 expect solve-words 2 with "$plan" "$solve"
 expect solve-words 2 with "$plan" "$solve" pair.txt 1 2
@@ -314,9 +414,14 @@ refuse 9 'agent 1 (line 3) has its goal at vertex 1, as agent 0 (line 2) does' w
 for horizon in 33 256 -1 02 x 99999999999999999999; do
     refuse 10 "\"$horizon\" was given" with "$plan" "$solve" pair.txt "$horizon"
 done
-refuse 14 '2 entries given, 1 agent on 2 vertices at times 0 to 1 need 4' with 'printf "SAT\n1 -2 0\n" >$3; exit 10' "$solve" pair.txt 1
-expect CutVerdict 2 with 'echo s SAT >$3; exit 10' "$solve" pair.txt 1
-expect NoVerdict 2 with 'exit 20' "$solve" pair.txt 1
+# solver NUMBER TERMS FAKE: what the solver printed is refused so.
+solver() { refuse "$1" "$2" with "$3" "$solve" pair.txt 1; }
+solver 27 'the text is empty' 'exit 10'
+solver 27 'line 1: its verdict is cut short: "s SAT"' 'echo s SAT >$3; exit 10'
+note=minisat solver 27 'the closing 0 is missing, the text was probably cut short: 3 of 4 literals are there' 'printf "SAT\n1 -2 -3" >$3; exit 10'
+note=minisat solver 28 'line 1: the solver gave up, so there may be a plan or none: "s UNKNOWN"' 'echo INDET >$3; exit 10'
+note=minisat solver 29 'variable 3, for agent 0 (line 3) at vertex 0 at time 1, is missing' 'printf "SAT\n1 -2 0\n" >$3; exit 10'
+note=minisat solver 24 'clause 0 of family A (each agent begins at its start), for agent 0 (line 3) at vertex 0 at time 0' 'printf "SAT\n-1 -2 -3 -4 0\n" >$3; exit 10'
 
 # solve.sh and the formula program.
 # prints SCRIPT: a program in the formula program's place, which can call it as "$program".
@@ -349,15 +454,18 @@ ends solve-killed 'kill -TERM $$' 9
 ends solve-killed 'kill -SEGV $$'
 ends solve-gave-up 'exit 0'
 ends solve-gave-up 'echo INDET >$3; exit 0'
+ends solve-gave-up 'echo s UNKNOWN >$3; exit 0'
+ends solve-gave-up 'echo s UNKNOWN >$3; exit 30'
 ends solve-gave-up 'echo s INDETERMINATE >$3; exit 15'
 ends solve-not-started 'exit 126'
 ends solve-not-started 'exit 127'
 ends solve-status 'exit 1'
 ends solve-status 'exit 255'
 ends solve-status 'exit 124'
-ends solve-disagreement 'echo UNSAT >$3; exit 10'
-ends solve-disagreement 'printf "SAT\n1 -2 -3 4 0\n" >$3; exit 20'
-ends GaveUp 'echo INDET >$3; exit 10'
+note=minisat ends solve-disagreement 'echo UNSAT >$3; exit 10'
+note=minisat ends solve-disagreement 'printf "SAT\n1 -2 -3 4 0\n" >$3; exit 20'
+note=minisat ends solve-disagreement 'echo INDET >$3; exit 20'
+ends solve-disagreement 'exit 20'
 # A signal ends the solver too: it has said who it is, and is gone soon after.
 for signal in TERM HUP; do
     rm -f solver
@@ -448,12 +556,13 @@ result "${shared:+$shared}" "beginnings of several kinds"
 # Every error and every refusal that the sources have was seen here.
 sed -n 's/^    [A-Z][A-Za-z]*: "\(.*\)",$/shuttles: \1/p' "$root/tools/shuttles/src/errors.rs" >errors
 sed -n 's/^    (\([0-9]*\), "\(.*\)$/refused \1: \2/p' "$root/tools/shuttles/src/refusals.rs" >refusals
+grep -oE '"note: .*' "$root/tools/shuttles/src/solver_form.rs" | cut -c 2- >notes
 grep -o 'stop ".*' "$root/examples/solve.sh" | sed 's/stop "/solve.sh: /' >solve
 grep -oE '(stop |no_cargo=)"[^$].*' "$root/tools/shuttles/build.sh" | sed -E 's/^(stop |no_cargo=)"/shuttles\/build.sh: /' >build
 grep -oE '(stop |no_compiler=)"[^$].*' "$root/tools/formula_program/build.sh" |
     sed -E 's/^(stop |no_compiler=)"/formula_program\/build.sh: /' >program
 cut -f 2 pairs >seen
-for source in errors refusals solve build program; do
+for source in errors refusals notes solve build program; do
     [ -s "$source" ] || echo nothing >"$source"
     result "$(cut -c 1-40 "$source" | sort -u | grep -vxF -f seen)" "never said here, of $source"
 done

@@ -1,4 +1,5 @@
-/* Each call once or more on the examples of document 01, and with null pointers, from C. */
+/* Each call once or more on the examples of document 01, the reader on texts of its own, and all with null pointers, from
+ * C. */
 #include "runglaet.h"
 
 #include <stdio.h>
@@ -58,8 +59,61 @@ static void null_pointers(void) {
     expect("encoder, neither: 13, place 0", says(runglaet_encode(pair, sizeof pair, 1, NULL, 0, NULL, 0), 13, 0));
     expect("encoder, nothing: 1, place 0", says(runglaet_encode(NULL, 0, 1, NULL, 0, NULL, 0), 1, 0));
 
+    static const uint8_t text[28] = "s SATISFIABLE\nv 1 -2 -3 4 0";
+    expect("reader, no instance: 1, place 0",
+           says(runglaet_read_valuation(NULL, 0, 1, text, sizeof text - 1, words, 24), 1, 0));
+    expect("reader, no text: 27, place 0", says(runglaet_read_valuation(pair, sizeof pair, 1, NULL, 0, words, 24), 27, 0));
+    expect("reader, no entries: 16, place 4",
+           says(runglaet_read_valuation(pair, sizeof pair, 1, text, sizeof text - 1, NULL, 0), 16, 4));
+    expect("reader, neither: 16, place 4", says(runglaet_read_valuation(pair, sizeof pair, 1, NULL, 0, NULL, 0), 16, 4));
+    expect("reader, nothing: 1, place 0", says(runglaet_read_valuation(NULL, 0, 1, NULL, 0, NULL, 0), 1, 0));
+
     expect("the words as they were", memcmp(words, before, sizeof words) == 0);
     expect("the plan's bytes as they were", plan[0] == 200 && plan[1] == 201);
+}
+
+/* The reader's answer for a text, N 4, in a slice of 6 entries: what it writes is 1 -2 -3 4, and nothing beyond. */
+static int reads(const char *text, size_t length, uint32_t number, uint64_t second) {
+    static const int32_t satisfying[4] = {1, -2, -3, 4};
+    int32_t entries[6], before[6];
+    for (int i = 0; i < 6; i++) entries[i] = before[i] = 1000 + i;
+    runglaet_answer answer = runglaet_read_valuation(pair, sizeof pair, 1, (const uint8_t *)text, length, entries, 6);
+    size_t filled = number == 0 ? 4 : 0;
+    return says(answer, number, second) && memcmp(entries, satisfying, filled * sizeof *entries) == 0 &&
+           memcmp(entries + filled, before + filled, (6 - filled) * sizeof *entries) == 0;
+}
+
+#define READS(text, number, second) expect("reader: " text, reads(text, sizeof text - 1, number, second))
+
+static void reader(void) {
+    READS("s SATISFIABLE\nv 1 -2 -3 4 0\n", 0, 4);
+    READS("s SATISFIABLE\nv 1 -2 -3 4 0", 0, 4);
+    READS("c a comment\nv 4 -3\n\ns SATISFIABLE\nc\r\nv 1 -2\nv 0\n", 0, 4);
+    READS("", 27, 0);
+    READS("\n", 27, 1);
+    READS("c\n", 27, 2);
+    READS("s SATISFIABLE\nv 1 -2 -3 4\n", 27, 26);
+    READS("v 1 -2 -3 4 0\n", 27, 14);
+    READS("s SATISFIABLE\nv 1 -2 -3 4 0\nv 0\n", 27, 28);
+    READS("s SATISFIABLE\nv 1 -2 -3 5 0\n", 27, 14);
+    READS("s SATISFIABLE\nv 1 -2 -3 4 -0\n", 27, 14);
+    READS("s SATISFIABLE\nv 1 -2 -3 4 0\r\n", 27, 14);
+    READS("s SATISFIABLE\nv 1 -2 -3 18446744073709551620 0\n", 27, 14);
+    READS("s SATISFIABLE\nv 1 -2 -3 4\0 0\n", 27, 14);
+    READS("s SATISFIABLE\ns SATISFIABLE\nv 1 -2 -3 4 0\n", 27, 14);
+    READS("s UNSATISFIABLE\n", 28, 0);
+    READS("c\ns UNKNOWN\nv 1 1\n", 28, 2);
+    READS("s SATISFIABLE\nv 1 -2 -3 0\n", 29, 4);
+    READS("s SATISFIABLE\nv 1 -2 2 -3 4 0\n", 29, 2);
+
+    /* The longest text, empty lines after the valuation, and one that is longer. */
+    static char longest[RUNGLAET_TEXT_MAX + 1];
+    static const char right[] = "s SATISFIABLE\nv 1 -2 -3 4 0";
+    memset(longest, '\n', sizeof longest);
+    memcpy(longest, right, sizeof right - 1);
+    expect("524,288 bytes are the most", RUNGLAET_TEXT_MAX == 524288);
+    expect("the longest text", reads(longest, RUNGLAET_TEXT_MAX, 0, 4));
+    expect("a longer text", reads(longest, RUNGLAET_TEXT_MAX + 1, 27, 524288));
 }
 
 int main(void) {
@@ -123,6 +177,7 @@ int main(void) {
     static const uint8_t repeated[12] = {3, 2, 2, 0, 0, 0, 1, 1, 0, 1, 1, 2};
     expect("edge 0-1 twice: 7, place 5", says(runglaet_check_plan(repeated, sizeof repeated, 1, follow, 4), 7, 5));
 
+    reader();
     null_pointers();
     printf("c_check: %d answers, %d wrong\n", asked, failures);
     return failures != 0;

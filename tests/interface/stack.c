@@ -8,11 +8,12 @@
 #include <pthread.h>
 #include <stdio.h>
 #include <stdlib.h>
+#include <string.h>
 #include <sys/wait.h>
 #include <unistd.h>
 
-/* What the header promises is enough for any call. */
-#define PROMISED 12288
+/* What the header promises is enough for any call but the reader, and for the reader. */
+enum { PROMISED = 12288, READER_PROMISED = 65536 };
 
 enum { N = 64, K = 16, E = N * (N - 1) / 2, M = 32, ROWS = M + 1 };
 enum { PLAN = ROWS * K, VARIABLES = PLAN * N };
@@ -35,6 +36,49 @@ static int32_t words[WORDS], encoded[VARIABLES];
 enum { PASSES, SWAPS };
 static uint8_t plans[2][PLAN];
 static int32_t valuations[2][VARIABLES];
+
+/* Texts of the valuation of PASSES: v lines of at most 78 bytes, after an s line. ENDS_WRONG: a wrong line follows.
+ * SAYS_UNKNOWN: the s line is another, and comes last. LACKS: without the last variable. LONGEST: empty lines make it as
+ * long as may be, LONGER: by a byte longer. */
+enum { RIGHT, ENDS_WRONG, SAYS_UNKNOWN, LACKS, LONGEST, LONGER, TEXTS };
+static char texts[TEXTS][RUNGLAET_TEXT_MAX + 1];
+static size_t lengths[TEXTS], wrong_line, unknown_line;
+
+static void append(int text, const char *bytes) {
+    size_t length = strlen(bytes);
+    memcpy(texts[text] + lengths[text], bytes, length);
+    lengths[text] += length;
+}
+
+static void print_literals(int text, int count) {
+    size_t column = 0;
+    for (int i = 0; i <= count; i++) {
+        char token[16];
+        size_t length = (size_t)sprintf(token, " %d", (int)(i < count ? valuations[PASSES][i] : 0));
+        if (column == 0 || column + length > 78) {
+            append(text, column == 0 ? "v" : "\nv");
+            column = 1;
+        }
+        append(text, token);
+        column += length;
+    }
+    append(text, "\n");
+}
+
+static void fill_texts(void) {
+    for (int text = 0; text < TEXTS; text++) {
+        if (text != SAYS_UNKNOWN) append(text, "s SATISFIABLE\n");
+        print_literals(text, text == LACKS ? VARIABLES - 1 : VARIABLES);
+    }
+    wrong_line = lengths[ENDS_WRONG];
+    append(ENDS_WRONG, "v 1\n");
+    unknown_line = lengths[SAYS_UNKNOWN];
+    append(SAYS_UNKNOWN, "s UNKNOWN");
+    for (int text = LONGEST; text <= LONGER; text++) {
+        memset(texts[text] + lengths[text], '\n', sizeof texts[text] - lengths[text]);
+        lengths[text] = RUNGLAET_TEXT_MAX + (text == LONGER);
+    }
+}
 
 static void fill(void) {
     instance[0] = N;
@@ -60,10 +104,10 @@ static void fill(void) {
         for (int i = 0; i < VARIABLES; i++) valuations[p][i] = plans[p][i / N] == i % N ? i + 1 : -(i + 1);
 }
 
-typedef enum { WRITER, CLAUSE, CHECK, DECODER, ENCODER } call;
+typedef enum { WRITER, CLAUSE, CHECK, DECODER, ENCODER, READER } call;
 
-/* One call: which one, with which horizon, plan or clause number and length of its last slice, and the answer that it
- * must give. */
+/* One call: which one, with which horizon, plan, text or clause number and length of its last slice, and the answer that
+ * it must give. */
 typedef struct {
     call which;
     const char *what;
@@ -88,6 +132,10 @@ static runglaet_written make(const run *r) {
         break;
     case ENCODER:
         answer = runglaet_encode(instance, sizeof instance, r->horizon, plan, PLAN, encoded, r->length);
+        break;
+    case READER:
+        answer = runglaet_read_valuation(instance, sizeof instance, r->horizon, (const uint8_t *)texts[r->chosen],
+                                         lengths[r->chosen], encoded, r->length);
         break;
     }
     return (runglaet_written){answer.number, answer.second, 0};
@@ -168,7 +216,9 @@ static size_t measured(const run *r) {
 }
 
 int main(void) {
-    static const run runs[] = {
+    fill();
+    fill_texts();
+    const run runs[] = {
         {WRITER, "writer, accepted", M, 0, WORDS, 0, WORDS},
         {WRITER, "writer, slice too short", M, 0, WORDS - 1, 12, WORDS},
         {WRITER, "writer, horizon 33", M + 1, 0, WORDS, 10, 0},
@@ -190,13 +240,21 @@ int main(void) {
         {ENCODER, "encoder, accepted", M, PASSES, VARIABLES, 0, VARIABLES},
         {ENCODER, "encoder, exchange in the last step", M, SWAPS, VARIABLES, 25, M * K + K - 2},
         {ENCODER, "encoder, slice too short", M, PASSES, VARIABLES - 1, 16, VARIABLES},
+        {READER, "reader, accepted", M, RIGHT, VARIABLES, 0, VARIABLES},
+        {READER, "reader, slice too short", M, RIGHT, VARIABLES - 1, 16, VARIABLES},
+        {READER, "reader, wrong line at the end", M, ENDS_WRONG, VARIABLES, 27, wrong_line},
+        {READER, "reader, s line says otherwise", M, SAYS_UNKNOWN, VARIABLES, 28, unknown_line},
+        {READER, "reader, last variable missing", M, LACKS, VARIABLES, 29, VARIABLES},
+        {READER, "reader, longest text", M, LONGEST, VARIABLES, 0, VARIABLES},
+        {READER, "reader, text too long", M, LONGER, VARIABLES, 27, RUNGLAET_TEXT_MAX},
     };
-    size_t most = 0;
-    fill();
+    size_t most = 0, reader = 0;
     for (size_t i = 0; i < sizeof runs / sizeof *runs; i++) {
-        size_t bytes = measured(&runs[i]);
-        if (bytes > most) most = bytes;
+        size_t bytes = measured(&runs[i]), *counted = runs[i].which == READER ? &reader : &most;
+        if (bytes > *counted) *counted = bytes;
     }
     printf("stack: at most %zu bytes, promised are %d%s\n", most, PROMISED, most > PROMISED ? ": TOO MANY" : "");
-    return most > PROMISED;
+    printf("stack: reader at most %zu bytes, promised are %d%s\n", reader, READER_PROMISED,
+           reader > READER_PROMISED ? ": TOO MANY" : "");
+    return most > PROMISED || reader > READER_PROMISED;
 }

@@ -8,10 +8,12 @@ use Rattle.formula.specs.Formula.{A, B, C, D, E, F, G, clauses, words}
 use Rattle.plan.specs.Plan.{condition1, condition2, condition3, occupantLeaves, cost}
 use Rattle.valuation.specs.Valuation.{true?, named, namedPlan, planValuation}
 use Rattle.instance.specs.Questions.{instanceQuestions}
+use Rattle.solver_text.specs.Text.{ahead, behind, token?, value, kind}
+use Rattle.solver_text.specs.Form.{status?, satisfiable?, closing?, complete?, offset, rightLine, statusPlace, literalsOf, times, inOrder}
 use Rattle.calls.specs.Questions.{occupiedNumber}
-use Rattle.calls.specs.Calls.{planQuestions, writeAnswer, writeSlice, clauseAnswer, clauseSlice, checkAnswer, decodeAnswer, decodeSlice, encodeAnswer, encodeSlice}
+use Rattle.calls.specs.Calls.{planQuestions, writeAnswer, writeSlice, clauseAnswer, clauseSlice, checkAnswer, decodeAnswer, decodeSlice, encodeAnswer, encodeSlice, textQuestions, readAnswer, readSlice}
 use Rattle.claims.specs.Examples.{Claim}
 
 pub examples : Claim
-unfolding filled ask askEach decide lent withClauses instance adjacent index A B C D E F G clauses words condition1 condition2 condition3 occupantLeaves cost true? named namedPlan planValuation instanceQuestions occupiedNumber planQuestions writeAnswer writeSlice clauseAnswer clauseSlice checkAnswer decodeAnswer decodeSlice encodeAnswer encodeSlice
+unfolding filled ask askEach decide lent withClauses instance adjacent index A B C D E F G clauses words condition1 condition2 condition3 occupantLeaves cost true? named namedPlan planValuation instanceQuestions occupiedNumber planQuestions writeAnswer writeSlice clauseAnswer clauseSlice checkAnswer decodeAnswer decodeSlice encodeAnswer encodeSlice ahead behind token? value kind status? satisfiable? closing? complete? offset rightLine statusPlace literalsOf times inOrder textQuestions readAnswer readSlice
 examples = refl

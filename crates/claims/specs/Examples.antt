@@ -8,7 +8,8 @@ use lib.IntN.{ℤ, pos, negℤ}
 use Rattle.answers.specs.declared.Answer.{Answer}
 use Rattle.answers.specs.declared.Written.{Written}
 use Rattle.answers.specs.Answers.{accept, refuse}
-use Rattle.calls.specs.Calls.{writeAnswer, writeSlice, clauseAnswer, clauseSlice, checkAnswer, decodeAnswer, decodeSlice, encodeAnswer, encodeSlice}
+use Rattle.solver_text.specs.Text.{satisfiable, unsatisfiable}
+use Rattle.calls.specs.Calls.{writeAnswer, writeSlice, clauseAnswer, clauseSlice, checkAnswer, decodeAnswer, decodeSlice, encodeAnswer, encodeSlice, readAnswer, readSlice}
 
 -- ---- instances
 -- two vertices, one edge, one agent from s to g; "pair" has s 0 and g 1
@@ -40,6 +41,7 @@ pub data Call : Type 0 where
   check : List ℕ → Call
   decode : List ℤ → List ℕ → Call
   encode : List ℕ → List ℤ → Call
+  read : List ℕ → List ℤ → Call
 
 pub data Seen : Type 0 where
   words : Written → List ℤ → Seen
@@ -54,6 +56,7 @@ run b m (clause c s) = line (clauseAnswer b m c (length s)) (clauseSlice b m c s
 run b m (check p) = answer (checkAnswer b m p)
 run b m (decode entries s) = plan (decodeAnswer b m entries (length s)) (decodeSlice b m entries s)
 run b m (encode p s) = valuation (encodeAnswer b m p (length s)) (encodeSlice b m p s)
+run b m (read text s) = valuation (readAnswer b m text (length s)) (readSlice b m text s)
 
 pub record Example : Type 0 where
   pub bytes : List ℕ
@@ -121,6 +124,21 @@ exchangeWords =
     ∷ neg 2 ∷ neg 8 ∷ pos 0
     ∷ []
 
+-- ---- lines of a solver's text, each with its line end
+-- "v 4 -2" and "v 1 -3 0"
+abbrev firstLine : List ℕ
+firstLine = 118 ∷ 32 ∷ 52 ∷ 32 ∷ 45 ∷ 50 ∷ 10 ∷ []
+
+abbrev lastLine : List ℕ
+lastLine = 118 ∷ 32 ∷ 49 ∷ 32 ∷ 45 ∷ 51 ∷ 32 ∷ 48 ∷ 10 ∷ []
+
+-- "v -0" and "v 0 1"
+abbrev minusZero : List ℕ
+minusZero = 118 ∷ 32 ∷ 45 ∷ 48 ∷ 10 ∷ []
+
+abbrev zeroFirst : List ℕ
+zeroFirst = 118 ∷ 32 ∷ 48 ∷ 32 ∷ 49 ∷ 10 ∷ []
+
 abbrev pub table : List Example
 table =
     -- the pair's eight clauses, 24 words: a slice of 24 is filled, one of 26 keeps its last two words, one of 23 is refused
@@ -139,6 +157,24 @@ table =
     ∷ example pair 1 (decode (pos 1 ∷ neg 2 ∷ neg 4 ∷ pos 3 ∷ []) lentPlan) (plan (refuse 23 2) lentPlan)
     -- the lowest 32-bit number is a wrong entry like any other
     ∷ example pair 1 (decode (pos 1 ∷ neg 2 ∷ neg 2147483648 ∷ pos 4 ∷ []) lentPlan) (plan (refuse 23 2) lentPlan)
+    -- what a solver prints for the pair, the s line first or last, which may lack its line end
+    ∷ example pair 1 (read (satisfiable ++ 10 ∷ firstLine ++ lastLine) (sevens 5)) (valuation (accept 4) (pos 1 ∷ neg 2 ∷ neg 3 ∷ pos 4 ∷ pos 7 ∷ []))
+    ∷ example pair 1 (read (firstLine ++ lastLine ++ satisfiable) (sevens 4)) (valuation (accept 4) (pos 1 ∷ neg 2 ∷ neg 3 ∷ pos 4 ∷ []))
+    ∷ example pair 1 (read (firstLine ++ lastLine ++ satisfiable) (sevens 3)) (valuation (refuse 16 4) (sevens 3))
+    -- wrong lines: -0, a token after the 0, a v line after the 0, a second s line
+    ∷ example pair 1 (read (firstLine ++ minusZero ++ satisfiable) (sevens 4)) (valuation (refuse 27 7) (sevens 4))
+    ∷ example pair 1 (read (zeroFirst ++ satisfiable) (sevens 4)) (valuation (refuse 27 0) (sevens 4))
+    ∷ example pair 1 (read (lastLine ++ firstLine ++ satisfiable) (sevens 4)) (valuation (refuse 27 9) (sevens 4))
+    ∷ example pair 1 (read (satisfiable ++ 10 ∷ satisfiable) (sevens 4)) (valuation (refuse 27 14) (sevens 4))
+    -- the s line or the 0 is missing
+    ∷ example pair 1 (read [] (sevens 4)) (valuation (refuse 27 0) (sevens 4))
+    ∷ example pair 1 (read (firstLine ++ lastLine) (sevens 4)) (valuation (refuse 27 16) (sevens 4))
+    ∷ example pair 1 (read (satisfiable ++ 10 ∷ firstLine) (sevens 4)) (valuation (refuse 27 21) (sevens 4))
+    -- the s line is not SATISFIABLE, which needs no 0
+    ∷ example pair 1 (read (firstLine ++ unsatisfiable) (sevens 4)) (valuation (refuse 28 7) (sevens 4))
+    -- variable 2 is missing; variable 1 is given twice
+    ∷ example pair 1 (read (lastLine ++ satisfiable) (sevens 4)) (valuation (refuse 29 2) (sevens 4))
+    ∷ example pair 1 (read (118 ∷ 32 ∷ 45 ∷ 49 ∷ 10 ∷ firstLine ++ lastLine ++ satisfiable) (sevens 4)) (valuation (refuse 29 1) (sevens 4))
     -- two agents exchange the ends of an edge; their formula has 24 clauses, 72 words
     ∷ example exchange 1 (check (0 ∷ 1 ∷ 1 ∷ 0 ∷ [])) (answer (refuse 25 2))
     ∷ example exchange 1 (encode (0 ∷ 1 ∷ 1 ∷ 0 ∷ []) (sevens 8)) (valuation (refuse 25 2) (sevens 8))

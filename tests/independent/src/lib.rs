@@ -1,18 +1,20 @@
 //! A second, independent program for shuttle formulas, valuations and plans.
 //!
-//! The five calls and `check_instance` work on raw bytes and never panic.
+//! The six calls and `check_instance` work on raw bytes and never panic.
 //! `plain` generates the clauses slowly, `questions` asks one question at a
-//! time, `sample` and `parts` make test inputs and `text` prints a formula as
-//! DIMACS CNF.
+//! time, `sample`, `parts` and `output` make test inputs and `text` prints a
+//! formula as DIMACS CNF.
 
 #![forbid(unsafe_code)]
 
 mod formula;
 mod instance;
+pub mod output;
 pub mod parts;
 pub mod plain;
 mod plan;
 pub mod questions;
+mod reader;
 pub mod sample;
 pub mod text;
 mod valuation;
@@ -23,6 +25,7 @@ mod tests;
 pub use formula::{clause, write_formula, write_formula_searching};
 pub use instance::check_instance;
 pub use plan::check_plan;
+pub use reader::{read_valuation, LONGEST_TEXT};
 pub use valuation::{decode, encode};
 
 /// `number` 0: accepted, `second` is the count. Otherwise `number` tells which

@@ -1,5 +1,5 @@
 //! The clause table as nested loops, slow on purpose, and the literal meaning
-//! of satisfaction and of passing. Shares no code with the five calls.
+//! of satisfaction and of passing. Shares no code with the six calls.
 //! Instances and plans given here must be of the right form.
 
 #![allow(clippy::needless_range_loop)]

@@ -1,7 +1,8 @@
 //! Each question by itself, whatever the others answer. Shares no code with
-//! the five calls.
+//! the six calls.
 
 use crate::plain;
+use std::collections::BTreeMap;
 
 /// What a call is handed; what it has none of is empty, 0 or none.
 pub struct Handed<'a> {
@@ -11,6 +12,8 @@ pub struct Handed<'a> {
     pub clause: Option<u64>,
     pub plan: &'a [u8],
     pub entries: &'a [i32],
+    /// A solver's output.
+    pub text: &'a [u8],
     /// Elements of the lent slice.
     pub lent: usize,
 }
@@ -19,11 +22,11 @@ pub struct Handed<'a> {
 pub type Item = (u32, u64);
 
 /// All numbers, 0 for accepted included, are below this one.
-pub const NUMBERS: usize = 27;
+pub const NUMBERS: usize = 30;
 
 /// The numbers that each call can give beside 0, in the order asked: the writer,
-/// one clause, the plan check, the decoder and the encoder.
-pub const ASKED: [&[u32]; 5] = [
+/// one clause, the plan check, the decoder, the encoder and the reader.
+pub const ASKED: [&[u32]; 6] = [
     &[1, 2, 3, 4, 5, 6, 7, 8, 9, 10, 12],
     &[1, 2, 3, 4, 5, 6, 7, 8, 9, 10, 11, 12],
     &[
@@ -33,6 +36,7 @@ pub const ASKED: [&[u32]; 5] = [
     &[
         1, 2, 3, 4, 5, 6, 7, 8, 9, 10, 13, 16, 17, 18, 19, 20, 25, 26, 21, 22,
     ],
+    &[1, 2, 3, 4, 5, 6, 7, 8, 9, 10, 16, 27, 28, 29],
 ];
 
 /// The question whose no gives this number: 20, 25 and 26 are of one.
@@ -71,6 +75,7 @@ fn all_places(number: u32, handed: &Handed) -> Option<Vec<u128>> {
         clause,
         plan,
         entries,
+        text,
         lent,
     } = handed;
     let item = |bytes: &[u8], at: u128| {
@@ -197,6 +202,49 @@ fn all_places(number: u32, handed: &Handed) -> Option<Vec<u128>> {
             });
             numbers.map(|number| number as u128).collect()
         }
+        27..=29 if !accepted(handed) => return None,
+        // The length is tested first, and then no line is asked about.
+        27 if text.len() > 524_288 => vec![524_288],
+        27 => {
+            let highest = variables()?;
+            let lines = lines(text);
+            let first = |holds: &dyn Fn(&[u8]) -> bool| lines.iter().position(|x| holds(x.1));
+            let status = first(&is_status);
+            let zero = first(&|line| printed_numbers(line).is_some_and(|x| x.contains(&0)));
+            let right = |i: usize| match lines[i].1 {
+                line if line.is_empty() || line[0] == b'c' => true,
+                line if is_status(line) => status == Some(i),
+                line => printed_numbers(line).is_some_and(|numbers| {
+                    let (before, last) = (&numbers[..numbers.len() - 1], numbers.last());
+                    last.is_some_and(|x| x.unsigned_abs() <= highest)
+                        && before
+                            .iter()
+                            .all(|x| (1..=highest).contains(&x.unsigned_abs()))
+                        && zero.is_none_or(|zero| i <= zero)
+                }),
+            };
+            let wrong = (0..lines.len()).filter(|&i| !right(i));
+            let mut places: Vec<u128> = wrong.map(|i| lines[i].0).collect();
+            let satisfiable = first(&|line| line == b"s SATISFIABLE").is_some();
+            if status.is_none() || satisfiable && zero.is_none() {
+                places.push(text.len() as u128);
+            }
+            places
+        }
+        28 => {
+            let mut lines = lines(text);
+            lines.retain(|&(_, line)| is_status(line) && line != b"s SATISFIABLE");
+            lines.iter().map(|line| line.0).collect()
+        }
+        29 => {
+            let mut times = BTreeMap::new();
+            let numbers = lines(text).into_iter().map(|line| printed_numbers(line.1));
+            for number in numbers.flatten().flatten() {
+                *times.entry(number.unsigned_abs()).or_insert(0) += 1;
+            }
+            let once = |variable: &u128| times.get(variable) == Some(&1);
+            (1..=variables()?).filter(|x| !once(x)).collect()
+        }
         _ => panic!("there is no number {number}"),
     };
     Some(places)
@@ -213,6 +261,34 @@ fn only(no: bool, place: u128) -> Vec<u128> {
     } else {
         vec![]
     }
+}
+
+/// The lines with their offsets. One begins at offset 0 and after each byte 10,
+/// if a byte is there.
+fn lines(text: &[u8]) -> Vec<(u128, &[u8])> {
+    let begins = (0..text.len()).filter(|&i| i == 0 || text[i - 1] == 10);
+    let line = |i: usize| {
+        let end = (i..text.len()).find(|&j| text[j] == 10);
+        (i as u128, &text[i..end.unwrap_or(text.len())])
+    };
+    begins.map(line).collect()
+}
+
+fn is_status(line: &[u8]) -> bool {
+    let words: [&[u8]; 3] = [b"SATISFIABLE", b"UNSATISFIABLE", b"UNKNOWN"];
+    words
+        .iter()
+        .any(|word| line.strip_prefix(b"s ") == Some(word))
+}
+
+/// The numbers for which a v line stands: read in any way, they must print as
+/// just this line. Numbers beyond 128 bits are beyond all variables too.
+fn printed_numbers(line: &[u8]) -> Option<Vec<i128>> {
+    let words = std::str::from_utf8(line).ok()?.split_whitespace().skip(1);
+    let numbers: Option<Vec<i128>> = words.map(|word| word.parse().ok()).collect();
+    let numbers = numbers.filter(|numbers| !numbers.is_empty())?;
+    let printed: String = numbers.iter().map(|x| format!(" {x}")).collect();
+    (format!("v{printed}").as_bytes() == line).then_some(numbers)
 }
 
 fn clause_counts(n: u128, k: u128, m: u128) -> [u128; 7] {

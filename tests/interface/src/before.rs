@@ -1,7 +1,8 @@
 //! The library beside an earlier one. Both export the same names, so this program is linked with each of them, and the
-//! two run in turn.
+//! two run in turn. For a call that the earlier one has not, absent.c stands in, and its rows are left out.
 
 use crate::{inputs, time, times_within, Input, Table};
+use independent::output::output;
 use interface as library;
 use interface::input::{valuation, Parts};
 use std::fmt::Debug;
@@ -22,16 +23,21 @@ const CALL_TIME: Duration = Duration::from_millis(30);
 pub const ANSWER: &str = "--answer";
 pub const TIME: &str = "--time";
 
+/// The number that absent.c answers, and what a program prints then.
+const ABSENT: u32 = u32::MAX;
+const NO_CALL: &str = "no such call";
+
 /// Prints what is seen of a call.
 type Print = fn(&Row);
 
 /// The calls, in the order of the table.
-const CALLS: [(&str, Print); 6] = [
+const CALLS: [(&str, Print); 7] = [
     ("writer", writer),
     ("instance check", instance_check),
     ("plan check", plan_check),
     ("decoder", decoder),
     ("encoder", encoder),
+    ("reader", reader),
     ("one clause F", clause),
 ];
 
@@ -107,6 +113,18 @@ fn encoder(row: &Row) {
     });
 }
 
+fn reader(row: &Row) {
+    let (instance, m, plan) = (&row.input.instance[..], row.input.m, &row.input.plan[..]);
+    let entries = valuation(usize::from(instance[0]), plan);
+    let text = output(&entries, 78);
+    if library::read_valuation(instance, m, &text, &mut []).number == ABSENT {
+        return println!("{NO_CALL}");
+    }
+    row.print(vec![0; entries.len()], |entries| {
+        library::read_valuation(black_box(instance), m, black_box(&text), entries)
+    });
+}
+
 /// The middle and the last clause of family F, a line for each.
 fn clause(row: &Row) {
     let (instance, m) = (&row.input.instance[..], row.input.m);
@@ -135,36 +153,54 @@ fn seen(program: &Path, asked: &str, call: &str, instance: &str) -> Vec<String> 
     text.lines().map(String::from).collect()
 }
 
-/// Every call with the name of every instance.
-fn rows() -> impl Iterator<Item = (&'static str, &'static str)> {
+/// A call and the name of an instance.
+type Names = (&'static str, &'static str);
+
+/// Every call with every instance.
+fn rows() -> impl Iterator<Item = Names> {
     let names = inputs().map(|input| input.name);
     CALLS
         .into_iter()
         .flat_map(move |(call, _)| names.map(|name| (call, name)))
 }
 
-/// Ends the benchmark if the program with the earlier library gives another answer or leaves other words.
-pub fn agree(now: &Path, before: &Path) {
+/// Ends the benchmark if the program with the earlier library gives another answer or leaves other words. Gives the rows
+/// of the calls that the earlier library has.
+pub fn agree(now: &Path, before: &Path) -> Vec<Names> {
+    let mut had = Vec::new();
     for (call, instance) in rows() {
         let [now, before] = [now, before].map(|program| seen(program, ANSWER, call, instance));
+        if before == [NO_CALL] {
+            continue;
+        }
         if now != before {
             eprintln!("the earlier library does otherwise: {call}, {instance}");
             eprintln!("now {now:?}, before {before:?}");
             exit(1);
         }
+        had.push((call, instance));
     }
+    had
 }
 
-/// The second table.
-pub fn compare(now: &Path, before: &Path) {
-    println!("\nThe earlier library gave the same answers and words. The best of {TURNS} turns:\n");
+/// The second table, of these rows.
+pub fn compare(now: &Path, before: &Path, had: &[Names]) {
+    let absent = CALLS
+        .iter()
+        .filter(|call| had.iter().all(|row| row.0 != call.0));
+    let absent: String = absent
+        .map(|call| format!("; it has no {}", call.0))
+        .collect();
+    println!(
+        "\nThe earlier library gave the same answers and words{absent}. The best of {TURNS} turns:\n"
+    );
     println!(
         "{:<14} {:<8} {:>9} {:>9} {:>6} {:>6}",
         "call", "instance", "now", "before", "ratio", "target"
     );
     let mut table = Table::default();
     let mut targets = 0;
-    for (call, instance) in rows() {
+    for &(call, instance) in had {
         // Of both clauses of family F the one that is dearer now.
         let best = best_times([now, before], call, instance);
         let dearer = best.into_iter().max_by(|x, y| x[0].total_cmp(&y[0]));

@@ -45,28 +45,26 @@ kinds! {
 
     PlanWord: "a word of the plan is not a whole number from 0 to 255",
     RefusalWord: "the number and the place of a refusal must be whole numbers",
-
-    NoVerdict: "the solver's output has no verdict, neither a line such as \"s SATISFIABLE\" nor minisat's \"SAT\"",
-    CutVerdict: "the verdict in the solver's output is cut short",
-    UnknownVerdict: "the solver's verdict is none of those that solvers give",
-    SecondVerdict: "a second verdict stands in the solver's output",
-    NotLiteral: "a word of the solver's valuation is not a literal",
-    AfterClosing: "a literal stands after the closing 0 of the valuation",
-    Contradiction: "a variable and its negative are both in the valuation",
-    NoClosing: "the solver's valuation has no closing 0, it may be cut short",
-    GaveUp: "the solver gave up, so it is not known if there is a plan",
 }
 
-/// A word or a line as it was given, in quotes; of a long one the beginning.
-pub fn quoted(text: &str) -> String {
+/// A word or a line as it was given, in quotes; of a long one the beginning. A byte that is no text is shown as a number.
+pub fn quoted(given: impl AsRef<[u8]>) -> String {
     const LONGEST: usize = 60;
-    let beginning: String = text.chars().take(LONGEST).collect();
-    let more = if beginning.len() < text.len() {
+    let mut shown = given.as_ref().utf8_chunks().flat_map(|chunk| {
+        let text = chunk.valid().chars().map(|c| match c {
+            '\'' => c.to_string(),
+            _ => c.escape_debug().to_string(),
+        });
+        let other = chunk.invalid().iter();
+        text.chain(other.map(|byte| format!("\\x{byte:02x}")))
+    });
+    let beginning: String = shown.by_ref().take(LONGEST).collect();
+    let more = if shown.next().is_some() {
         " and more"
     } else {
         ""
     };
-    format!("{beginning:?}{more}")
+    format!("\"{beginning}\"{more}")
 }
 
 #[derive(Debug, PartialEq, Eq)]
@@ -114,5 +112,24 @@ impl fmt::Display for Error {
             write!(f, ": {more}")?;
         }
         Ok(())
+    }
+}
+
+#[cfg(test)]
+mod tests {
+    use super::*;
+
+    #[test]
+    fn quotes() {
+        assert_eq!(quoted(""), r#""""#);
+        assert_eq!(quoted("it's \"é\"\t\\\0\r"), r#""it's \"é\"\t\\\0\r""#);
+        assert_eq!(quoted(b"\xff\xc3\xa9\xc3"), r#""\xffé\xc3""#);
+        let sixty = "é".repeat(60);
+        assert_eq!(quoted(&sixty), format!("{sixty:?}"));
+        assert_eq!(quoted(sixty.clone() + "\n"), format!("{sixty:?} and more"));
+        assert_eq!(
+            quoted([0xfe; 61]),
+            format!("\"{}\" and more", "\\xfe".repeat(60))
+        );
     }
 }

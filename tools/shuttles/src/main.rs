@@ -7,7 +7,8 @@ mod horizon;
 mod map;
 mod places;
 mod refusals;
-mod solver_output;
+mod solver_form;
+mod solver_lines;
 mod streams;
 #[cfg(test)]
 mod words;
@@ -17,7 +18,6 @@ use horizon::Horizon;
 use map::Map;
 use places::Subject;
 use runglaet::Answer;
-use solver_output::Verdict;
 use std::io::{Read, Write};
 use std::process::ExitCode;
 
@@ -33,6 +33,8 @@ shuttles refusal NUMBER PLACE [INSTANCE [M]]   plain words for a refusal
 INSTANCE is a file of instance bytes, or a description: a file that is text throughout is a description.
 A PLAN is numbers, row by row: the vertex of each agent at time 0, then at time 1, and so on.
 PLAN - reads the numbers from standard input. `decode --numbers` writes a plan in this form.
+OUTPUT is the text of the SAT competitions, as cadical, kissat and picosat print it. Minisat's result file and what
+cryptominisat prints are brought into that form first, and a note on standard error says so.
 
 Exit status: 0 done; 1 refused by the library; 2 anything else that went wrong; 3 no plan of makespan M.
 ";
@@ -77,7 +79,7 @@ fn run(words: &[&str]) -> Outcome {
             refusal(number, place, subject)
         }
         ["help" | "--help" | "-h"] => said(USAGE.to_string(), DONE),
-        _ => Err(Kind::Usage.with(format_args!("{}\n{USAGE}", quoted(&words.join(" "))))),
+        _ => Err(Kind::Usage.with(format_args!("{}\n{USAGE}", quoted(words.join(" "))))),
     }
 }
 
@@ -116,52 +118,45 @@ fn input(instance: &str, horizon: &str) -> Outcome {
 
 fn decode(instance: &str, horizon: &str, numbers: bool) -> Outcome {
     let (map, horizon) = (map::read(instance)?, Horizon::read(horizon));
-    // A verdict is about an instance only where the library accepts it.
-    let answer = instance_answer(&map, &horizon);
+    let given = standard_input()?;
+    let (text, note) = solver_form::brought(&given);
+    if let Some(note) = note {
+        complain(&note);
+    }
+    let mut entries = vec![0; map.variables(&horizon)];
+    let answer = runglaet::read_valuation(&map.bytes, horizon.value, &text, &mut entries);
+    if answer.number != 0 {
+        return not_read(&map, &horizon, &text, answer);
+    }
+    let mut plan = vec![0; map.plan_bytes(&horizon)];
+    let answer = runglaet::decode(&map.bytes, horizon.value, &entries, &mut plan);
     if answer.number != 0 {
         return refused(answer, about(&map, &horizon));
     }
-    match solver_output::read(&standard_input()?)? {
-        Verdict::Satisfiable { literals, closed } => {
-            let entries = solver_output::entries(&literals, map.variables(&horizon))?;
-            if !closed && entries.len() < map.variables(&horizon) {
-                return Err(Kind::NoClosing.with(format_args!(
-                    "{} of {} variables given",
-                    entries.len(),
-                    map.variables(&horizon)
-                )));
-            }
-            if !closed {
-                complain(&Kind::NoClosing.alone());
-            }
-            decode_entries(&map, &horizon, &entries, numbers)
-        }
-        Verdict::Unsatisfiable => said(format!("no plan of makespan {}\n", horizon.word), NO_PLAN),
-        Verdict::Unknown => Err(Kind::GaveUp.alone()),
-    }
-}
-
-fn decode_entries(map: &Map, horizon: &Horizon, entries: &[i32], numbers: bool) -> Outcome {
-    let mut plan = vec![0; map.plan_bytes(horizon)];
-    let answer = runglaet::decode(&map.bytes, horizon.value, entries, &mut plan);
-    if answer.number != 0 {
-        let entries = Some(entries);
-        return refused(
-            answer,
-            Subject {
-                entries,
-                ..about(map, horizon)
-            },
-        );
-    }
     let answer = runglaet::check_plan(&map.bytes, horizon.value, &plan);
     if answer.number != 0 {
-        return refused(answer, about_plan(map, horizon, &plan));
+        return refused(answer, about_plan(&map, &horizon, &plan));
     }
     if numbers {
-        return said(numbers_of(map, &plan), DONE);
+        return said(numbers_of(&map, &plan), DONE);
     }
-    said(shown(map, &plan) + &passed(horizon, answer), DONE)
+    said(shown(&map, &plan) + &passed(&horizon, answer), DONE)
+}
+
+/// A refused text; that there is no plan is an answer all the same.
+fn not_read(map: &Map, horizon: &Horizon, text: &[u8], answer: Answer) -> Outcome {
+    let place = answer.second as usize;
+    if answer.number == refusals::VERDICT && solver_lines::is_unsatisfiable(text, place) {
+        return said(format!("no plan of makespan {}\n", horizon.word), NO_PLAN);
+    }
+    let text = Some(text);
+    refused(
+        answer,
+        Subject {
+            text,
+            ..about(map, horizon)
+        },
+    )
 }
 
 fn encode(instance: &str, horizon: &str, plan: &[&str]) -> Outcome {
@@ -269,7 +264,7 @@ fn numbers_of(map: &Map, plan: &[u8]) -> String {
     text
 }
 
-fn standard_input() -> Result<String, Error> {
+fn standard_input() -> Result<Vec<u8>, Error> {
     if !streams::input_was_open() {
         return Err(Kind::Input.with("it is closed"));
     }
@@ -277,8 +272,7 @@ fn standard_input() -> Result<String, Error> {
     std::io::stdin()
         .read_to_end(&mut bytes)
         .map_err(|error| Kind::Input.with(error))?;
-    map::marked(&bytes)?;
-    Ok(String::from_utf8_lossy(&bytes).into_owned())
+    Ok(bytes)
 }
 
 fn whole<Number: std::str::FromStr>(word: &str) -> Result<Number, Error> {
@@ -288,7 +282,11 @@ fn whole<Number: std::str::FromStr>(word: &str) -> Result<Number, Error> {
 
 fn plan_of(words: &[&str]) -> Result<Vec<u8>, Error> {
     let text = match words {
-        ["-"] => standard_input()?,
+        ["-"] => {
+            let bytes = standard_input()?;
+            map::marked(&bytes)?;
+            String::from_utf8_lossy(&bytes).into_owned()
+        }
         _ => words.join(" "),
     };
     (1..)

@@ -4,6 +4,7 @@ use crate::clause;
 use crate::errors::quoted;
 use crate::horizon::Horizon;
 use crate::map::Map;
+use crate::solver_lines;
 use std::cmp::Ordering;
 
 /// What was refused, as far as it is known.
@@ -12,7 +13,8 @@ pub struct Subject<'a> {
     pub map: Option<&'a Map>,
     pub horizon: Option<&'a Horizon>,
     pub plan: Option<&'a [u8]>,
-    pub entries: Option<&'a [i32]>,
+    /// What a solver printed, in the form that the library reads.
+    pub text: Option<&'a [u8]>,
 }
 
 /// A place in the reader's terms.
@@ -315,21 +317,40 @@ pub fn shared(subject: Subject, place: usize) -> Option<String> {
 
 // The valuation
 
-pub fn entry(subject: Subject, place: usize) -> Option<String> {
-    let map = subject.map?;
-    let number = place.checked_add(1)?;
+/// What a variable says: `agent 0 (line 3) at vertex 1 at time 0`.
+fn meaning(map: &Map, number: usize) -> Option<String> {
     let x = clause::variable(map, number)?;
     let (agent, vertex, time) = (map.agent(x.agent), x.vertex, x.time);
-    let given = match subject.entries.and_then(|entries| entries.get(place)) {
-        Some(0) => "; the solver left it out".to_string(),
-        Some(given) => format!("; {given} stands there"),
-        None => String::new(),
-    };
+    Some(format!("{agent} at vertex {vertex} at time {time}"))
+}
+
+pub fn entry(subject: Subject, place: usize) -> Option<String> {
+    let number = place.checked_add(1)?;
+    let meaning = meaning(subject.map?, number)?;
     Some(format!(
-        "entry {place} must be {number} or -{number}, for {agent} at vertex {vertex} at time {time}{given}"
+        "entry {place} must be {number} or -{number}, for {meaning}"
     ))
 }
 
 pub fn falsified(subject: Subject, place: usize) -> Option<String> {
     clause::told(subject.map?, subject.horizon?, place as u64)
+}
+
+// The solver's text
+
+pub fn text_form(subject: Subject, place: usize) -> Option<String> {
+    let variables = subject.map?.variables(subject.horizon?);
+    solver_lines::fault(subject.text?, place, variables)
+}
+
+pub fn verdict(subject: Subject, place: usize) -> Option<String> {
+    solver_lines::verdict(subject.text?, place)
+}
+
+pub fn variable_given(subject: Subject, number: usize) -> Option<String> {
+    let meaning = meaning(subject.map?, number)?;
+    let given = subject.text.map_or(String::new(), |text| {
+        format!(", {}", solver_lines::given(text, number))
+    });
+    Some(format!("variable {number}, for {meaning}{given}"))
 }

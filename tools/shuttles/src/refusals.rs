@@ -35,7 +35,13 @@ pub const REFUSALS: &[(u32, &str, &str, Terms)] = &[
     (24, "the valuation makes a clause false, which does not mean that there is no plan", "a clause", places::falsified),
     (25, "two agents meet head-on: they exchange vertices in one step", "a byte of the plan", places::occupied),
     (26, "an agent closes up: it enters a vertex that another leaves in the same step", "a byte of the plan", places::occupied),
+    (27, "the solver's text is not of the form that is read", "a byte of the text", places::text_form),
+    (28, "the solver's verdict is not SATISFIABLE", "a byte of the text", places::verdict),
+    (29, "a variable is missing from the solver's text, or is there more than once", "a variable", places::variable_given),
 ];
+
+/// The refusal of a verdict, which may say that there is no plan.
+pub const VERDICT: u32 = 28;
 
 pub fn describe(answer: Answer, subject: Subject) -> String {
     let Answer { number, second } = answer;
@@ -132,17 +138,39 @@ mod tests {
     fn valuations() {
         let map = description::map("vertices 2\nedge 0 1\nagent 0 1").unwrap();
         let horizon = Horizon::read("1");
+        let subject = Subject {
+            map: Some(&map),
+            horizon: Some(&horizon),
+            ..Subject::default()
+        };
         for (entries, expected) in [
             (&[1, -2, -3][..], "refused 14: the valuation must have one entry for each variable: 3 entries given, 1 agent on 2 vertices at times 0 to 1 need 4 (place 3)"),
-            (&[1, -2, -4, 3], "refused 23: an entry of the valuation is neither its variable nor its negative: entry 2 must be 3 or -3, for agent 0 (line 3) at vertex 0 at time 1; -4 stands there (place 2)"),
-            (&[1, 0, -3, 4], "refused 23: an entry of the valuation is neither its variable nor its negative: entry 1 must be 2 or -2, for agent 0 (line 3) at vertex 1 at time 0; the solver left it out (place 1)"),
+            (&[1, -2, -4, 3], "refused 23: an entry of the valuation is neither its variable nor its negative: entry 2 must be 3 or -3, for agent 0 (line 3) at vertex 0 at time 1 (place 2)"),
             (&[1, -2, 3, 4], "refused 24: the valuation makes a clause false, which does not mean that there is no plan: clause 5 of family D (no agent is at two vertices at one time), for agent 0 (line 3) at vertices 0 and 1 at time 1 (place 5)"),
         ] {
             let answer = runglaet::decode(&map.bytes, 1, entries, &mut [0; 2]);
+            assert_eq!(describe(answer, subject), expected);
+        }
+    }
+
+    #[rustfmt::skip] // a line a refusal
+    #[test]
+    fn solvers_texts() {
+        let map = description::map("vertices 2\nedge 0 1\nagent 0 1").unwrap();
+        let horizon = Horizon::read("1");
+        for (text, expected) in [
+            ("s SATISFIABLE\nv 1 -2\r\n", "refused 27: the solver's text is not of the form that is read: line 2: a carriage return stands at its end: \"v 1 -2\\r\" (place 14)"),
+            ("s SATISFIABLE\nv 1 -2\n", "refused 27: the solver's text is not of the form that is read: the closing 0 is missing, the text was probably cut short: 2 of 4 literals are there (place 21)"),
+            ("c\ns UNSATISFIABLE\n", "refused 28: the solver's verdict is not SATISFIABLE: line 2: there is no plan of this makespan: \"s UNSATISFIABLE\" (place 2)"),
+            ("s UNKNOWN", "refused 28: the solver's verdict is not SATISFIABLE: line 1: the solver gave up, so there may be a plan or none: \"s UNKNOWN\" (place 0)"),
+            ("s SATISFIABLE\nv 1 -2 4 0\n", "refused 29: a variable is missing from the solver's text, or is there more than once: variable 3, for agent 0 (line 3) at vertex 0 at time 1, is missing (place 3)"),
+            ("s SATISFIABLE\nv 1 -2 -3 4\nv 2 0\n", "refused 29: a variable is missing from the solver's text, or is there more than once: variable 2, for agent 0 (line 3) at vertex 1 at time 0, is there 2 times: -2 in line 2, 2 in line 3 of the text (place 2)"),
+        ] {
+            let answer = runglaet::read_valuation(&map.bytes, 1, text.as_bytes(), &mut [0; 4]);
             let subject = Subject {
                 map: Some(&map),
                 horizon: Some(&horizon),
-                entries: Some(entries),
+                text: Some(text.as_bytes()),
                 ..Subject::default()
             };
             assert_eq!(describe(answer, subject), expected);
@@ -157,6 +185,9 @@ mod tests {
             (20, 5, "refused 20: an agent drives into another that stays where it is: the place is a byte of the plan (place 5)"),
             (25, 5, "refused 25: two agents meet head-on: they exchange vertices in one step: the place is a byte of the plan (place 5)"),
             (26, 5, "refused 26: an agent closes up: it enters a vertex that another leaves in the same step: the place is a byte of the plan (place 5)"),
+            (27, 45, "refused 27: the solver's text is not of the form that is read: the place is a byte of the text (place 45)"),
+            (28, 0, "refused 28: the solver's verdict is not SATISFIABLE: the place is a byte of the text (place 0)"),
+            (29, 3, "refused 29: a variable is missing from the solver's text, or is there more than once: the place is a variable (place 3)"),
             (36, 5, "refused 36: this tool has no words for refusals of this number (place 5)"),
         ] {
             assert_eq!(describe(Answer { number, second }, Subject::default()), expected);

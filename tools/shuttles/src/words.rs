@@ -5,6 +5,7 @@ use crate::errors::Kind;
 use crate::horizon::Horizon;
 use crate::places::Subject;
 use crate::refusals::{describe, REFUSALS};
+use crate::solver_form;
 use runglaet::Answer;
 use std::collections::{HashMap, HashSet};
 
@@ -39,6 +40,19 @@ fn refusals(subjects: &[Subject]) -> Vec<(String, String)> {
     lines
 }
 
+/// Lines of every note, each with its kind.
+fn notes() -> Vec<(String, String)> {
+    let minisat = ["SAT\n1 0\n", "UNSAT\n", "INDET\n"].map(|given| ("minisat", given));
+    let cryptominisat = ["v 1 \n", "v 1 \nv 2 \n", "s INDETERMINATE\n"];
+    let cryptominisat = cryptominisat.map(|given| ("cryptominisat", given));
+    let both = minisat.into_iter().chain(cryptominisat);
+    both.map(|(kind, given)| {
+        let (_, note) = solver_form::brought(given.as_bytes());
+        (kind.to_string(), note.unwrap())
+    })
+    .collect()
+}
+
 #[test]
 fn the_first_forty_characters_tell_the_kind_and_nothing_else() {
     let map = description::map("grid 2 2\nagent 0 3\nagent 9 3").unwrap();
@@ -50,18 +64,19 @@ fn the_first_forty_characters_tell_the_kind_and_nothing_else() {
     };
     let contents = Subject {
         plan: Some(&[0, 3, 1, 1, 1, 9]),
-        entries: Some(&[1, -2, 7, 0, 8, 9]),
+        text: Some(b"s UNKNOWN\nv 2 -2\n"),
         ..sizes
     };
     let mut lines = errors();
     lines.extend(refusals(&[Subject::default(), sizes, contents]));
+    lines.extend(notes());
     let mut kinds = HashMap::new();
     for (kind, line) in &lines {
         assert!(line.chars().count() >= 40, "{line}");
         let beginning: String = line.chars().take(40).collect();
         assert_eq!(kinds.entry(beginning).or_insert(kind), &kind, "{line}");
     }
-    assert_eq!(kinds.len(), Kind::ALL.len() + REFUSALS.len() + 2);
+    assert_eq!(kinds.len(), Kind::ALL.len() + REFUSALS.len() + 2 + 2);
 }
 
 /// Without the number too: behind "refused 25: " there is room for 28.

@@ -2,29 +2,35 @@
 //!
 //! `cases gate DIR` writes DIR/stdin and DIR/stdout, the stored set.
 //! `cases random SEED COUNT DIR` does the same for longer runs, and so do
-//! `small`, `clauses`, `plans` and `valuations`, which take all of some small
-//! set. Each prints a line "kind number times" for each answer that occurs.
+//! `small`, `clauses`, `plans`, `valuations` and `texts`, which take all of some
+//! small set. Each prints a line "kind number times" for each answer that occurs.
 
 #![forbid(unsafe_code)]
 
+use independent::output::{damaged, output, padded, some_output, some_text, some_valuation};
+use independent::output::{worked, SHORT_LINES};
 use independent::parts::{enter_occupied, Parts};
 use independent::questions::{failing, question, Handed, Item, ASKED, NUMBERS};
 use independent::sample::{all_edges, instance_bytes, largest_instance, refused_twice, Generator};
-use independent::{check_plan, clause, decode, encode, plain, write_formula};
+use independent::LONGEST_TEXT;
+use independent::{check_plan, clause, decode, encode, plain, read_valuation, write_formula};
 use std::collections::BTreeSet;
 use std::fmt::Write;
-use std::{env, fs, process};
+use std::{env, fs, process, slice};
 
 const WRITER: u8 = 1;
 const CLAUSE: u8 = 2;
 const PLAN: u8 = 3;
 const DECODER: u8 = 4;
 const ENCODER: u8 = 5;
+const READER: u8 = 6;
 
 /// What the program's arrays hold.
 const WORDS: usize = 65_536;
 const PLAN_BYTES: usize = 1_024;
 const ENTRIES: usize = 40_000;
+/// What it holds of an instance and a payload.
+const INPUT: usize = 540_672;
 
 /// The numbers that a kind can give beside 0, in the order asked.
 fn asked(kind: u8) -> &'static [u32] {
@@ -93,7 +99,7 @@ struct Cases {
     random: Generator,
     input: Vec<u8>,
     output: String,
-    times: [[usize; NUMBERS]; 6],
+    times: [[usize; NUMBERS]; 7],
     /// Kinds, with the numbers of two items that failed at once in a case that
     /// says so. Items that go step by step are of one step.
     twice: BTreeSet<(u8, u32, u32)>,
@@ -111,6 +117,7 @@ impl Cases {
         payload: &[u8],
         lent: usize,
     ) -> Option<Item> {
+        assert!(given.instance.len() + payload.len() <= INPUT);
         self.input.push(kind);
         self.input.extend(given.m.to_le_bytes());
         self.input.extend(number.to_le_bytes());
@@ -160,8 +167,12 @@ impl Cases {
                 hashed = Some(hash(plan.iter().map(|&x| u64::from(x))));
                 (r.number, r.second)
             }
-            _ => {
+            ENCODER => {
                 let r = encode(b, m, payload, &mut words);
+                (r.number, r.second)
+            }
+            _ => {
+                let r = read_valuation(b, m, payload, &mut words);
                 (r.number, r.second)
             }
         };
@@ -189,6 +200,10 @@ impl Cases {
 
     fn encoder(&mut self, given: &Given, plan: &[u8], lent: usize) {
         self.put(ENCODER, given, 0, plan, lent);
+    }
+
+    fn reader(&mut self, given: &Given, text: &[u8], lent: usize) -> Option<Item> {
+        self.put(READER, given, 0, text, lent)
     }
 
     /// A plan for the plan check and, with a slice that turns, for the encoder.
@@ -343,6 +358,7 @@ impl Cases {
         self.plan(&given, &plan);
         self.decoder(&given, &[1, -2], 4);
         self.encoder(&given, &plan, 4);
+        self.reader(&given, b"s SATISFIABLE\nv 1 -2 0\n", 4);
     }
 
     /// A case on which two items fail, each asked by itself; the first is the answer.
@@ -355,9 +371,11 @@ impl Cases {
         lent: usize,
         items: [Item; 2],
     ) {
-        let (plan, entries) = match kind {
-            PLAN | ENCODER => (payload, vec![]),
-            _ => (&[][..], entries_of(payload)),
+        let none = &[][..];
+        let (plan, entries, text) = match kind {
+            PLAN | ENCODER => (payload, vec![], none),
+            READER => (none, vec![], payload),
+            _ => (none, entries_of(payload), none),
         };
         let handed = Handed {
             instance: &given.instance,
@@ -365,6 +383,7 @@ impl Cases {
             clause: (kind == CLAUSE).then_some(number),
             plan,
             entries: &entries,
+            text,
             lent,
         };
         for (no, place) in items {
@@ -394,6 +413,7 @@ impl Cases {
             self.two(PLAN, &given, 0, &[0, 1, 0], 0, items);
             self.two(DECODER, &given, 0, &payload_of(&[1, -2]), 4, items);
             self.two(ENCODER, &given, 0, &[0, 1, 0], 4, items);
+            self.two(READER, &given, 0, b"s SATISFIABLE\nv 1 -2 0\n", 4, items);
         }
         let given = |n: usize, edges: &[(u8, u8)], starts: &[u8], goals: &[u8], m: u64| Given {
             instance: instance_bytes(n, edges, starts, goals),
@@ -482,6 +502,67 @@ impl Cases {
             self.two_of_plan(&given, plan, items);
         }
         self.occupied_and_more();
+
+        let texts: [(Given, &[u8], usize, [Item; 2]); 18] = [
+            (pair(33), b"", 67, [(10, 0), (16, 68)]),
+            (pair(1), b"", 3, [(16, 4), (27, 0)]),
+            (pair(1), b"v 5", 0, [(16, 4), (27, 0)]),
+            (pair(1), b"s UNKNOWN", 3, [(16, 4), (28, 0)]),
+            (pair(1), b"s SATISFIABLE\nv 0\n", 3, [(16, 4), (29, 1)]),
+            (pair(1), b"s UNSATISFIABLE\nv 5\n", 4, [(27, 16), (28, 0)]),
+            (pair(1), b"x\ns UNKNOWN\n", 4, [(27, 0), (28, 2)]),
+            (
+                pair(1),
+                b"s SATISFIABLE\ns UNKNOWN\n",
+                4,
+                [(27, 14), (28, 14)],
+            ),
+            (
+                pair(1),
+                b"s SATISFIABLE\nv 1 1 5 0\n",
+                4,
+                [(27, 14), (29, 1)],
+            ),
+            (
+                pair(1),
+                b"s SATISFIABLE\nv 1 -2 -3\n",
+                4,
+                [(27, 24), (29, 4)],
+            ),
+            (pair(1), b"s UNSATISFIABLE\n", 4, [(28, 0), (29, 1)]),
+            (
+                pair(1),
+                b"v 1 -2 -3 4 -4 0\ns UNKNOWN\n",
+                4,
+                [(28, 17), (29, 4)],
+            ),
+            // Two wrong lines, or one and something missing.
+            (pair(1), b"x\ny\ns UNKNOWN\n", 4, [(27, 0), (27, 2)]),
+            (
+                pair(1),
+                b"s SATISFIABLE\ns UNKNOWN\nv 0\nv 0\n",
+                4,
+                [(27, 14), (27, 28)],
+            ),
+            (pair(1), b"v 1 0\nv 1 0\n", 4, [(27, 6), (27, 12)]),
+            (pair(1), b"s SATISFIABLE\nv 1 x\n", 4, [(27, 14), (27, 20)]),
+            // Two variables.
+            (
+                pair(1),
+                b"s SATISFIABLE\nv 2 2 3 0\n",
+                4,
+                [(29, 1), (29, 2)],
+            ),
+            (
+                pair(1),
+                b"s SATISFIABLE\nv 4 1 4 3 0\n",
+                4,
+                [(29, 2), (29, 4)],
+            ),
+        ];
+        for (given, text, lent, items) in texts {
+            self.two(READER, &given, 0, text, lent, items);
+        }
     }
 
     /// The same case for both calls that take a plan.
@@ -649,6 +730,7 @@ impl Cases {
             clause: None,
             plan: &plan,
             entries: &[],
+            text: &[],
             lent: 0,
         };
         let step = |place: u64| place / k as u64;
@@ -758,6 +840,208 @@ impl Cases {
             self.decoder(given, &entries, given.plan_length());
         }
     }
+
+    /// The texts whose answers are known beforehand; 4 variables.
+    fn worked(&mut self) {
+        let given = Given {
+            instance: instance_bytes(2, &[(0, 1)], &[0], &[1]),
+            m: 1,
+        };
+        for (text, item) in worked() {
+            let lent = 4 + self.random.below(2);
+            let answer = self.reader(&given, &text, lent);
+            assert_eq!(answer, Some(item), "{}", text.escape_ascii());
+        }
+    }
+
+    /// Texts for a valuation at random, whole and damaged.
+    fn texts(&mut self, most: usize) {
+        let n = 1 + self.random.below(most);
+        let k = 1 + self.random.below(n.min(1 + most / 4));
+        let m = self.random.below(1 + most / 3);
+        let instance = self.random.instance(n, k, 20);
+        let given = Given {
+            instance,
+            m: m as u64,
+        };
+        let count = given.variables();
+        let entries = some_valuation(&mut self.random, count);
+        let text = some_output(&mut self.random, &entries);
+        let lent = match self.random.below(8) {
+            0 => count - 1,
+            1 => count + 3,
+            2 => self.random.below(count),
+            _ => count,
+        };
+        self.reader(&given, &text, lent);
+        let text = damaged(&mut self.random, count, &text);
+        self.reader(&given, &text, count);
+        for _ in 0..4 {
+            let text = some_text(&mut self.random, &entries);
+            self.reader(&given, &text, count);
+        }
+    }
+
+    /// A valuation of 10,240 variables and one of 1,000, and single literals of
+    /// the largest instance.
+    fn numbers(&mut self) {
+        let none = |n: usize, k: u8, m: u64| {
+            let agents: Vec<u8> = (0..k).collect();
+            let instance = instance_bytes(n, &[], &agents, &agents);
+            Given { instance, m }
+        };
+        for given in [none(64, 16, 9), none(40, 1, 24)] {
+            let count = given.variables();
+            let mut entries = some_valuation(&mut self.random, count);
+            self.random.shuffle(&mut entries);
+            let text = output(&entries, 78);
+            let answer = self.reader(&given, &text, count);
+            assert_eq!(answer, Some((0, count as u64)));
+        }
+        let given = none(64, 16, 32);
+        for number in ["33791", "33792", "-33792", "9999", "10000", "29999"] {
+            let text = format!("s SATISFIABLE\nv {number} 0\n");
+            let answer = self.reader(&given, text.as_bytes(), 33_792);
+            assert_eq!(answer, Some((29, 1)));
+        }
+        for number in [
+            "33793", "-33793", "33800", "40000", "99328", "100000", "133792",
+        ] {
+            let text = format!("s SATISFIABLE\nv {number} 0\n");
+            let answer = self.reader(&given, text.as_bytes(), 33_792);
+            assert_eq!(answer, Some((27, 14)));
+        }
+        self.reader(&given, b"", ENTRIES);
+        self.reader(&given, b"", ENTRIES + 1);
+        self.reader(&given, b"", 33_791);
+    }
+
+    /// The largest instance, with texts up to the longest and beyond.
+    fn longest(&mut self) {
+        let given = Given {
+            instance: largest_instance(),
+            m: 32,
+        };
+        let count = given.variables();
+        let entries = some_valuation(&mut self.random, count);
+        let text = some_output(&mut self.random, &entries);
+        self.reader(&given, &text, count);
+        self.reader(&given, &text, ENTRIES + 1);
+        let damaged = damaged(&mut self.random, count, &text);
+        self.reader(&given, &damaged, ENTRIES);
+        let longer = LONGEST_TEXT + 2 + self.random.below(INPUT - LONGEST_TEXT - 5_000);
+        for length in [LONGEST_TEXT, LONGEST_TEXT + 1, longer] {
+            let text = padded(&mut self.random, &text, length);
+            self.reader(&given, &text, count);
+        }
+        // The same lengths for a small instance, also with too short a slice.
+        let given = Given {
+            instance: instance_bytes(1, &[], &[0], &[0]),
+            m: 0,
+        };
+        let lengths = [
+            LONGEST_TEXT - 1,
+            LONGEST_TEXT,
+            LONGEST_TEXT + 1,
+            LONGEST_TEXT + 1,
+        ];
+        for (length, lent) in lengths.into_iter().zip([1, 1, 1, 0]) {
+            let text = match self.random.below(2) {
+                0 => some_text(&mut self.random, &[1]),
+                _ => output(&[1], 78),
+            };
+            let text = padded(&mut self.random, &text, length);
+            self.reader(&given, &text, lent);
+        }
+    }
+
+    /// All short texts of some kinds, for 1 and 2 variables and around other
+    /// numbers of them; of these every `step`th.
+    fn all_texts(&mut self, step: usize) {
+        let one_agent = |n: usize, m: u64| Given {
+            instance: instance_bytes(n, &[], &[0], &[0]),
+            m,
+        };
+        let mut all: Vec<(Given, Vec<u8>)> = Vec::new();
+        // Up to four lines.
+        for length in 0..=4 {
+            for chosen in sequences(&SHORT_LINES, length) {
+                let text = chosen.join(&b'\n');
+                // Also without the last byte 10.
+                if length < 4 {
+                    all.push((one_agent(1, 0), text.clone()));
+                }
+                all.push((one_agent(1, 0), [&text[..], b"\n"].concat()));
+            }
+        }
+        // Up to five bytes in v lines.
+        for length in 0..=5 {
+            for bytes in sequences(b"012- v\n", length) {
+                all.push((one_agent(2, 0), [b"s SATISFIABLE\nv ", &bytes[..]].concat()));
+            }
+        }
+        // Every value of every byte.
+        for text in [
+            &b"c\ns SATISFIABLE\nv 1 -2 0\n"[..],
+            b"v -1\ns UNSATISFIABLE\nv 0\n",
+            b"s UNKNOWN",
+        ] {
+            for at in 0..text.len() {
+                for byte in 0..=255 {
+                    let mut text = text.to_vec();
+                    text[at] = byte;
+                    all.push((one_agent(2, 0), text));
+                }
+            }
+        }
+        // Numbers on both sides of N: 9, 10, 11, 64, 99, 100, 999 and 1,000.
+        for (n, m) in [
+            (9, 0),
+            (10, 0),
+            (11, 0),
+            (64, 0),
+            (33, 2),
+            (50, 1),
+            (37, 26),
+            (40, 24),
+        ] {
+            let count = n as i64 * (m + 1);
+            let near = (-count - 11..=2 - count)
+                .chain(-12..=12)
+                .chain(count - 2..=count + 11);
+            let far = [
+                10 * count,
+                11 * count,
+                100 * count,
+                count + 256,
+                count + 65_536,
+            ];
+            for number in near.chain(far).chain(far.map(|number| -number)) {
+                let text = format!("s SATISFIABLE\nv {number} 0\n");
+                all.push((one_agent(n, m as u64), text.into_bytes()));
+            }
+        }
+        let from = self.random.below(step);
+        for (given, text) in all.iter().skip(from).step_by(step) {
+            let lent = given.variables() + self.random.below(2);
+            self.reader(given, text, lent);
+        }
+    }
+}
+
+/// All sequences of so many items.
+fn sequences<T: Clone>(items: &[T], length: usize) -> Vec<Vec<T>> {
+    let mut all = vec![Vec::new()];
+    for _ in 0..length {
+        let longer = |sequence: &Vec<T>| {
+            let sequence = sequence.clone();
+            items
+                .iter()
+                .map(move |item| [&sequence[..], slice::from_ref(item)].concat())
+        };
+        all = all.iter().flat_map(longer).collect();
+    }
+    all
 }
 
 /// Starts or goals: k different vertices below n, k at most 2.
@@ -851,6 +1135,15 @@ fn gate(cases: &mut Cases) {
     for k in 2..=16 {
         cases.crowded(k);
     }
+    cases.worked();
+    for _ in 0..80 {
+        cases.texts(4);
+    }
+    for _ in 0..30 {
+        cases.texts(8);
+    }
+    cases.numbers();
+    cases.all_texts(101);
 }
 
 /// Fails where a kind never gives an answer that it can give, where the items of
@@ -858,7 +1151,7 @@ fn gate(cases: &mut Cases) {
 /// or where every accepted plan has no moves, no waits or as many of both.
 fn require_all(cases: &Cases) {
     let mut missing = Vec::new();
-    for kind in WRITER..=ENCODER {
+    for kind in WRITER..=READER {
         let times = &cases.times[usize::from(kind)];
         for &number in [0].iter().chain(asked(kind)) {
             if times[number as usize] == 0 {
@@ -909,7 +1202,7 @@ fn main() {
         random: Generator::new(seed.wrapping_mul(0x9E37_79B9_7F4A_7C15) | 1),
         input: Vec::new(),
         output: String::new(),
-        times: [[0; NUMBERS]; 6],
+        times: [[0; NUMBERS]; 7],
         twice: BTreeSet::new(),
         uneven: 0,
     };
@@ -931,8 +1224,10 @@ fn main() {
                         cases.crowded(k);
                     }
                 }
+                cases.texts(if i % 4 == 0 { 12 } else { 4 });
             }
             cases.largest(false);
+            cases.longest();
         }
         "small" => small_instances().iter().for_each(|g| cases.small(g)),
         "clauses" => {
@@ -963,9 +1258,13 @@ fn main() {
                 cases.all_valuations(&all[at]);
             }
         }
+        "texts" => {
+            cases.worked();
+            cases.all_texts(1);
+        }
         _ => {
             eprintln!(
-                "cases gate DIR, or cases random|small|clauses|plans|valuations SEED COUNT DIR"
+                "cases gate DIR, or cases random|small|clauses|plans|valuations|texts SEED COUNT DIR"
             );
             process::exit(2);
         }

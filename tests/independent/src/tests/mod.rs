@@ -1,6 +1,7 @@
 mod cross;
 mod examples;
 mod questions;
+mod reader;
 
 use crate::{Answer, Written};
 

@@ -1,6 +1,7 @@
 //! Each question, its place, and which of two refusals comes first.
 
 use super::{says, unwritten};
+use crate::output::{some_text, some_valuation};
 use crate::parts::{enter_occupied, malform, Parts};
 use crate::questions::{failing, first_no, Handed, Item, ASKED, NUMBERS};
 use crate::sample::{all_edges, instance_bytes, largest_instance, Generator};
@@ -24,7 +25,7 @@ fn three_paths(starts: &[u8]) -> Vec<u8> {
 /// another agent comes from the first vertex.
 const WAYS: [(u32, u8); 3] = [(20, 1), (25, 0), (26, 2)];
 
-/// The answer of `check_instance`, after seeing that all five calls refuse
+/// The answer of `check_instance`, after seeing that all six calls refuse
 /// alike and change nothing.
 fn refused(instance: &[u8], horizon: u64) -> Answer {
     let answer = check_instance(instance, horizon);
@@ -44,6 +45,8 @@ fn refused(instance: &[u8], horizon: u64) -> Answer {
         answer
     );
     assert_eq!(encode(instance, horizon, &[0, 1], &mut words), answer);
+    let text = b"s SATISFIABLE\nv 1 -2 -3 4 0\n";
+    assert_eq!(read_valuation(instance, horizon, text, &mut words), answer);
     assert_eq!((words, bytes), ([7; 9], [7; 9]));
     answer
 }
@@ -438,6 +441,9 @@ fn any_bytes_get_an_answer() {
         check_plan(&instance, horizon, &plan);
         decode(&instance, horizon, &entries, &mut bytes);
         encode(&instance, horizon, &plan, &mut words);
+        read_valuation(&instance, horizon, &plan, &mut words);
+        let text = some_text(&mut random, &[1, -2, -3, 4]);
+        read_valuation(&instance, horizon, &text, &mut words);
     }
 }
 
@@ -454,7 +460,7 @@ fn size_limits_are_accepted() {
 #[test]
 fn calls_answer_the_first_no() {
     let mut random = Generator::new(23);
-    let mut seen = [[false; NUMBERS]; 5];
+    let mut seen = [[false; NUMBERS]; 6];
     for _ in 0..40_000 {
         let n = 1 + random.below(5);
         let k = 1 + random.below(n.min(3));
@@ -493,6 +499,8 @@ fn calls_answer_the_first_no() {
             plan.pop();
             entries.push(1);
         }
+        let variables = some_valuation(&mut random, n * k * (m + 1));
+        let text = some_text(&mut random, &variables);
         for (call, numbers) in ASKED.into_iter().enumerate() {
             let lent = match (random.below(4), call) {
                 (0, _) => random.below(6),
@@ -508,7 +516,8 @@ fn calls_answer_the_first_no() {
                 1 => clause(&instance, horizon, number, &mut words),
                 2 => check_plan(&instance, horizon, &plan),
                 3 => decode(&instance, horizon, &entries, &mut bytes),
-                _ => encode(&instance, horizon, &plan, &mut words),
+                4 => encode(&instance, horizon, &plan, &mut words),
+                _ => read_valuation(&instance, horizon, &text, &mut words),
             };
             let handed = Handed {
                 instance: &instance,
@@ -516,6 +525,7 @@ fn calls_answer_the_first_no() {
                 clause: (call == 1).then_some(number),
                 plan: &plan,
                 entries: &entries,
+                text: &text,
                 lent,
             };
             match first_no(numbers, &handed) {
@@ -539,6 +549,7 @@ fn compare_occupied(instance: &[u8], horizon: u64, plan: &[u8]) -> (Answer, Vec<
         clause: None,
         plan,
         entries: &[],
+        text: &[],
         lent: usize::from(instance[0]) * plan.len(),
     };
     let answer = check_plan(instance, horizon, plan);

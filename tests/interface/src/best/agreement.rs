@@ -1,10 +1,13 @@
 //! Each form against the independent program, on inputs right and damaged. A difference ends the benchmark.
 
+use independent::output::{padded, some_text, worked};
 use independent::questions::{ASKED, NUMBERS};
 use independent::sample::Generator;
 use independent::text::print_formula;
-use independent::Written;
-use interface::input::{long_horizon, malform, some_entries, some_length, some_plan, Parts};
+use independent::{Written, LONGEST_TEXT};
+use interface::input::{
+    long_horizon, malform, some_entries, some_length, some_plan, valuation, Parts,
+};
 use std::fmt::Debug;
 use std::io::Write;
 use std::path::Path;
@@ -62,10 +65,10 @@ pub fn same<T: Clone + PartialEq, A: Debug + PartialEq>(
     answer
 }
 
-/// Compares the five calls in so many random cases; gives the number of comparisons.
+/// Compares the six calls in so many random cases; gives the number of comparisons.
 pub fn compare_calls(cases: usize) -> usize {
     let mut g = Generator::new(2026);
-    let mut hits = [[0; NUMBERS]; 5];
+    let mut hits = [[0; NUMBERS]; 6];
     let mut falsified = [0; 7];
     for _ in 0..cases {
         let case = draw(&mut g);
@@ -130,6 +133,22 @@ pub fn compare_calls(cases: usize) -> usize {
         )
         .number;
         hits[4][number as usize] += 1;
+
+        let entries = valuation(case.parts.n, &case.plan);
+        let text = some_text(&mut g, &entries);
+        let lent = vec![7; some_length(&mut g, entries.len())];
+        hits[5][compare_readers(instance, m, &text, &lent)] += 2;
+    }
+    // Of the pair: texts with known answers, and some of the greatest length.
+    let mut texts: Vec<Vec<u8>> = worked().into_iter().map(|(text, _)| text).collect();
+    for length in [LONGEST_TEXT - 1, LONGEST_TEXT, LONGEST_TEXT + 1] {
+        texts.extend((0..8).map(|_| {
+            let text = some_text(&mut g, &[1, -2, -3, 4]);
+            padded(&mut g, &text, length)
+        }));
+    }
+    for text in texts {
+        hits[5][compare_readers(&[2, 1, 1, 0, 0, 1, 0, 1], 1, &text, &[7; 5])] += 2;
     }
     for (hits, numbers) in hits.iter().zip(ASKED) {
         for &number in [0].iter().chain(numbers) {
@@ -138,6 +157,19 @@ pub fn compare_calls(cases: usize) -> usize {
     }
     assert!(falsified.iter().all(|&hits| hits > 0), "{falsified:?}");
     hits.iter().flatten().sum()
+}
+
+/// Compares both readers; gives the answer's number.
+fn compare_readers(instance: &[u8], m: u64, text: &[u8], lent: &[i32]) -> usize {
+    let [number, _] = [super::read_valuation, super::read_valuation_straight].map(|form| {
+        let answer = same(
+            lent,
+            |entries| form(instance, m, text, entries),
+            |entries| independent::read_valuation(instance, m, text, entries),
+        );
+        answer.number as usize
+    });
+    number
 }
 
 /// Compares what the program prints in so many random cases.

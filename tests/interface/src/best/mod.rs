@@ -6,12 +6,14 @@ mod clause;
 mod formula;
 mod instance;
 mod plan;
+mod reader;
 mod straight;
 mod valuation;
 
 pub use clause::clause;
 pub use formula::{write_formula, write_formula_straight};
 pub use plan::{check_instance, check_plan};
+pub use reader::{read_valuation, read_valuation_straight};
 pub use valuation::{decode, encode};
 
 use independent::Answer;

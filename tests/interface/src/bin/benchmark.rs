@@ -13,6 +13,7 @@ mod before;
 mod best;
 
 use best::agreement::{compare_calls, compare_program, independent_text, printed, same};
+use independent::output::output;
 use independent::sample::Generator;
 use interface as library;
 use interface::input::{grid_walk, valuation, Parts};
@@ -37,6 +38,7 @@ type Writer = fn(&[u8], u64, &mut [i32]) -> Said;
 type PlanCheck = fn(&[u8], u64, &[u8]) -> Said;
 type Decoder = fn(&[u8], u64, &[i32], &mut [u8]) -> Said;
 type Encoder = fn(&[u8], u64, &[u8], &mut [i32]) -> Said;
+type Reader = fn(&[u8], u64, &[u8], &mut [i32]) -> Said;
 type OneClause = fn(&[u8], u64, u64, &mut [i32]) -> Said;
 
 /// A call of the library, of the best Rust forms and of the independent program.
@@ -54,6 +56,7 @@ const WRITERS: [Writer; 3] = forms!(write_formula(instance, m, words));
 const PLAN_CHECKS: [PlanCheck; 3] = forms!(check_plan(instance, m, plan));
 const DECODERS: [Decoder; 3] = forms!(decode(instance, m, entries, plan));
 const ENCODERS: [Encoder; 3] = forms!(encode(instance, m, plan, entries));
+const READERS: [Reader; 3] = forms!(read_valuation(instance, m, text, entries));
 const ONE_CLAUSES: [OneClause; 3] = forms!(clause(instance, m, number, words));
 
 struct Input {
@@ -297,6 +300,61 @@ fn encoder(table: &mut Table, input: &Input) {
     table.row("encoder", input, times, Some(1.2), "");
 }
 
+/// The reader, of v lines that keep to 78 columns. Of the largest instance also against a loop over bytes, with other
+/// texts of the same valuation, and with about half of it.
+fn reader(table: &mut Table, input: &Input) {
+    let entries = valuation(usize::from(input.instance[0]), &input.plan);
+    let [ours, best, independent, straight] = times_of_text(input, &output(&entries, 78));
+    let row = [ours, best, independent];
+    if input.name != "largest" {
+        return table.row("reader", input, row, None, "");
+    }
+    table.row("reader", input, row, Some(1.2), "");
+    let note = "  against a loop over bytes";
+    table.row("reader", input, [ours, straight, independent], None, note);
+    let mut shuffled = entries.clone();
+    Generator::new(7).shuffle(&mut shuffled);
+    for (text, note) in [
+        (output(&entries, usize::MAX), "  one v line"),
+        (output(&entries, 0), "  one literal a line"),
+        (output(&shuffled, 78), "  literals in any order"),
+    ] {
+        let [ours, best, independent, _] = times_of_text(input, &text);
+        table.row("reader", input, [ours, best, independent], None, note);
+    }
+    let m = input.m / 2;
+    let rows = usize::from(input.instance[1]) * (m as usize + 1);
+    let half = Input {
+        name: "half",
+        instance: input.instance.clone(),
+        m,
+        plan: input.plan[..rows].to_vec(),
+    };
+    let entries = valuation(usize::from(half.instance[0]), &half.plan);
+    let [ours, best, independent, _] = times_of_text(&half, &output(&entries, 78));
+    let note = format!("  the largest at horizon {m}");
+    table.row("reader", &half, [ours, best, independent], None, &note);
+}
+
+/// Of a text that is accepted; the last time is that of the loop over bytes.
+fn times_of_text(input: &Input, text: &[u8]) -> [f64; 4] {
+    let (instance, m) = (&input.instance[..], input.m);
+    let straight: Reader = |instance, m, text, entries| {
+        let answer = best::read_valuation_straight(instance, m, text, entries);
+        (answer.number, answer.second)
+    };
+    let [library, best, independent] = READERS;
+    let forms = [library, best, independent, straight];
+    let mut entries = vec![0; usize::from(instance[0]) * input.plan.len()];
+    agree(&entries, |form, entries| {
+        forms[form](instance, m, text, entries)
+    });
+    times(|form| {
+        let said = forms[form](black_box(instance), m, black_box(text), &mut entries);
+        assert_eq!(said.0, 0);
+    })
+}
+
 /// The middle and the last clause of each family, summed; then the dearest against our own instance check.
 fn clause(table: &mut Table, input: &Input) {
     let (instance, m) = (&input.instance[..], input.m);
@@ -377,9 +435,10 @@ fn main() {
         eprintln!("usage: benchmark PROGRAM BEST_TEXT FORMULA_TEXT [NOW BEFORE]");
         std::process::exit(2);
     };
-    if let [now, before] = &beside[..] {
-        before::agree(now, before);
-    }
+    let rows = match &beside[..] {
+        [now, before] => before::agree(now, before),
+        _ => Vec::new(),
+    };
     let compared = compare_calls(CASES);
     compare_program(&programs[1], PROGRAM_CASES);
     println!(
@@ -390,7 +449,7 @@ fn main() {
     let mut table = Table::default();
     table.head();
     let inputs = inputs();
-    for call in [writer, instance_check, plan_check, decoder, encoder] {
+    for call in [writer, instance_check, plan_check, decoder, encoder, reader] {
         for input in &inputs {
             call(&mut table, input);
         }
@@ -408,6 +467,6 @@ fn main() {
         missed => println!("\ntargets missed: {missed}"),
     }
     if let [now, before] = &beside[..] {
-        before::compare(now, before);
+        before::compare(now, before, &rows);
     }
 }

@@ -1,23 +1,26 @@
 //! Compares the library with the independent program, through the C interface.
 //!
-//! compare [SEED [COUNT [FIRST]]]: every small instance, the largest one and COUNT random cases; with FIRST only COUNT
-//! random cases from that one on.
+//! compare [SEED [COUNT [FIRST]]]: texts with known answers, every small instance, the largest one and COUNT random
+//! cases; with FIRST only COUNT random cases from that one on.
 
 #![forbid(unsafe_code)]
 
+use independent::output::{damaged, output, padded, some_output, some_text, worked, WORKED};
 use independent::questions::{ASKED, NUMBERS};
 use independent::sample::{all_edges, instance_bytes, largest_instance, Generator};
+use independent::LONGEST_TEXT;
 use interface::input::*;
 use std::fmt::Debug;
 use std::hint::black_box;
 use std::time::Instant;
 
-const NAMES: [&str; 5] = ["writer", "clause", "check", "decoder", "encoder"];
+const NAMES: [&str; 6] = ["writer", "clause", "check", "decoder", "encoder", "reader"];
 const WRITER: usize = 0;
 const CLAUSE: usize = 1;
 const CHECK: usize = 2;
 const DECODER: usize = 3;
 const ENCODER: usize = 4;
+const READER: usize = 5;
 
 /// Can the call give this number? 0 is accepted.
 fn gives(call: usize, number: usize) -> bool {
@@ -113,6 +116,7 @@ struct Asked<'a> {
     clause: Option<u64>,
     plan: Option<&'a [u8]>,
     entries: Option<&'a [i32]>,
+    text: Option<&'a [u8]>,
 }
 
 struct Run {
@@ -122,7 +126,7 @@ struct Run {
     /// Items kept before each lent slice in this case.
     before: usize,
     /// Calls that gave each number.
-    hits: [[u64; NUMBERS]; 5],
+    hits: [[u64; NUMBERS]; 6],
     /// By family: clauses given, and clauses that refusal 24 named.
     given: [u64; 7],
     falsified: [u64; 7],
@@ -144,6 +148,10 @@ impl Run {
         println!("horizon {}, clause {:?}", asked.horizon, asked.clause);
         println!("plan {:?}", asked.plan);
         println!("entries {:?}", asked.entries);
+        println!(
+            "text {:?}",
+            asked.text.map(|text| text.escape_ascii().to_string())
+        );
         std::process::exit(1);
     }
 
@@ -216,6 +224,7 @@ impl Run {
             clause: None,
             plan: None,
             entries: None,
+            text: None,
         };
         let (answer, words) = self.both(
             &asked,
@@ -243,6 +252,7 @@ impl Run {
             clause: Some(clause),
             plan: None,
             entries: None,
+            text: None,
         };
         let result = self.both(
             &asked,
@@ -264,6 +274,7 @@ impl Run {
             clause: None,
             plan: Some(plan),
             entries: None,
+            text: None,
         };
         let input = Input::new(self.before, plan);
         let (answer, _) = self.both::<u8, _, _>(
@@ -292,6 +303,7 @@ impl Run {
             clause: None,
             plan: None,
             entries: Some(entries),
+            text: None,
         };
         let input = Input::new(self.before, entries);
         let result = self.both(
@@ -324,6 +336,7 @@ impl Run {
             clause: None,
             plan: Some(plan),
             entries: None,
+            text: None,
         };
         let input = Input::new(self.before, plan);
         let result = self.both(
@@ -334,6 +347,35 @@ impl Run {
         );
         if input.items() != plan {
             self.fail(&asked, "the plan was changed");
+        }
+        result
+    }
+
+    fn read(
+        &mut self,
+        instance: &[u8],
+        horizon: u64,
+        text: &[u8],
+        length: usize,
+    ) -> (Said, Vec<i32>) {
+        let asked = Asked {
+            call: READER,
+            instance,
+            horizon,
+            clause: None,
+            plan: None,
+            entries: None,
+            text: Some(text),
+        };
+        let input = Input::new(self.before, text);
+        let result = self.both(
+            &asked,
+            length,
+            |instance, entries| runglaet::read_valuation(instance, horizon, input.items(), entries),
+            |instance, entries| independent::read_valuation(instance, horizon, text, entries),
+        );
+        if input.items() != text {
+            self.fail(&asked, "the text was changed");
         }
         result
     }
@@ -352,6 +394,7 @@ impl Run {
             clause: None,
             plan: Some(plan),
             entries: Some(&entries),
+            text: None,
         };
         if checked.number != 0 {
             self.fail(&asked, "the encoder takes a plan that the check refuses");
@@ -378,12 +421,38 @@ impl Run {
             clause: None,
             plan: Some(plan),
             entries: Some(entries),
+            text: None,
         };
         let (encoded, back) = self.encode(instance, horizon, plan, entries.len());
         if encoded.number != 0 || back != entries {
             self.fail(&asked, &format!("the way back gives {encoded:?}"));
         }
         self.round_trips += 1;
+    }
+
+    /// The reader, and what it reads to the decoder.
+    fn text(&mut self, instance: &[u8], horizon: u64, text: &[u8], length: usize) {
+        let (read, entries) = self.read(instance, horizon, text, length);
+        if read.number == 0 {
+            let count = read.second as usize;
+            let rows = count / usize::from(instance[0]);
+            self.entries(instance, horizon, &entries[..count], rows);
+        }
+    }
+
+    /// Texts with known answers, for the pair at m 1.
+    fn worked(&mut self) {
+        self.part = "worked";
+        let pair = [2, 1, 1, 0, 0, 1, 0, 1];
+        for (case, (text, (number, second))) in (1..).zip(worked()) {
+            self.case = case;
+            self.before = 1 + case as usize % 16;
+            let (answer, entries) = self.read(&pair, 1, &text, 4);
+            assert_eq!(answer, Said::new(number, second, 0));
+            assert!(number != 0 || entries == WORKED);
+            self.text(&pair, 1, &text, 3);
+            self.text(&pair, 1, &text, 5);
+        }
     }
 
     /// The formula in an exact slice and every clause in its own, with `short` also in slices too short; the clauses
@@ -414,6 +483,7 @@ impl Run {
                     clause: Some(number),
                     plan: None,
                     entries: None,
+                    text: None,
                 };
                 self.fail(&asked, "the clauses do not make the formula");
             }
@@ -471,6 +541,13 @@ impl Run {
                 if plan[m * k..] == *goals {
                     self.entries(&instance, horizon, &valuation(n, plan), k * (m + 1));
                 }
+            }
+            // Texts for the last plan.
+            let mut g = Generator::new(mix(self.seed, 3 * self.case + horizon));
+            let entries = valuation(n, &plans[plans.len() - 1]);
+            for length in [count, count, count, count + 1] {
+                let text = some_text(&mut g, &entries);
+                self.text(&instance, horizon, &text, length);
             }
             // Every valuation of up to 8 variables.
             if count <= 8 {
@@ -532,6 +609,72 @@ impl Run {
             let entries = some_entries(g, &parts, m, &plan);
             self.entries(&instance, 32, &entries, 16 * 33 + g.below(3));
         }
+        self.longest(g, &instance, &valuation(64, &plan));
+    }
+
+    /// Texts of the largest instance, and of the greatest length.
+    fn longest(&mut self, g: &mut Generator, instance: &[u8], entries: &[i32]) {
+        let count = entries.len();
+        let mut shuffled = entries.to_vec();
+        g.shuffle(&mut shuffled);
+        for columns in [78, 0, usize::MAX] {
+            for literals in [entries, &shuffled] {
+                let text = output(literals, columns);
+                let (answer, read) = self.read(instance, 32, &text, count + 7);
+                assert_eq!(answer, Said::new(0, count as u64, 0));
+                assert!(read[..count] == *entries);
+                self.text(instance, 32, &text, count);
+                self.text(instance, 32, &text, count - 1);
+            }
+        }
+        for _ in 0..40 {
+            let text = some_output(g, entries);
+            self.text(instance, 32, &text, count);
+            let text = damaged(g, count, &text);
+            self.text(instance, 32, &text, count);
+        }
+        let pair = [2, 1, 1, 0, 0, 1, 0, 1];
+        let longer = [
+            LONGEST_TEXT + 1,
+            LONGEST_TEXT + 2,
+            600_000,
+            2 * LONGEST_TEXT,
+            1 << 22,
+        ];
+        for length in [LONGEST_TEXT - 1, LONGEST_TEXT].into_iter().chain(longer) {
+            for _ in 0..5 {
+                let text = some_output(g, entries);
+                let text = padded(g, &text, length);
+                self.text(instance, 32, &text, count);
+                let text = some_output(g, &WORKED);
+                let text = padded(g, &text, length);
+                let (answer, _) = self.read(&pair, 1, &text, 4);
+                let expected = if length > LONGEST_TEXT {
+                    Said::new(27, LONGEST_TEXT as u64, 0)
+                } else {
+                    Said::new(0, 4, 0)
+                };
+                assert_eq!(answer, expected);
+                let text = some_text(g, &WORKED);
+                let text = padded(g, &text, length);
+                self.text(&pair, 1, &text, 4);
+            }
+            // One byte again and again: empty lines, a comment, a wrong line, a token.
+            for byte in [b'\n', b'c', b' ', b'v', 0, 255] {
+                self.text(&pair, 1, &vec![byte; length], 4);
+            }
+            let token = [&b"v "[..], &vec![b'1'; length - 2]].concat();
+            self.text(&pair, 1, &token, 4);
+        }
+        // The most literals: every other byte is one.
+        let mut tokens = b"s SATISFIABLE\nv".to_vec();
+        while tokens.len() + 2 < LONGEST_TEXT {
+            tokens.extend([b' ', b'1' + g.below(4) as u8]);
+        }
+        self.text(&pair, 1, &tokens, 4);
+        tokens.extend(b" 0");
+        tokens.truncate(LONGEST_TEXT);
+        self.text(&pair, 1, &tokens, 4);
     }
 
     fn random(&mut self, first: u64, count: u64) {
@@ -620,6 +763,16 @@ impl Run {
         }
         let entries = some_entries(g, &parts, m, &plan);
         self.entries(&instance, horizon, &entries, k * (m + 1));
+        let entries = valuation(n, &plan);
+        for _ in 0..3 {
+            let mut text = some_text(g, &entries);
+            if g.below(1000) == 0 {
+                let length = LONGEST_TEXT - 1 + g.below(3);
+                text = padded(g, &text, length);
+            }
+            let length = some_length(g, entries.len());
+            self.text(&instance, horizon, &text, length);
+        }
     }
 
     /// The table of numbers; true when each call gave every number it can.
@@ -629,7 +782,7 @@ impl Run {
         NAMES.iter().for_each(|name| print!("{name:>12}"));
         println!();
         for number in 0..NUMBERS {
-            let row: Vec<String> = (0..5)
+            let row: Vec<String> = (0..NAMES.len())
                 .map(|call| match self.hits[call][number] {
                     _ if !gives(call, number) => "-".to_string(),
                     0 => {
@@ -649,7 +802,7 @@ impl Run {
             println!();
         }
         print!("{:>8}", "calls");
-        (0..5).for_each(|call| print!("{:>12}", self.hits[call].iter().sum::<u64>()));
+        (0..NAMES.len()).for_each(|call| print!("{:>12}", self.hits[call].iter().sum::<u64>()));
         println!(
             "\n\n{:>8}{:>14}{:>14}",
             "family", "clause given", "24 names it"
@@ -738,7 +891,7 @@ fn main() {
         part: "",
         case: 0,
         before: 1,
-        hits: [[0; NUMBERS]; 5],
+        hits: [[0; NUMBERS]; 6],
         given: [0; 7],
         falsified: [0; 7],
         round_trips: 0,
@@ -746,6 +899,8 @@ fn main() {
     println!("seed {seed}, {count} random cases");
     let clock = Instant::now();
     if first.is_none() {
+        run.worked();
+        println!("known texts: {} ({:.1?})", run.case, clock.elapsed());
         run.small();
         println!("small instances: {} ({:.1?})", run.case, clock.elapsed());
         run.largest(&mut Generator::new(mix(seed, u64::MAX - 1)));
