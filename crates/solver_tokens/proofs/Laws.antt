@@ -2,7 +2,7 @@
 use mathlib.Core.Path.{_≡_, refl, sym, _∙_, ap, subst}
 use mathlib.Core.Logic.{by-cases, _⊎_, inl, inr, ⊎-elim}
 use mathlib.Core.List.{List, [], _∷_}
-use mathlib.Core.Bool.{Bool, true, false, _&&_, _||_}
+use mathlib.Core.Bool.{Bool, true, false, not, _&&_, _||_}
 use Prim.Native.Nat.{ℕ, zero, suc, _+_, _*_, _-_, _≤_, _<_}
 use native.Mathlib.Nat.{add-zero}
 use native.Mathlib.Decide.{decLt}
@@ -127,19 +127,31 @@ no-size N t at from e =
     }
 
 module _ (text : List ℕ) (N : ℕ) where
-  pub size-none : (at d : ℕ) → d ≡ byte text at → end? d ≡ true → IsSize N (token text at) at (record { right = false; size = 0; end = at })
-  size-none at d ed e = no-size N (token text at) at at (rw (token-end text at (sym (ap end? ed) ∙ e)))
+  pub size-none : (at d : ℕ) → d ≡ byte text at → digit? d ≡ false → IsSize N (token text at) at (record { right = false; size = 0; end = at })
+  size-none at d ed e =
+      let b : digit? (byte text at) ≡ false = sym (ap digit? ed) ∙ e in
+      split (end? (byte text at))
+      (λ z. no-size N (token text at) at at (rw (token-end text at z)))
+      (λ z.
+      rw (token-more text at z)
+      (record {
+        right = rw b (sym (and-false (not (eqb (byte text at) 48))));
+        size = λ y. absurd (subst T (sym y) tt);
+        end = λ y. absurd (subst T (sym y) tt);
+        some = λ y. absurd (subst T (sym y) tt);
+        most = λ y. absurd (subst T (sym y) tt);
+      }))
 
   pub size-zero : (at d : ℕ) → d ≡ byte text at → d ≡ 48 → IsSize N (token text at) at (record { right = false; size = 0; end = at })
   size-zero at d ed e =
       let z : byte text at ≡ 48 = sym ed ∙ e in
       no-size N (token text at) at at (ap (λ (t : List ℕ). getD t 0 48) (token-more text at (ap end? z)) ∙ z)
 
-  pub size-number : (at d : ℕ) → d ≡ byte text at → end? d ≡ false → (d ≡ 48 → ⊥) → (r : Number)
+  pub size-number : (at d : ℕ) → d ≡ byte text at → digit? d ≡ true → (d ≡ 48 → ⊥) → (r : Number)
       → IsNumber N 0 (token text at) at r → IsSize N (token text at) at r
   size-number at d ed e f r h =
       let more : token text at ≡ d ∷ token text (at + 1) =
-      token-more text at (sym (ap end? ed) ∙ e) ∙ ap (λ (y : ℕ). y ∷ token text (at + 1)) (sym ed) in
+      token-more text at (sym (ap end? ed) ∙ digit-end text N d e) ∙ ap (λ (y : ℕ). y ∷ token text (at + 1)) (sym ed) in
       let test : r .right ≡ true → T (all digit? (token text at)) × T (leb (readOn 0 (token text at)) N) =
       λ z. and-iff (all digit? (token text at)) _ .0 (subst T (sym z ∙ h .right) tt) in
       record {

@@ -33,20 +33,14 @@ pub fn byte_at(text: &[u8], at: usize) -> usize
 fn is_digit(d: usize) -> bool
     ensures { λ r. ⌜ r ≡ digit? d ⌝ }
 {
-    if d < 48 {
-        return false;
-    }
-    d <= 57
+    (48 <= d) & (d <= 57)
 }
 
 // Does a token end here?
 fn is_end(d: usize) -> bool
     ensures { λ r. ⌜ r ≡ end? d ⌝ }
 {
-    if d == 32 {
-        return true;
-    }
-    d == 10
+    (d == 32) | (d == 10)
 }
 
 // Digits that say at most n.
@@ -75,13 +69,44 @@ fn read_digits(text: &[u8], from: usize, n: usize) -> Number
     }
 }
 
+// The same from a place that has seven bytes or more behind it: those are read without asking where the text ends. A number of
+// more digits is left to `read_digits`.
+fn near_digits(text: &[u8], from: usize, n: usize) -> Number
+    requires { ⌜ (length (now text) ≤ 524288) × (from + 7 ≤ length (now text)) × (n ≤ 65536) ⌝ }
+    ensures { λ r. ⌜ IsNumber n 0 (token (now (text .entry)) from) from r ⌝ }
+{
+    let mut x: usize = 0;
+    let mut at = from;
+    let last = from + 6;
+    while at < last {
+        if n < x {
+            return Number {
+                right: false,
+                size: 0,
+                end: at,
+            };
+        }
+        let d = numbers::wide(text[at]);
+        if !is_digit(d) {
+            return Number {
+                right: is_end(d),
+                size: x,
+                end: at,
+            };
+        }
+        x = 10 * x + (d - 48);
+        at += 1;
+    }
+    read_digits(text, from, n)
+}
+
 // Digits that begin with no 0.
 fn read_size(text: &[u8], from: usize, n: usize) -> Number
     requires { ⌜ (length (now text) ≤ 524288) × (from ≤ length (now text)) × (n ≤ 65536) ⌝ }
     ensures { λ r. ⌜ IsSize n (token (now (text .entry)) from) from r ⌝ }
 {
     let d = byte_at(text, from);
-    if is_end(d) {
+    if !is_digit(d) {
         return Number {
             right: false,
             size: 0,
@@ -94,6 +119,9 @@ fn read_size(text: &[u8], from: usize, n: usize) -> Number
             size: 0,
             end: from,
         };
+    }
+    if from + 7 <= text.len() {
+        return near_digits(text, from, n);
     }
     read_digits(text, from, n)
 }
