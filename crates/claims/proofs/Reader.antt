@@ -1,5 +1,5 @@
 -- The claim of the reader, from the laws of the text.
-use mathlib.Core.Path.{_≡_, sym, _∙_, ap, subst}
+use mathlib.Core.Path.{_≡_, refl, sym, _∙_, ap, subst}
 use mathlib.Core.Logic.{_↔_, Iff·trans, Iff·symm}
 use mathlib.Core.List.{List}
 use Prim.Native.Nat.{ℕ, _≤_}
@@ -18,19 +18,21 @@ use Rattle.instance.proofs.Instance.{instance-iff, limits}
 use Rattle.formula.specs.Formula.{Formula, formula}
 use Rattle.formula.proofs.Limits.{variables-most}
 use Rattle.valuation.specs.Satisfying.{Valuation, Satisfies, Names}
-use Rattle.solver_text.specs.Text.{lines}
+use Rattle.solver_text.specs.Text.{lines, pieces, kind}
 use Rattle.solver_text.specs.Form.{given, inOrder}
 use Rattle.solver_text.specs.Printed.{printed, gathered, some?}
 use Rattle.solver_text.specs.Walk.{nothing}
 use Rattle.solver_text.proofs.Walk.{lines-asked}
 use Rattle.solver_text.proofs.Given.{literal?, lines-inside, order-length, order-valuation, order-true}
+use Rattle.solver_text.proofs.Cut.{pieces-all, v-line, token-printed}
+use Rattle.solver_text.proofs.Pieces.{token-value}
 use Rattle.solver_text.proofs.RoundTrip.{Back, back-again}
 use Rattle.calls.specs.Questions.{question16}
 use Rattle.calls.specs.Calls.{readRest, readQuestions, readAnswer, readSlice, checkAnswer, decodeAnswer}
 use Rattle.calls.proofs.Valuation.{true-iff, clear-entries}
 use Rattle.calls.proofs.Text.{Readable, clear-text}
 use Rattle.claims.specs.Correspondence.{Accepts, N, bytes, handedBack}
-use Rattle.claims.specs.Reader.{entriesRead, Claim}
+use Rattle.claims.specs.Reader.{Form, entriesRead, Reader, Claim}
 use Rattle.claims.proofs.Correspondence.{fits, correspondence}
 use Rattle.claims.proofs.Refusals.{numbered-read}
 
@@ -106,8 +108,8 @@ module _ (b : List ℕ) (m : ℕ) (o : Accepts (instanceAnswer b m)) where
         let d = c .decoded (gathered groups last) s k a in
         rw reads-back (a, d .0, d .1)
 
-pub reader : Claim
-reader b m o =
+read-claim : (b : List ℕ) (m : ℕ) → Accepts (instanceAnswer b m) → Reader b m
+read-claim b m o =
     record {
       valuation = λ text z a.
           let v : Valuation (N b m) (entriesRead b m text z) = subst (Valuation (N b m)) (sym (entries-are b m o text z a)) (order-valuation (N b m) (given text)) in
@@ -119,3 +121,17 @@ reader b m o =
       back = λ groups last z h v l. (accepted b m o groups last z h v l, reads-back b m o groups last z h v l);
       plan = λ groups last z s h v l k f. comes-to-plan b m o groups last z h v l s k f;
     }
+
+form : Form
+unfolding kind
+form =
+    record {
+      cutAtLines = pieces-all 10;
+      cutAtSpaces = λ rest. (pieces 32 rest, refl, pieces-all 32 rest);
+      onlyThose = v-line;
+      tokens = token-printed;
+      tokenSays = token-value 0;
+    }
+
+pub reader : Claim
+reader = record { form = form; reader = read-claim }

@@ -1,4 +1,4 @@
--- What the reader's answer and slice say of a solver's text: one claim.
+-- What the form of a solver's text is, and what the reader's answer and slice say of it: one claim.
 use mathlib.Core.Path.{_≡_}
 use mathlib.Core.Logic.{_↔_}
 use mathlib.Core.List.{List, [], _∷_}
@@ -13,11 +13,25 @@ use Rattle.instance.specs.Questions.{instanceAnswer}
 use Rattle.formula.specs.Variables.{Literal}
 use Rattle.formula.specs.Formula.{Formula, formula}
 use Rattle.valuation.specs.Satisfying.{True, Valuation, Satisfies, Names}
+use Rattle.decimals.specs.Decimals.{signed}
+use Rattle.solver_text.specs.Text.{values, kind, lines, token?, value}
+use Rattle.solver_text.specs.Cut.{Cut, DecimalText}
 use Rattle.solver_text.specs.Form.{given}
 use Rattle.solver_text.specs.Printed.{printed, gathered, some?}
 use Rattle.calls.specs.Questions.{question14, question23}
 use Rattle.calls.specs.Calls.{checkAnswer, decodeAnswer, readAnswer, readSlice}
 use Rattle.claims.specs.Correspondence.{Accepts, N, bytes, handedBack}
+
+-- what the form's lines and tokens are
+pub record Form : Type 0 where
+  -- lines: the parts into which byte 10 cuts the text
+  pub cutAtLines : (text : List ℕ) → Cut 10 text (lines text)
+  -- v lines: those that begin "v "; their tokens are the parts into which byte 32 cuts the rest
+  pub cutAtSpaces : (rest : List ℕ) → (ts : List (List ℕ)) × (kind (118 ∷ 32 ∷ rest) ≡ values ts) × Cut 32 rest ts
+  pub onlyThose : (l : List ℕ) (ts : List (List ℕ)) → kind l ≡ values ts → (rest : List ℕ) × (l ≡ 118 ∷ 32 ∷ rest)
+  -- a token is right exactly when it is the decimal text of a number from -N to N, and it says that number
+  pub tokens : (N : ℕ) (t : List ℕ) → T (token? N t) ↔ DecimalText N t
+  pub tokenSays : (w : ℤ) → value (signed w) ≡ w
 
 -- for the instance bytes b and the horizon m
 module _ (b : List ℕ) (m : ℕ) where
@@ -50,6 +64,7 @@ module _ (b : List ℕ) (m : ℕ) where
         × Names (I .sizes) (gathered groups last) (handedBack b m (entriesRead (printed groups last) z) s)
         × Accepts (checkAnswer b m (handedBack b m (entriesRead (printed groups last) z) s))
 
--- for every accepted instance and horizon
-abbrev pub Claim : Type 0
-Claim = (b : List ℕ) (m : ℕ) → Accepts (instanceAnswer b m) → Reader b m
+pub record Claim : Type 0 where
+  pub form : Form
+  -- for every accepted instance and horizon
+  pub reader : (b : List ℕ) (m : ℕ) → Accepts (instanceAnswer b m) → Reader b m

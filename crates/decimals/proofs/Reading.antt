@@ -1,7 +1,7 @@
 -- What digits say: a number's digits give the number back, and none of them is a 0 in front.
-use mathlib.Core.Path.{_≡_, refl}
+use mathlib.Core.Path.{_≡_, refl, sym, _∙_, ap, ap₂}
 use mathlib.Core.Logic.{by-cases}
-use mathlib.Core.List.{List, [], _∷_, _++_}
+use mathlib.Core.List.{List, [], _∷_, _++_, append-nil, append-assoc}
 use Prim.Native.Nat.{ℕ, zero, suc, _+_, _-_, _*_, _/_, _%_, _≤_, _<_}
 use native.Mathlib.Nat.{le-refl}
 use native.Mathlib.Decide.{decLt}
@@ -13,6 +13,7 @@ use Rattle.lists.specs.Loop.{all}
 use Rattle.lists.proofs.Tests.{leb-iff, and-iff}
 use Rattle.lists.proofs.Loops.{all-append, one-all}
 use Rattle.decimals.specs.Decimals.{digit, digit?, digits, decimal, readOn}
+use Rattle.decimals.proofs.Laws.{decimal-one, decimal-more}
 
 read-append : (x : ℕ) (s t : List ℕ) → readOn x (s ++ t) ≡ readOn (readOn x s) t
 read-append x [] t = refl
@@ -76,3 +77,33 @@ only-digits (suc p) x h =
 pub decimal-digits : (x : ℕ) → T (all digit? (decimal x))
 unfolding decimal
 decimal-digits x = only-digits x x (omega arith)
+
+-- ---- the other way round: digits that begin with no 0 are those of the number that they say
+one-more : (x d : ℕ) → 1 ≤ x → T (digit? d) → decimal (10 * x + (d - 48)) ≡ decimal x ++ d ∷ []
+one-more x d h t =
+    let (a, b) = and-iff (leb 48 d) (leb d 57) .0 t in
+    let low = leb-iff 48 d .0 a in
+    let high = leb-iff d 57 .0 b in
+    let q : (10 * x + (d - 48)) / 10 ≡ x = omega arith in
+    let r : digit ((10 * x + (d - 48)) % 10) ≡ d = omega arith in
+    decimal-more (10 * x + (d - 48)) (omega arith) ∙ ap₂ (λ (y : ℕ) (z : ℕ). decimal y ++ z ∷ []) q r
+
+more : (x : ℕ) (t : List ℕ) → 1 ≤ x → T (all digit? t) → decimal (readOn x t) ≡ decimal x ++ t
+more x [] h a = sym (append-nil (decimal x))
+more x (d ∷ t) h a =
+    let (b, c) = and-iff (digit? d) _ .0 a in
+    more (10 * x + (d - 48)) t (omega arith) c
+    ∙ ap (λ (l : List ℕ). l ++ t) (one-more x d h b)
+    ∙ append-assoc (decimal x) (d ∷ []) t
+
+pub decimal-read : (d : ℕ) (t : List ℕ) → T (all digit? (d ∷ t)) → (d ≡ 48 → ⊥) → decimal (readOn 0 (d ∷ t)) ≡ d ∷ t
+decimal-read d t a f =
+    let (b, c) = and-iff (digit? d) _ .0 a in
+    let (l, m) = and-iff (leb 48 d) (leb d 57) .0 b in
+    let low = leb-iff 48 d .0 l in
+    let high = leb-iff d 57 .0 m in
+    let e : 10 * 0 + (d - 48) ≡ d - 48 = omega arith in
+    let back : digit (d - 48) ≡ d = omega arith in
+    ap (λ (x : ℕ). decimal (readOn x t)) e
+    ∙ more (d - 48) t (omega (arith, low, f)) c
+    ∙ ap (λ (l : List ℕ). l ++ t) (decimal-one (d - 48) (omega arith) ∙ ap (λ (x : ℕ). x ∷ []) back)

@@ -41,7 +41,7 @@ module _ (N : ℕ) where
   size-of false x = refl
 
   -- digits that do not begin with 0 say 1 or more
-  size-range : (t : List ℕ) → T (size? N t) → (1 ≤ readOn 0 t) × (readOn 0 t ≤ N)
+  pub size-range : (t : List ℕ) → T (size? N t) → (1 ≤ readOn 0 t) × (readOn 0 t ≤ N)
   size-range [] h = absurd h
   size-range (x ∷ t) h =
       let (a, b) = and-iff (not (eqb x 48)) _ .0 h in

@@ -2,4 +2,5 @@
 pub mod Pieces
 pub mod Walk
 pub mod Given
+pub mod Cut
 pub mod RoundTrip

@@ -12,8 +12,9 @@ use std::path::Path;
 use std::process::{exit, Command, Stdio};
 use std::time::Duration;
 
-/// The most that a call may take of its time with the earlier library. A call that is not here has no target.
-const TARGETS: [(&str, &str, f64); 1] = [("plan check", "largest", 1.0)];
+/// The most that a call may take of its time with the earlier library. A call that is not here has no target; each
+/// landing sets its own, and S-2 has none.
+const TARGETS: [(&str, &str, f64); 0] = [];
 
 /// Each program runs so often for a call, and samples it for so long at least.
 const TURNS: usize = 20;
@@ -218,7 +219,9 @@ pub fn compare(now: &Path, before: &Path, had: &[Names]) {
     }
     assert_eq!(targets, TARGETS.len(), "a target is of no row");
     let missed = table.missed;
-    println!("\ntargets missed against the earlier library: {missed}");
+    if !TARGETS.is_empty() {
+        println!("\ntargets missed against the earlier library: {missed}");
+    }
 }
 
 /// The best times of both programs, taken in turn, for each line that they print.
