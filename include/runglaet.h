@@ -70,14 +70,21 @@ runglaet_answer runglaet_decode(const uint8_t *instance, size_t instance_len, ui
 runglaet_answer runglaet_encode(const uint8_t *instance, size_t instance_len, uint64_t horizon,
                                 const uint8_t *plan, size_t plan_len, int32_t *entries, size_t entries_len);
 
-/* From what a solver printed, in the SAT competition's text, to the valuation: at most RUNGLAET_TEXT_MAX bytes.
- * Lines end with byte 10, which the last may lack. Empty lines and those that begin with c are skipped. One line is
- * "s SATISFIABLE", "s UNSATISFIABLE" or "s UNKNOWN". A line that begins "v " has tokens, single spaces between: literals
- * of the variables 1 to N, in any order, each variable once, and at their end 0, after which no v line may follow.
+/* From what a solver printed, in the SAT competition's text, to the valuation. The form that is read, of N variables:
+ *
+ * - At most RUNGLAET_TEXT_MAX bytes. Each byte 10 ends a line; the last line may lack it.
+ * - Empty lines, and lines that begin with c, are skipped.
+ * - Exactly one line is "s SATISFIABLE", "s UNSATISFIABLE" or "s UNKNOWN", byte for byte. It may stand anywhere.
+ * - A line that begins "v " has one or more tokens, with one space between two and none at the end. A token is 0, or a
+ *   number from 1 to N with or without "-" in front: in decimal, without leading zeros, plus signs or "-0".
+ * - The token 0 is the last one of its line, and no v line follows. It is needed only with "s SATISFIABLE".
+ * - Any other line is wrong: a second s line, one with a carriage return, a tab or a space too many.
+ *
  * Asks 1 to 10, 16 and 27 to 29. Accepted: the valuation's entries stand first in `entries`, in variable order, and
- * `second` is how many they are. Refusal 27 gives the offset of the first wrong line, or the text's length where no line
- * is wrong but the s line or the 0 is missing, or RUNGLAET_TEXT_MAX for any longer text; 28 the offset of the s line; 29
- * the lowest variable that is missing or repeated. Whether the valuation satisfies the formula, the decoder asks. */
+ * `second` is how many they are. Refusal 27, not of the form: RUNGLAET_TEXT_MAX for a longer text, which is asked first;
+ * else the offset of the first wrong line; else, where the s line or the 0 is missing, the text's length. Refusal 28, not
+ * SATISFIABLE: the offset of the s line. Refusal 29, some variable is missing or given more than once: the lowest such
+ * variable. The literals may come in any order. Whether they satisfy the formula, the decoder asks. */
 #define RUNGLAET_TEXT_MAX 524288
 runglaet_answer runglaet_read_valuation(const uint8_t *instance, size_t instance_len, uint64_t horizon,
                                         const uint8_t *text, size_t text_len, int32_t *entries, size_t entries_len);

@@ -2,7 +2,7 @@
 use mathlib.Core.Path.{_≡_, refl, sym, _∙_, ap, subst}
 use mathlib.Core.Logic.{_↔_, Iff·trans, Iff·symm}
 use mathlib.Core.List.{List}
-use Prim.Native.Nat.{ℕ, _≤_}
+use Prim.Native.Nat.{ℕ, suc, _≤_, _<_}
 use native.Mathlib.Omega.{arith}
 use lib.ListN.{length, take}
 use lib.Dec.{T}
@@ -15,18 +15,19 @@ use Rattle.answers.proofs.Laws.{each-nil, decide-iff, lent-take}
 use Rattle.instance.specs.Instance.{Instance, instance}
 use Rattle.instance.specs.Questions.{instanceQuestions, instanceAnswer}
 use Rattle.instance.proofs.Instance.{instance-iff, limits}
+use Rattle.formula.specs.Variables.{Literal}
 use Rattle.formula.specs.Formula.{Formula, formula}
 use Rattle.formula.proofs.Limits.{variables-most}
-use Rattle.valuation.specs.Satisfying.{Valuation, Satisfies, Names}
+use Rattle.valuation.specs.Satisfying.{True, Valuation, Satisfies, Names}
 use Rattle.solver_text.specs.Text.{lines, pieces, kind}
-use Rattle.solver_text.specs.Form.{given, inOrder}
+use Rattle.solver_text.specs.Form.{textMost, literal?, given, times, inOrder}
 use Rattle.solver_text.specs.Printed.{printed, gathered, some?}
 use Rattle.solver_text.specs.Walk.{nothing}
 use Rattle.solver_text.proofs.Walk.{lines-asked}
-use Rattle.solver_text.proofs.Given.{literal?, lines-inside, order-length, order-valuation, order-true}
-use Rattle.solver_text.proofs.Cut.{pieces-all, v-line, token-printed}
+use Rattle.solver_text.proofs.Given.{lines-inside, order-length, order-valuation, order-true}
+use Rattle.solver_text.proofs.Cut.{pieces-all, satisfiable-line, other-line, v-line, token-printed}
 use Rattle.solver_text.proofs.Pieces.{token-value}
-use Rattle.solver_text.proofs.RoundTrip.{Back, back-again}
+use Rattle.solver_text.proofs.RoundTrip.{Back, back-again, valuation-inside, valuation-short, valuation-once, valuation-order}
 use Rattle.calls.specs.Questions.{question16}
 use Rattle.calls.specs.Calls.{readRest, readQuestions, readAnswer, readSlice, checkAnswer, decodeAnswer}
 use Rattle.calls.proofs.Valuation.{true-iff, clear-entries}
@@ -76,50 +77,72 @@ module _ (b : List ℕ) (m : ℕ) (o : Accepts (instanceAnswer b m)) where
           ap (λ (k : ℕ). take k (readSlice b m text z)) (sym (order-length n (given text)))
           ∙ lent-take (readAnswer b m text (length z)) (inOrder n (given text)) z a
 
-  module _ (groups : List (List ℤ)) (last z : List ℤ) (h : T (all some? groups)) (v : Valuation n (gathered groups last)) (l : n ≤ length z) where
+  module _ (groups : List (List ℤ)) (last z : List ℤ) (h : T (all some? groups)) (l : n ≤ length z) where
     abbrev text : List ℕ
     text = printed groups last
 
-    printed-back : Back n text (gathered groups last)
-    printed-back = back-again n groups last h v (let l = variables-most (I .sizes) (limits b m ok) in omega arith)
+    abbrev ws : List ℤ
+    ws = gathered groups last
 
-    accepted : Accepts (readAnswer b m text (length z))
-    accepted =
-        let w = printed-back in
-        accepts text z l
-        (record {
-          short = w .short;
-          right = each-nil _ _ _ .0 (lines-asked n text ∙ w .right);
-          complete = w .complete;
-          satisfied = w .satisfied;
-          once = w .once;
-        })
+    module _ (inside : T (all (literal? n) ws)) (once : (i : ℕ) → i < n → times (suc i) ws ≡ 1) (short : length text ≤ textMost) where
+      there : Back n text ws
+      there = back-again n groups last h inside
 
-    reads-back : entriesRead b m text z ≡ gathered groups last
-    reads-back = entries-are text z accepted ∙ printed-back .entries
+      accepted : Accepts (readAnswer b m text (length z))
+      accepted =
+          accepts text z l
+          (record {
+            short = short;
+            right = each-nil _ _ _ .0 (lines-asked n text ∙ there .right);
+            complete = there .complete;
+            satisfied = there .satisfied;
+            once = λ i k. ap (times (suc i)) (there .literals) ∙ once i k;
+          })
 
-    comes-to-plan : (s : List ℕ) → bytes b m ≤ length s → Satisfies base (gathered groups last)
-        → Accepts (decodeAnswer b m (entriesRead b m text z) (length s))
-        × Names (I .sizes) (gathered groups last) (handedBack b m (entriesRead b m text z) s)
-        × Accepts (checkAnswer b m (handedBack b m (entriesRead b m text z) s))
+      in-order : entriesRead b m text z ≡ inOrder n ws
+      in-order = entries-are text z accepted ∙ ap (inOrder n) (there .literals)
+
+    reads-back : Valuation n ws → Accepts (readAnswer b m text (length z)) × (entriesRead b m text z ≡ ws)
+    reads-back v =
+        let i = valuation-inside n groups last h v in
+        let o = valuation-once n groups last h v in
+        let s = valuation-short n groups last h v (let k = variables-most (I .sizes) (limits b m ok) in omega arith) in
+        (accepted i o s, in-order i o s ∙ valuation-order n groups last h v)
+
+  module _ (text : List ℕ) (z : List ℤ) (a : Accepts (readAnswer b m text (length z))) where
+    abbrev es : List ℤ
+    es = entriesRead b m text z
+
+    pub read-valuation : Valuation n es
+    read-valuation = subst (Valuation n) (sym (entries-are text z a)) (order-valuation n (given text))
+
+    pub read-literals : (w : Literal) → True es w ↔ True (given text) w
+    read-literals w =
+        rw (entries-are text z a)
+        (Iff·trans (Iff·symm (true-iff (inOrder n (given text)) w))
+        (Iff·trans (order-true n (given text) (inside text z a) (readable text z a .once) w) (true-iff (given text) w)))
+
+    comes-to-plan : (s : List ℕ) → bytes b m ≤ length s → Satisfies base (given text)
+        → Accepts (decodeAnswer b m es (length s)) × Names (I .sizes) (given text) (handedBack b m es s) × Accepts (checkAnswer b m (handedBack b m es s))
     comes-to-plan s k f =
         let c = correspondence b m o in
-        let a = c .decoder (gathered groups last) s k .1 (v, f) in
-        let d = c .decoded (gathered groups last) s k a in
-        rw reads-back (a, d .0, d .1)
+        let f′ : Satisfies base es = λ clause i. let (w, j, t) = f clause i in (w, j, read-literals w .1 t) in
+        let a′ = c .decoder es s k .1 (read-valuation, f′) in
+        let (p, q) = c .decoded es s k a′ in (
+          a′,
+          record { size = p .size; inside = p .inside; chosen = λ t a v x y z. Iff·trans (Iff·symm (read-literals _)) (p .chosen t a v x y z) },
+          q,
+        )
 
 read-claim : (b : List ℕ) (m : ℕ) → Accepts (instanceAnswer b m) → Reader b m
 read-claim b m o =
     record {
       valuation = λ text z a.
-          let v : Valuation (N b m) (entriesRead b m text z) = subst (Valuation (N b m)) (sym (entries-are b m o text z a)) (order-valuation (N b m) (given text)) in
-          (v, clear-entries (formula (instance b m)) (entriesRead b m text z) .1 v);
-      literals = λ text z a w.
-          rw (entries-are b m o text z a)
-          (Iff·trans (Iff·symm (true-iff (inOrder (N b m) (given text)) w))
-          (Iff·trans (order-true (N b m) (given text) (inside b m o text z a) (readable b m o text z a .once) w) (true-iff (given text) w)));
-      back = λ groups last z h v l. (accepted b m o groups last z h v l, reads-back b m o groups last z h v l);
-      plan = λ groups last z s h v l k f. comes-to-plan b m o groups last z h v l s k f;
+          let v = read-valuation b m o text z a in (v, clear-entries (formula (instance b m)) (entriesRead b m text z) .1 v);
+      literals = read-literals b m o;
+      back = λ groups last z h v l. reads-back b m o groups last z h l v;
+      anyOrder = λ groups last z h i c s l. (accepted b m o groups last z h l i c s, in-order b m o groups last z h l i c s);
+      plan = λ text z s a k f. comes-to-plan b m o text z a s k f;
     }
 
 form : Form
@@ -127,6 +150,10 @@ unfolding kind
 form =
     record {
       cutAtLines = pieces-all 10;
+      emptyLine = refl;
+      comment = λ l. refl;
+      statusLine = satisfiable-line;
+      otherLine = other-line;
       cutAtSpaces = λ rest. (pieces 32 rest, refl, pieces-all 32 rest);
       onlyThose = v-line;
       tokens = token-printed;

@@ -8,7 +8,6 @@ use lib.IntN.{ℤ, pos, negℤ}
 use Rattle.answers.specs.declared.Answer.{Answer}
 use Rattle.answers.specs.declared.Written.{Written}
 use Rattle.answers.specs.Answers.{accept, refuse}
-use Rattle.solver_text.specs.Text.{satisfiable, unsatisfiable}
 use Rattle.calls.specs.Calls.{writeAnswer, writeSlice, clauseAnswer, clauseSlice, checkAnswer, decodeAnswer, decodeSlice, encodeAnswer, encodeSlice, readAnswer, readSlice}
 
 -- ---- instances
@@ -124,7 +123,17 @@ exchangeWords =
     ∷ neg 2 ∷ neg 8 ∷ pos 0
     ∷ []
 
--- ---- lines of a solver's text, each with its line end
+-- ---- lines of a solver's text, the v lines with their line ends
+-- "s SATISFIABLE", "s UNSATISFIABLE", "s UNKNOWN"
+abbrev satisfiable : List ℕ
+satisfiable = 115 ∷ 32 ∷ 83 ∷ 65 ∷ 84 ∷ 73 ∷ 83 ∷ 70 ∷ 73 ∷ 65 ∷ 66 ∷ 76 ∷ 69 ∷ []
+
+abbrev unsatisfiable : List ℕ
+unsatisfiable = 115 ∷ 32 ∷ 85 ∷ 78 ∷ 83 ∷ 65 ∷ 84 ∷ 73 ∷ 83 ∷ 70 ∷ 73 ∷ 65 ∷ 66 ∷ 76 ∷ 69 ∷ []
+
+abbrev unknown : List ℕ
+unknown = 115 ∷ 32 ∷ 85 ∷ 78 ∷ 75 ∷ 78 ∷ 79 ∷ 87 ∷ 78 ∷ []
+
 -- "v 4 -2" and "v 1 -3 0"
 abbrev firstLine : List ℕ
 firstLine = 118 ∷ 32 ∷ 52 ∷ 32 ∷ 45 ∷ 50 ∷ 10 ∷ []
@@ -161,20 +170,28 @@ table =
     ∷ example pair 1 (read (satisfiable ++ 10 ∷ firstLine ++ lastLine) (sevens 5)) (valuation (accept 4) (pos 1 ∷ neg 2 ∷ neg 3 ∷ pos 4 ∷ pos 7 ∷ []))
     ∷ example pair 1 (read (firstLine ++ lastLine ++ satisfiable) (sevens 4)) (valuation (accept 4) (pos 1 ∷ neg 2 ∷ neg 3 ∷ pos 4 ∷ []))
     ∷ example pair 1 (read (firstLine ++ lastLine ++ satisfiable) (sevens 3)) (valuation (refuse 16 4) (sevens 3))
+    -- "c s v", an empty line and "c" are skipped
+    ∷ example pair 1 (read (99 ∷ 32 ∷ 115 ∷ 32 ∷ 118 ∷ 10 ∷ 10 ∷ firstLine ++ lastLine ++ satisfiable ++ 10 ∷ 99 ∷ []) (sevens 4)) (valuation (accept 4) (pos 1 ∷ neg 2 ∷ neg 3 ∷ pos 4 ∷ []))
     -- wrong lines: -0, a token after the 0, a v line after the 0, a second s line
     ∷ example pair 1 (read (firstLine ++ minusZero ++ satisfiable) (sevens 4)) (valuation (refuse 27 7) (sevens 4))
     ∷ example pair 1 (read (zeroFirst ++ satisfiable) (sevens 4)) (valuation (refuse 27 0) (sevens 4))
     ∷ example pair 1 (read (lastLine ++ firstLine ++ satisfiable) (sevens 4)) (valuation (refuse 27 9) (sevens 4))
     ∷ example pair 1 (read (satisfiable ++ 10 ∷ satisfiable) (sevens 4)) (valuation (refuse 27 14) (sevens 4))
+    -- "v ", "s SATISFIABLE" and a carriage return; after the 0 a v line is wrong whatever the s line says
+    ∷ example pair 1 (read (firstLine ++ 118 ∷ 32 ∷ 10 ∷ satisfiable) (sevens 4)) (valuation (refuse 27 7) (sevens 4))
+    ∷ example pair 1 (read (firstLine ++ lastLine ++ satisfiable ++ 13 ∷ []) (sevens 4)) (valuation (refuse 27 16) (sevens 4))
+    ∷ example pair 1 (read (unknown ++ 10 ∷ lastLine ++ firstLine) (sevens 4)) (valuation (refuse 27 19) (sevens 4))
     -- the s line or the 0 is missing
     ∷ example pair 1 (read [] (sevens 4)) (valuation (refuse 27 0) (sevens 4))
     ∷ example pair 1 (read (firstLine ++ lastLine) (sevens 4)) (valuation (refuse 27 16) (sevens 4))
     ∷ example pair 1 (read (satisfiable ++ 10 ∷ firstLine) (sevens 4)) (valuation (refuse 27 21) (sevens 4))
     -- the s line is not SATISFIABLE, which needs no 0
     ∷ example pair 1 (read (firstLine ++ unsatisfiable) (sevens 4)) (valuation (refuse 28 7) (sevens 4))
-    -- variable 2 is missing; variable 1 is given twice
+    ∷ example pair 1 (read unknown (sevens 4)) (valuation (refuse 28 0) (sevens 4))
+    -- variable 2 is missing; variable 1 is given twice, opposite; variable 4 is given twice, equal
     ∷ example pair 1 (read (lastLine ++ satisfiable) (sevens 4)) (valuation (refuse 29 2) (sevens 4))
     ∷ example pair 1 (read (118 ∷ 32 ∷ 45 ∷ 49 ∷ 10 ∷ firstLine ++ lastLine ++ satisfiable) (sevens 4)) (valuation (refuse 29 1) (sevens 4))
+    ∷ example pair 1 (read (118 ∷ 32 ∷ 52 ∷ 10 ∷ firstLine ++ lastLine ++ satisfiable) (sevens 4)) (valuation (refuse 29 4) (sevens 4))
     -- two agents exchange the ends of an edge; their formula has 24 clauses, 72 words
     ∷ example exchange 1 (check (0 ∷ 1 ∷ 1 ∷ 0 ∷ [])) (answer (refuse 25 2))
     ∷ example exchange 1 (encode (0 ∷ 1 ∷ 1 ∷ 0 ∷ []) (sevens 8)) (valuation (refuse 25 2) (sevens 8))

@@ -1,8 +1,9 @@
 -- What the form of a solver's text is, and what the reader's answer and slice say of it: one claim.
 use mathlib.Core.Path.{_≡_}
-use mathlib.Core.Logic.{_↔_}
+use mathlib.Core.Logic.{_↔_, _⊎_}
 use mathlib.Core.List.{List, [], _∷_}
-use Prim.Native.Nat.{ℕ, _≤_}
+use mathlib.Core.Bool.{true, false}
+use Prim.Native.Nat.{ℕ, suc, _≤_, _<_}
 use lib.ListN.{length, take}
 use lib.Dec.{T}
 use lib.IntN.{ℤ}
@@ -14,9 +15,9 @@ use Rattle.formula.specs.Variables.{Literal}
 use Rattle.formula.specs.Formula.{Formula, formula}
 use Rattle.valuation.specs.Satisfying.{True, Valuation, Satisfies, Names}
 use Rattle.decimals.specs.Decimals.{signed}
-use Rattle.solver_text.specs.Text.{values, kind, lines, token?, value}
+use Rattle.solver_text.specs.Text.{skipped, status, values, kind, lines, satisfiable, unsatisfiable, unknown, token?, value}
 use Rattle.solver_text.specs.Cut.{Cut, DecimalText}
-use Rattle.solver_text.specs.Form.{given}
+use Rattle.solver_text.specs.Form.{textMost, literal?, given, times, inOrder}
 use Rattle.solver_text.specs.Printed.{printed, gathered, some?}
 use Rattle.calls.specs.Questions.{question14, question23}
 use Rattle.calls.specs.Calls.{checkAnswer, decodeAnswer, readAnswer, readSlice}
@@ -26,6 +27,12 @@ use Rattle.claims.specs.Correspondence.{Accepts, N, bytes, handedBack}
 pub record Form : Type 0 where
   -- lines: the parts into which byte 10 cuts the text
   pub cutAtLines : (text : List ℕ) → Cut 10 text (lines text)
+  -- an empty line and one that begins with c are skipped
+  pub emptyLine : kind [] ≡ skipped
+  pub comment : (l : List ℕ) → kind (99 ∷ l) ≡ skipped
+  -- s lines: "s SATISFIABLE", and the other two, byte for byte
+  pub statusLine : (l : List ℕ) → (kind l ≡ status true) ↔ (l ≡ satisfiable)
+  pub otherLine : (l : List ℕ) → (kind l ≡ status false) ↔ ((l ≡ unsatisfiable) ⊎ (l ≡ unknown))
   -- v lines: those that begin "v "; their tokens are the parts into which byte 32 cuts the rest
   pub cutAtSpaces : (rest : List ℕ) → (ts : List (List ℕ)) × (kind (118 ∷ 32 ∷ rest) ≡ values ts) × Cut 32 rest ts
   pub onlyThose : (l : List ℕ) (ts : List (List ℕ)) → kind l ≡ values ts → (rest : List ℕ) × (l ≡ 118 ∷ 32 ∷ rest)
@@ -57,12 +64,15 @@ module _ (b : List ℕ) (m : ℕ) where
     -- the competition's text of any valuation, its v lines cut anywhere, is accepted and reads back to the same entries
     pub back : (groups : List (List ℤ)) (last z : List ℤ) → T (all some? groups) → Valuation (N b m) (gathered groups last) → N b m ≤ length z
         → Accepts (readAnswer b m (printed groups last) (length z)) × (entriesRead (printed groups last) z ≡ gathered groups last)
-    -- where it satisfies the formula, the decoder comes to the plan that it names, which passes the check
-    pub plan : (groups : List (List ℤ)) (last z : List ℤ) (s : List ℕ) → T (all some? groups) → Valuation (N b m) (gathered groups last)
-        → N b m ≤ length z → bytes b m ≤ length s → Satisfies base (gathered groups last)
-        → Accepts (decodeAnswer b m (entriesRead (printed groups last) z) (length s))
-        × Names (I .sizes) (gathered groups last) (handedBack b m (entriesRead (printed groups last) z) s)
-        × Accepts (checkAnswer b m (handedBack b m (entriesRead (printed groups last) z) s))
+    -- so is that of any literals of the variables, in any order, each variable once; they are read in variable order
+    pub anyOrder : (groups : List (List ℤ)) (last z : List ℤ) → T (all some? groups) → T (all (literal? (N b m)) (gathered groups last))
+        → ((i : ℕ) → i < N b m → times (suc i) (gathered groups last) ≡ 1) → length (printed groups last) ≤ textMost → N b m ≤ length z
+        → Accepts (readAnswer b m (printed groups last) (length z)) × (entriesRead (printed groups last) z ≡ inOrder (N b m) (gathered groups last))
+    -- where the literals of an accepted text satisfy the formula, the decoder comes to the plan that they name, which passes the check
+    pub plan : (text : List ℕ) (z : List ℤ) (s : List ℕ) → Accepts (readAnswer b m text (length z)) → bytes b m ≤ length s → Satisfies base (given text)
+        → Accepts (decodeAnswer b m (entriesRead text z) (length s))
+        × Names (I .sizes) (given text) (handedBack b m (entriesRead text z) s)
+        × Accepts (checkAnswer b m (handedBack b m (entriesRead text z) s))
 
 pub record Claim : Type 0 where
   pub form : Form

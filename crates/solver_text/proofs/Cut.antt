@@ -1,7 +1,7 @@
 -- Pieces are the parts into which a byte cuts a text, and right tokens are decimal texts.
 use mathlib.Core.Path.{_≡_, refl, sym, _∙_, ap, ap₂, subst}
-use mathlib.Core.Logic.{_↔_, ⊎-elim}
-use mathlib.Core.List.{List, [], _∷_}
+use mathlib.Core.Logic.{_↔_, _⊎_, inl, inr, ⊎-elim}
+use mathlib.Core.List.{List, [], _∷_, cons≢nil}
 use mathlib.Core.Bool.{Bool, true, false, not, _||_, cond}
 use Prim.Native.Nat.{ℕ, zero, suc, _≤_}
 use native.Mathlib.Omega.{arith}
@@ -47,11 +47,71 @@ module _ (s : ℕ) where
   pub pieces-all : (l : List ℕ) → Cut s l (pieces s l)
   pieces-all l =
       record {
+        some = λ e. cons≢nil e;
         free = λ part i j.
             let f : T (all (free s) part) = all-mem (all (free s)) (pieces s l) .0 (and-iff (all (free s) (ahead s l)) _ .1 (ahead-free l, behind-free l)) part i in
             not-iff (eqb s s) .0 (all-mem (free s) part .0 f s j) (eqb-iff s s .1 refl);
         whole = together l;
       }
+
+-- ---- skipped lines, and s lines
+pub same-iff : (l r : List ℕ) → T (same l r) ↔ (l ≡ r)
+same-iff l r = (there l r, (λ e. subst (λ (x : List ℕ). T (same l x)) e (again l)))
+  where
+    there : (l r : List ℕ) → T (same l r) → l ≡ r
+    there [] [] h = refl
+    there [] (y ∷ r) h = absurd h
+    there (x ∷ l) [] h = absurd h
+    there (x ∷ l) (y ∷ r) h =
+        let (a, b) = and-iff (eqb x y) _ .0 h in ap₂ (λ (u : ℕ) (v : List ℕ). u ∷ v) (eqb-iff x y .0 a) (there l r b)
+
+    again : (l : List ℕ) → T (same l l)
+    again [] = tt
+    again (x ∷ l) = and-iff (eqb x x) _ .1 (eqb-iff x x .1 refl, again l)
+
+abbrev isStatus : Bool → Kind → Bool
+isStatus b (status s) = cond b s (not s)
+isStatus b skipped = false
+isStatus b (values ts) = false
+isStatus b neither = false
+
+-- the tests of a line's kind, in their order
+abbrev chosen : Bool → Bool → Bool → Bool → List (List ℕ) → Kind
+chosen a b c d ts = cond a skipped (cond b (status true) (cond c (status false) (cond d (values ts) neither)))
+
+is-yes : (a b c d : Bool) (ts : List (List ℕ)) → chosen a b c d ts ≡ status true → T b
+is-yes true b c d ts e = absurd (subst (λ (k : Kind). T (isStatus true k)) (sym e) tt)
+is-yes false true c d ts e = tt
+is-yes false false true d ts e = absurd (subst (λ (k : Kind). T (isStatus true k)) (sym e) tt)
+is-yes false false false true ts e = absurd (subst (λ (k : Kind). T (isStatus true k)) (sym e) tt)
+is-yes false false false false ts e = absurd (subst (λ (k : Kind). T (isStatus true k)) (sym e) tt)
+
+is-no : (a b c d : Bool) (ts : List (List ℕ)) → chosen a b c d ts ≡ status false → T c
+is-no true b c d ts e = absurd (subst (λ (k : Kind). T (isStatus false k)) (sym e) tt)
+is-no false true c d ts e = absurd (subst (λ (k : Kind). T (isStatus false k)) (sym e) tt)
+is-no false false true d ts e = tt
+is-no false false false true ts e = absurd (subst (λ (k : Kind). T (isStatus false k)) (sym e) tt)
+is-no false false false false ts e = absurd (subst (λ (k : Kind). T (isStatus false k)) (sym e) tt)
+
+pub satisfiable-line : (l : List ℕ) → (kind l ≡ status true) ↔ (l ≡ satisfiable)
+unfolding kind
+satisfiable-line l = (there l, (λ e. ap kind e))
+  where
+    there : (l : List ℕ) → kind l ≡ status true → l ≡ satisfiable
+    there [] e = absurd (subst (λ (k : Kind). T (isStatus true k)) (sym e) tt)
+    there (x ∷ l) e = same-iff (x ∷ l) satisfiable .0 (is-yes (eqb x 99) (same (x ∷ l) satisfiable) (same (x ∷ l) unsatisfiable || same (x ∷ l) unknown) (same (take 2 (x ∷ l)) (118 ∷ 32 ∷ [])) (pieces 32 (drop 2 (x ∷ l))) e)
+
+pub other-line : (l : List ℕ) → (kind l ≡ status false) ↔ ((l ≡ unsatisfiable) ⊎ (l ≡ unknown))
+unfolding kind
+other-line l = (there l, ⊎-elim (λ e. ap kind e) (λ e. ap kind e))
+  where
+    there : (l : List ℕ) → kind l ≡ status false → (l ≡ unsatisfiable) ⊎ (l ≡ unknown)
+    there [] e = absurd (subst (λ (k : Kind). T (isStatus false k)) (sym e) tt)
+    there (x ∷ l) e =
+        ⊎-elim
+        (λ h. inl (same-iff (x ∷ l) unsatisfiable .0 h))
+        (λ h. inr (same-iff (x ∷ l) unknown .0 h))
+        (or-iff (same (x ∷ l) unsatisfiable) _ .0 (is-no (eqb x 99) (same (x ∷ l) satisfiable) (same (x ∷ l) unsatisfiable || same (x ∷ l) unknown) (same (take 2 (x ∷ l)) (118 ∷ 32 ∷ [])) (pieces 32 (drop 2 (x ∷ l))) e))
 
 -- ---- v lines
 abbrev isValues : Kind → Bool

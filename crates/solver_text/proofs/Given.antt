@@ -3,7 +3,7 @@
 use mathlib.Core.Path.{_≡_, refl, sym, _∙_, ap, subst}
 use mathlib.Core.Logic.{_↔_, ⊎-elim, inl, inr}
 use mathlib.Core.List.{List, [], _∷_}
-use mathlib.Core.Bool.{Bool, true, false, not, _&&_, _||_, cond}
+use mathlib.Core.Bool.{Bool, true, false, not, _||_, cond}
 use Prim.Native.Nat.{ℕ, zero, suc, _+_, _*_, _-_, _≤_, _<_}
 use native.Mathlib.Omega.{arith}
 use borrow.Author.Tests.{eq-eqb, ne-eqb, eqb-false}
@@ -22,17 +22,13 @@ use Rattle.valuation.specs.Satisfying.{Valuation}
 use Rattle.valuation.proofs.Entries.{sameNumber-iff}
 use Rattle.solver_text.specs.declared.Said.{Said}
 use Rattle.solver_text.specs.Text.{zero?, negative?, unsigned, size?, token?, value, tokens?, Kind, skipped, status, values, neither, kind}
-use Rattle.solver_text.specs.Form.{literalsOn, literalsOf, times, inOrder}
+use Rattle.solver_text.specs.Form.{literalsOn, literalsOf, literal?, times, inOrder}
 use Rattle.solver_text.specs.Walk.{right?, after, wrongLines}
 use Rattle.solver_text.proofs.Walk.{split}
 
 -- ---- right lines give literals of the variables 1 to N
 module _ (N : ℕ) where
-  -- a literal of a variable 1 to N
-  abbrev pub literal? : ℤ → Bool
-  literal? w = leb 1 (natAbs w) && leb (natAbs w) N
-
-  pub range : (w : ℤ) → T (literal? w) → (1 ≤ natAbs w) × (natAbs w ≤ N)
+  pub range : (w : ℤ) → T (literal? N w) → (1 ≤ natAbs w) × (natAbs w ≤ N)
   range w t = let (a, b) = and-iff (leb 1 (natAbs w)) _ .0 t in (leb-iff 1 (natAbs w) .0 a, leb-iff (natAbs w) N .0 b)
 
   size-of : (b : Bool) (x : ℕ) → natAbs (cond b (negℤ (pos x)) (pos x)) ≡ x
@@ -50,7 +46,7 @@ module _ (N : ℕ) where
       let other : x ≡ 48 → ⊥ = λ e. not-iff (eqb x 48) .0 a (eqb-iff x 48 .1 e) in
       (omega (arith, read-most (10 * 0 + (x - 48)) t, low, other), leb-iff (readOn 0 (x ∷ t)) N .0 d)
 
-  token-inside : (t : List ℕ) → T (token? N t) → zero? t ≡ false → T (literal? (value t))
+  token-inside : (t : List ℕ) → T (token? N t) → zero? t ≡ false → T (literal? N (value t))
   unfolding token? value
   token-inside t h f =
       let e = size-of (negative? t) (readOn 0 (unsigned t)) in
@@ -62,27 +58,27 @@ module _ (N : ℕ) where
       and-iff (leb 1 (natAbs w)) _ .1 (leb-iff 1 (natAbs w) .1 (omega (arith, e, l)), leb-iff (natAbs w) N .1 (omega (arith, e, m))))
       (or-iff (zero? t) _ .0 h)
 
-  one-inside : (t : List ℕ) → T (token? N t) → T (all literal? (unless (zero? t) (value t)))
-  one-inside t h = split (zero? t) (λ e. rw e tt) (λ e. rw e (and-iff (literal? (value t)) true .1 (token-inside t h e, tt)))
+  one-inside : (t : List ℕ) → T (token? N t) → T (all (literal? N) (unless (zero? t) (value t)))
+  one-inside t h = split (zero? t) (λ e. rw e tt) (λ e. rw e (and-iff (literal? N (value t)) true .1 (token-inside t h e, tt)))
 
-  tokens-inside : (closed : Bool) (ts : List (List ℕ)) → T (tokens? N closed ts) → T (all literal? (each (λ t. unless (zero? t) (value t)) ts))
+  tokens-inside : (closed : Bool) (ts : List (List ℕ)) → T (tokens? N closed ts) → T (all (literal? N) (each (λ t. unless (zero? t) (value t)) ts))
   tokens-inside closed [] h = tt
   tokens-inside closed (t ∷ ts) h =
       let (a, b) = and-iff (token? N t) _ .0 (and-iff (not closed) _ .0 h .1) in
-      all-append literal? (unless (zero? t) (value t)) _ .1 (one-inside t a, tokens-inside (zero? t) ts b)
+      all-append (literal? N) (unless (zero? t) (value t)) _ .1 (one-inside t a, tokens-inside (zero? t) ts b)
 
-  kind-inside : (said : Said) (k : Kind) → T (right? N said k) → T (all literal? (literalsOn k))
+  kind-inside : (said : Said) (k : Kind) → T (right? N said k) → T (all (literal? N) (literalsOn k))
   kind-inside said skipped h = tt
   kind-inside said (status s) h = tt
   kind-inside said (values ts) h = tokens-inside (said .closed) ts h
   kind-inside said neither h = tt
 
-  pub lines-inside : (at : ℕ) (said : Said) (ls : List (List ℕ)) → wrongLines N at said ls ≡ [] → T (all literal? (literalsOf ls))
+  pub lines-inside : (at : ℕ) (said : Said) (ls : List (List ℕ)) → wrongLines N at said ls ≡ [] → T (all (literal? N) (literalsOf ls))
   unfolding wrongLines literalsOf
   lines-inside at said [] e = tt
   lines-inside at said (l ∷ ls) e =
       let (a, b) = append-nil-iff (unless (right? N said (kind l)) (refuse 27 at)) _ .0 e in
-      all-append literal? (literalsOn (kind l)) _ .1
+      all-append (literal? N) (literalsOn (kind l)) _ .1
       (kind-inside said (kind l) (unless-nil (right? N said (kind l)) (refuse 27 at) .0 a), lines-inside (at + length l + 1) (after at said (kind l)) ls b)
 
 -- ---- in variable order

@@ -22,11 +22,11 @@ use Rattle.valuation.specs.Valuation.{sameNumber, true?, entry}
 use Rattle.valuation.specs.Satisfying.{Valuation}
 use Rattle.solver_text.specs.declared.Said.{Said}
 use Rattle.solver_text.specs.Text.{ahead, behind, lines, value, zero?, tokens?, kind, Kind, values, satisfiable}
-use Rattle.solver_text.specs.Form.{textMost, satisfiable?, complete?, literalsOf, given, times, inOrder}
+use Rattle.solver_text.specs.Form.{textMost, literal?, satisfiable?, complete?, literalsOf, given, times, inOrder}
 use Rattle.solver_text.specs.Printed.{vLine, printed, gathered, some?}
 use Rattle.solver_text.specs.Walk.{nothing, after, saidAfter, wrongLines, whole?}
 use Rattle.solver_text.proofs.Walk.{split, whole-is, satisfied-is}
-use Rattle.solver_text.proofs.Given.{literal?, range}
+use Rattle.solver_text.proofs.Given.{range}
 use Rattle.solver_text.proofs.Pieces.{pieces-cut, tokensOf, kind-v, line-free, token-right, token-value, token-zero}
 
 -- ---- the lines of a text that is printed
@@ -335,32 +335,46 @@ module _ (N : ℕ) (small : N ≤ 99999) where
         signed-length (pos 0) (omega arith),
       )
 
--- what the text of a valuation has
-pub record Back (N : ℕ) (text : List ℕ) (es : List ℤ) : Type 0 where
-  pub short : length text ≤ textMost
+-- what the text of literals has
+pub record Back (N : ℕ) (text : List ℕ) (ws : List ℤ) : Type 0 where
   pub right : wrongLines N 0 nothing (lines text) ≡ []
   pub complete : T (complete? (lines text))
   pub satisfied : T (any satisfiable? (lines text))
-  pub literals : given text ≡ es
-  pub once : (i : ℕ) → i < N → times (suc i) (given text) ≡ 1
-  pub entries : inOrder N (given text) ≡ es
+  pub literals : given text ≡ ws
 
-pub back-again : (N : ℕ) (groups : List (List ℤ)) (last : List ℤ) → T (all some? groups) → Valuation N (gathered groups last) → 9 * N + 23 ≤ textMost
-    → Back N (printed groups last) (gathered groups last)
-back-again N groups last o v m =
-    let es : List ℤ = gathered groups last in
-    let text : List ℕ = printed groups last in
-    let (a, b) = all-append (literal? N) (each (λ ws. ws) groups) last .0 (literals N es v) in
-    let g : T (all (all (literal? N)) groups) = all-groups (literal? N) groups a in
-    let said = all-said N groups last o g b in
-    let lits : given text ≡ es = all-literals N groups last o g b in
-    let listed : given text ≡ listed (entry es) N = lits ∙ listed-is N es v in
-    record {
-      short = omega (arith, text-length N (omega arith) groups last o g b, v .size);
-      right = no-wrong N groups last o g b;
-      complete = subst T (whole-is text) (subst (λ (x : Said). T (whole? x)) (sym said) tt);
-      satisfied = subst T (satisfied-is text) (subst (λ (x : Said). T (x .satisfiable)) (sym said) tt);
-      literals = lits;
-      once = λ i h. ap (times (suc i)) listed ∙ once (entry es) N (v .each) i h;
-      entries = ap (inOrder N) listed ∙ same-entries (entry es) N (v .each) ∙ sym (listed-is N es v);
-    }
+module _ (N : ℕ) (groups : List (List ℤ)) (last : List ℤ) (o : T (all some? groups)) where
+  abbrev ws : List ℤ
+  ws = gathered groups last
+
+  module _ (inside : T (all (literal? N) ws)) where
+    in-groups : T (all (all (literal? N)) groups)
+    in-groups = all-groups (literal? N) groups (all-append (literal? N) (each (λ ws. ws) groups) last .0 inside .0)
+
+    in-last : T (all (literal? N) last)
+    in-last = all-append (literal? N) (each (λ ws. ws) groups) last .0 inside .1
+
+    pub back-again : Back N (printed groups last) ws
+    back-again =
+        let text : List ℕ = printed groups last in
+        let said = all-said N groups last o in-groups in-last in
+        record {
+          right = no-wrong N groups last o in-groups in-last;
+          complete = subst T (whole-is text) (subst (λ (x : Said). T (whole? x)) (sym said) tt);
+          satisfied = subst T (satisfied-is text) (subst (λ (x : Said). T (x .satisfiable)) (sym said) tt);
+          literals = all-literals N groups last o in-groups in-last;
+        }
+
+  -- the text of a valuation is short enough, and gives each variable once, in variable order
+  module _ (v : Valuation N ws) where
+    pub valuation-inside : T (all (literal? N) ws)
+    valuation-inside = literals N ws v
+
+    pub valuation-short : 9 * N + 23 ≤ textMost → length (printed groups last) ≤ textMost
+    valuation-short m =
+        omega (arith, text-length N (omega arith) groups last o (in-groups valuation-inside) (in-last valuation-inside), v .size)
+
+    pub valuation-once : (i : ℕ) → i < N → times (suc i) ws ≡ 1
+    valuation-once i h = ap (times (suc i)) (listed-is N ws v) ∙ once (entry ws) N (v .each) i h
+
+    pub valuation-order : inOrder N ws ≡ ws
+    valuation-order = ap (inOrder N) (listed-is N ws v) ∙ same-entries (entry ws) N (v .each) ∙ sym (listed-is N ws v)

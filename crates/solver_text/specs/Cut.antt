@@ -11,8 +11,10 @@ joined s [] = []
 joined s (p ∷ []) = p
 joined s (p ∷ q ∷ ps) = p ++ s ∷ joined s (q ∷ ps)
 
--- the parts into which each byte s cuts a text: no part has an s, and put together with an s between them they are the text
+-- the parts into which each byte s cuts a text: there is one at least, none has an s, and put together with an s between them they are
+-- the text
 pub record Cut (s : ℕ) (text : List ℕ) (parts : List (List ℕ)) : Type 0 where
+  pub some : parts ≡ [] → ⊥
   pub free : (part : List ℕ) → List·Memᴰ part parts → List·Memᴰ s part → ⊥
   pub whole : joined s parts ≡ text
 

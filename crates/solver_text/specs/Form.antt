@@ -3,7 +3,7 @@ use mathlib.Core.List.{List, [], _∷_}
 use mathlib.Core.Bool.{Bool, true, false, not, _&&_, _||_, cond}
 use Prim.Native.Nat.{ℕ, suc, _+_}
 use lib.ListN.{length, getD, take}
-use lib.Dec.{eqb}
+use lib.Dec.{leb, eqb}
 use lib.IntN.{ℤ, pos, negℤ, natAbs}
 use Rattle.lists.specs.Loop.{for, unless, each, any, first, sum}
 use Rattle.formula.specs.Variables.{Literal}
@@ -45,8 +45,8 @@ unfoldable pub closing? : List ℕ → Bool
 closing? l = isClosing (kind l)
 
 -- ---- the form
--- May a line of this kind stand after the lines before it? A skipped line always; an s line where there is none yet; a v line where its
--- tokens are in order, the 0 of an earlier line included.
+-- May a line of this kind stand after the lines before it? A skipped line always; an s line where there is none yet; a v line where no
+-- earlier one has the 0, each of its tokens is 0 or a literal, and none follows the 0.
 abbrev pub mayFollow : ℕ → List (List ℕ) → Kind → Bool
 mayFollow N before skipped = true
 mayFollow N before (status s) = not (any status? before)
@@ -87,6 +87,10 @@ literalsOf ls = each (λ l. literalsOn (kind l)) ls
 -- all literals of a text, as they come
 abbrev pub given : List ℕ → List Literal
 given text = literalsOf (lines text)
+
+-- it is of a variable 1 to N
+abbrev pub literal? : ℕ → Literal → Bool
+literal? N w = leb 1 (natAbs w) && leb (natAbs w) N
 
 -- how often a variable is given, as itself or as its negative
 unfoldable pub times : ℕ → List Literal → ℕ

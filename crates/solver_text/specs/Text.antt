@@ -34,7 +34,7 @@ same (x ∷ l) [] = false
 same (x ∷ l) (y ∷ r) = eqb x y && same l r
 
 -- ---- tokens
--- digits, the first of them not 0, that say a number of at most N
+-- digits, the first of them not 0, that say a number of at most N; no digit at all counts as a 0
 abbrev pub size? : ℕ → List ℕ → Bool
 size? N t = not (eqb (getD t 0 48) 48) && (all digit? t && leb (readOn 0 t) N)
 

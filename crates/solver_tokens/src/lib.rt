@@ -69,10 +69,10 @@ fn read_digits(text: &[u8], from: usize, n: usize) -> Number
     }
 }
 
-// The same from a place that has seven bytes or more behind it: those are read without asking where the text ends. A number of
-// more digits is left to `read_digits`.
+// The same where the text has six bytes or more from here on: they are read without asking where it ends. A number of six digits or
+// more is left to `read_digits`.
 fn near_digits(text: &[u8], from: usize, n: usize) -> Number
-    requires { ⌜ (length (now text) ≤ 524288) × (from + 7 ≤ length (now text)) × (n ≤ 65536) ⌝ }
+    requires { ⌜ (length (now text) ≤ 524288) × (from + 6 ≤ length (now text)) × (n ≤ 65536) ⌝ }
     ensures { λ r. ⌜ IsNumber n 0 (token (now (text .entry)) from) from r ⌝ }
 {
     let mut x: usize = 0;
@@ -120,7 +120,7 @@ fn read_size(text: &[u8], from: usize, n: usize) -> Number
             end: from,
         };
     }
-    if from + 7 <= text.len() {
+    if from + 6 <= text.len() {
         return near_digits(text, from, n);
     }
     read_digits(text, from, n)
