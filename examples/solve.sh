@@ -9,8 +9,9 @@
 # Exit status: 0 a plan that passes; 1 refused by the library; 3 no plan of this makespan; 2 anything else, a signal too.
 #
 # A refusal is a line on standard output, any other failure one on standard error. The first forty characters of either
-# tell its kind; details come behind, and a path comes last. A line "note: ..." on standard error says that what minisat
-# or cryptominisat printed was brought into the form that the library reads.
+# tell its kind; details come behind, and a path comes last. A line "note: ..." on standard error says that what the
+# solver printed was brought into the form that the library reads: minisat's result file, and cryptominisat's output
+# where a v line ends with a space.
 set -u
 solvers="cadical kissat minisat picosat cryptominisat5"
 root=$(realpath "$(dirname "$(realpath "$0")")/..") || exit 2
@@ -180,13 +181,14 @@ no_verdict() {
 }
 [ "$solved" -eq 10 ] || [ "$solved" -eq 20 ] || no_verdict
 
-# The plan that its valuation names, checked and shown. What the solver printed is the library's to accept or to refuse.
+# The plan that its valuation names, checked and shown. What the solver printed is the library's to accept or to refuse,
+# whichever verdict its exit status gives.
 answer=$("$shuttles" decode "$description" "$horizon" <"$output") || status=$?
 case "$solved $status" in
-"10 0" | "10 1" | "20 3")
+"10 0" | "10 1" | "20 1" | "20 3")
     say "$answer"
     exit "$status"
     ;;
-*" "[013]) stop "the solver's exit status and its output do not agree, $solved and \"${answer##*$'\n'}\": $SOLVER" ;;
+*" "[03]) stop "the solver's exit status and its output do not agree, $solved and \"${answer##*$'\n'}\": $SOLVER" ;;
 *) exit 2 ;;
 esac

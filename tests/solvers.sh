@@ -3,8 +3,9 @@
 #
 # Solves every example of the table in examples/README.md and the cases below with each solver installed, and compares
 # with the answer known beforehand. A plan must pass the plan check, and its own valuation must decode to it again. What
-# cadical, kissat and picosat print is read as it is; of minisat's and cryptominisat's output a note says that it was
-# brought into the form that is read, and nothing else is said on standard error.
+# cadical and picosat print is read as it is, and kissat is held to that where it is installed. Of minisat's output, and
+# of cryptominisat's where a v line ends with a space, a note says that it was brought into the form that is read. Nothing
+# else is said on standard error.
 # INSTALL=yes installs the solvers first (as root). RUNGLAET_LIB and RUNGLAET_PROGRAM as in examples/solve.sh.
 # Status 77: no solver is installed, and the table alone was read.
 set -u

@@ -141,7 +141,7 @@ expect RefusalWord 2 "$shuttles" refusal x 1
 expect RefusalWord 2 "$shuttles" refusal 99999999999 1
 expect RefusalWord 2 "$shuttles" refusal 8 -1
 
-# Refusals, with the place in the reader's terms.
+# Refusals, with the place in plain terms.
 # told TERMS: the place was told like this.
 told() { result "$(grep -aqF -- ": $1 (place " said || cat said)" "$1"; }
 # refuse NUMBER TERMS COMMAND...: refused so, with the place told like this.
@@ -231,7 +231,7 @@ text 27 'line 1: a carriage return stands at its end: "s SATISFIABLE\r"' 's SATI
 text 27 'line 3: a carriage return stands at its end: "v 1 -2\r"' 'c pasted\r\ns SATISFIABLE\nv 1 -2\r\nv -3 4 0\r\n'
 text 27 'line 1: a carriage return stands at its end: "SAT\r"' 'SAT\r\n1 -2 -3 4 0\r\n'
 text 27 'line 2: a carriage return stands at its end: "\r"' 's SATISFIABLE\n\r\nv 1 -2 -3 4 0\n'
-text 27 'line 1: a carriage return stands at column 14: "s SATISFIABLE\rv 1 -2 -3 4 0\r"' 's SATISFIABLE\rv 1 -2 -3 4 0\r'
+text 27 'line 1, where the text ends: a carriage return stands at column 14: "s SATISFIABLE\rv 1 -2 -3 4 0\r"' 's SATISFIABLE\rv 1 -2 -3 4 0\r'
 text 27 'line 2: a tab stands at column 4: "v 1\t-2 -3 4 0"' 's SATISFIABLE\nv 1\t-2 -3 4 0\n'
 text 27 'line 2: a tab stands at column 2: "v\t1 -2 -3 4 0"' 's SATISFIABLE\nv\t1 -2 -3 4 0\n'
 text 27 'line 4: a space stands at its beginning: " v 1 -2 -3 4 0"' '\n\ns SATISFIABLE\n v 1 -2 -3 4 0\n'
@@ -240,9 +240,12 @@ text 27 'line 2: two spaces in a row stand at column 7: "v 1 -2  -3 4 0"' 's SAT
 text 27 'line 2: two spaces in a row stand at column 14: "v 1 -2 -3 4 0  "' 's SATISFIABLE\nv 1 -2 -3 4 0  \n'
 text 27 'line 1: a space stands at its end: "s SATISFIABLE "' 's SATISFIABLE \nv 1 -2 -3 4 0\n'
 text 27 'line 2: no literal stands behind its v: "v"' 's SATISFIABLE\nv\nv 1 -2 -3 4 0\n'
+text 27 'line 3, where the text ends: no literal stands behind its v: "v"' 's SATISFIABLE\nv 1 -2\nv'
 text 27 'line 2: no literal stands behind its v: "v "' 's SATISFIABLE\nv \nv 1 -2 -3 4 0\n'
 text 27 'line 2: "x" at column 5 is no number: "v 1 x 0"' 's SATISFIABLE\nv 1 x 0\n'
-text 27 'line 3: "-" at column 3 is no number: "v -"' 's SATISFIABLE\nv 1\nv -'
+text 27 'line 3, where the text ends: "-" at column 3 is no number: "v -"' 's SATISFIABLE\nv 1\nv -'
+text 27 'line 3: "-" at column 3 is no number: "v -"' 's SATISFIABLE\nv 1\nv -\n'
+text 27 'line 2, where the text ends: "-" at column 8 is no number: "v 1 -2 -"' 's SATISFIABLE\nv 1 -2 -'
 text 27 'line 2: "--1" at column 3 is no number: "v --1 0"' 's SATISFIABLE\nv --1 0\n'
 text 27 'line 2: "1\0\xff" at column 3 is no number: "v 1\0\xff"' 's SATISFIABLE\nv 1\0000\0377\n'
 text 27 'line 2: "-0" at column 5 has a sign, and 0 has none: "v 1 -0"' 's SATISFIABLE\nv 1 -0\n'
@@ -255,9 +258,9 @@ text 27 'line 2: "-3" at column 7 stands behind the closing 0: "v 1 0 -3"' 's SA
 text 27 'line 2: "0" at column 15 stands behind the closing 0: "v 1 -2 -3 4 0 0"' 's SATISFIABLE\nv 1 -2 -3 4 0 0\n'
 text 27 'line 4: a v line stands behind the closing 0, which is in line 2: "v 4"' 's SATISFIABLE\nv 1 -2 -3 0\nc\nv 4\n'
 text 27 'line 3: a second s line, the first is line 1: "s SATISFIABLE"' 's SATISFIABLE\nv 1 -2 -3 4 0\ns SATISFIABLE\n'
-text 27 'line 4: a second s line, the first is line 2: "s UNSATISFIABLE"' 'c\ns UNKNOWN\n\ns UNSATISFIABLE'
+text 27 'line 4, where the text ends: a second s line, the first is line 2: "s UNSATISFIABLE"' 'c\ns UNKNOWN\n\ns UNSATISFIABLE'
 for verdict in s 's SAT' 's SATISFIABL' 's UNSAT' 's UNK'; do
-    text 27 "line 2: its verdict is cut short: \"$verdict\"" "c\n$verdict"
+    text 27 "line 2, where the text ends: its verdict is cut short: \"$verdict\"" "c\n$verdict"
     text 27 "line 1: its verdict is cut short: \"$verdict\"" "$verdict\n"
 done
 text 27 'line 1: its verdict is none of SATISFIABLE, UNSATISFIABLE and UNKNOWN: "s PERHAPS"' 's PERHAPS\n'
@@ -268,19 +271,26 @@ text 27 'line 2: it begins with none of "c", "s " and "v ": "v1 0"' 's SATISFIAB
 text 27 'line 1: a byte order mark (UTF-8) stands before it: "\u{feff}s SATISFIABLE"' '\0357\0273\0277s SATISFIABLE\nv 1 -2 -3 4 0\n'
 text 27 'line 1: a byte order mark (UTF-16) stands before it: "\xff\xfes\0"' '\0377\0376s\0000\n\0000'
 text 27 'the text is empty' ''
-text 27 'the s line is missing, the text was probably cut short' 'c s SATISFIABLE\nv 1 -2 -3 4 0\n'
+text 27 'the s line is missing, the text was probably cut short' 'c\n'
+text 27 'the s line is missing, the text was probably cut short' 'v 1 -2 -3 4\n'
+text 27 'the s line is missing, the beginning of the text was probably not copied' 'v 1 -2\nv -3 4 0\n'
+text 27 'the s line is missing, the beginning of the text was probably not copied' 'c s SATISFIABLE\nv 1 -2 -3 4 0\n'
 text 27 'the s line is missing, line 1 goes on as a comment behind a carriage return' 'c Mac\rs SATISFIABLE\rv 1 -2 -3 4 0\r'
 text 27 'the closing 0 is missing, the text was probably cut short: 0 of 4 literals are there' 's SATISFIABLE'
-text 27 'the closing 0 is missing, the text was probably cut short: 4 of 4 literals are there' 's SATISFIABLE\nv 1 -2\nv -3 4\n'
+text 27 'the closing 0 is missing, the text was probably cut short: 3 of 4 literals are there' 's SATISFIABLE\nv 1 -2\nv -3\n'
+text 27 'the closing 0 is missing' 's SATISFIABLE\nv 1 -2\nv -3 4\n'
+text 27 'the closing 0 is missing, line 3 goes on as a comment behind a carriage return' 's SATISFIABLE\nv 1 -2 -3 4\nc\rv 0\r'
 { printf 's SATISFIABLE\nv '; printf '1 %.0s' {1..998}; echo 1; } >long.txt
-refuse 27 'the closing 0 is missing, the text was probably cut short: 999 of 4 literals are there' from long.txt "$shuttles" decode pair.txt 1
+refuse 27 'the closing 0 is missing' from long.txt "$shuttles" decode pair.txt 1
 echo 'v x' >>long.txt
 refuse 27 'line 3: "x" at column 3 is no number: "v x"' from long.txt "$shuttles" decode pair.txt 1
 sed -i 's/ 1$/ 1 x/' long.txt
 refuse 27 'line 2: "x" at column 2001 is no number: "v 1 1 1 1 1 1 1 1 1 1 1 1 1 1 1 1 1 1 1 1 1 1 1 1 1 1 1 1 1 " and more' from long.txt "$shuttles" decode pair.txt 1
 head -c 524289 /dev/zero | tr '\0' '\n' >long.txt
-refuse 27 '524289 bytes were given, 524288 are the most' from long.txt "$shuttles" decode pair.txt 1
-refuse 27 '524289 bytes were given, 524288 are the most' from long.txt "$shuttles" decode --numbers pair.txt 1
+refuse 27 'the text has 524289 bytes, 524288 are the most' from long.txt "$shuttles" decode pair.txt 1
+refuse 27 'the text has 524289 bytes, 524288 are the most' from long.txt "$shuttles" decode --numbers pair.txt 1
+{ printf 'v 1 \n'; cat long.txt; } >longer.txt
+note=cryptominisat refuse 27 'the text has 524293 bytes, 524288 are the most' from longer.txt "$shuttles" decode pair.txt 1
 text 28 'line 1: the solver gave up, so there may be a plan or none: "s UNKNOWN"' 's UNKNOWN\n'
 text 28 'line 3: the solver gave up, so there may be a plan or none: "s UNKNOWN"' 'c\nv 1 -2\ns UNKNOWN'
 text 29 'variable 1, for agent 0 (line 3) at vertex 0 at time 0, is missing' 's SATISFIABLE\nv 0\n'
@@ -290,7 +300,8 @@ text 29 'variable 4, for agent 0 (line 3) at vertex 1 at time 1, is there 5 time
 # In minisat's and in cryptominisat's form.
 note=minisat text 27 'line 3: "x" at column 5 is no number: "v 4 x 0"' 'SAT\n1 -2 -3\n4 x 0\n'
 note=minisat text 27 'line 2: "v" at column 3 is no number: "v v 1 0"' 'SAT\nv 1 0\n'
-note=minisat text 27 'the closing 0 is missing, the text was probably cut short: 4 of 4 literals are there' 'SAT\n1 -2 -3 4'
+note=minisat text 27 'line 2, where the text ends: "-" at column 8 is no number: "v 1 -2 -"' 'SAT\n1 -2 -'
+note=minisat text 27 'the closing 0 is missing' 'SAT\n1 -2 -3 4'
 note=minisat text 27 'line 3: a v line stands behind the closing 0, which is in line 2: "v UNSAT"' 'SAT\n1 -2 -3 4 0\nUNSAT\n'
 note=minisat text 28 'line 1: the solver gave up, so there may be a plan or none: "s UNKNOWN"' 'INDET\n'
 note=minisat text 29 'variable 3, for agent 0 (line 3) at vertex 0 at time 1, is missing' 'SAT\n1 -2 4 0\n'
@@ -326,16 +337,25 @@ expect 'refusal 14' 0 "$shuttles" refusal 14 3 pair.txt 1
 told '3 entries given, 1 agent on 2 vertices at times 0 to 1 need 4'
 expect 'refusal 23' 0 "$shuttles" refusal 23 2 pair.txt 1
 told 'entry 2 must be 3 or -3, for agent 0 (line 3) at vertex 0 at time 1'
-for number in 27 28; do
-    expect "refusal $number" 0 "$shuttles" refusal "$number" 45
-    told 'the place is a byte of the text'
-    expect "refusal $number" 0 "$shuttles" refusal "$number" 45 pair.txt 1
-    told 'the place is a byte of the text'
+for subject in '' 'pair.txt' 'pair.txt 1'; do
+    # shellcheck disable=SC2086  # Words of the command.
+    expect 'refusal 27' 0 "$shuttles" refusal 27 45 $subject
+    told "the place is the first byte of a wrong line, the text's length, or 524288"
+    # shellcheck disable=SC2086  # Words of the command.
+    expect 'refusal 28' 0 "$shuttles" refusal 28 45 $subject
+    told 'the place is the first byte of the s line'
 done
 expect 'refusal 29' 0 "$shuttles" refusal 29 3
 told 'the place is a variable'
 expect 'refusal 29' 0 "$shuttles" refusal 29 3 pair.txt 1
 told 'variable 3, for agent 0 (line 3) at vertex 0 at time 1'
+expect 'refusal 29' 0 "$shuttles" refusal 29 4 pair.txt 1
+told 'variable 4, for agent 0 (line 3) at vertex 1 at time 1'
+for subject in '0 pair.txt 1' '5 pair.txt 1' '18446744073709551615 pair.txt 1' '3 pair.txt 0' '0 pair.txt' '67 pair.txt'; do
+    # shellcheck disable=SC2086  # Words of the command.
+    expect 'refusal 29' 0 "$shuttles" refusal 29 $subject
+    told 'the formula has no such variable'
+done
 for number in 20 25 26; do
     expect "refusal $number" 0 "$shuttles" refusal "$number" 2
     told 'the place is a byte of the plan'
@@ -417,9 +437,12 @@ done
 # solver NUMBER TERMS FAKE: what the solver printed is refused so.
 solver() { refuse "$1" "$2" with "$3" "$solve" pair.txt 1; }
 solver 27 'the text is empty' 'exit 10'
+solver 27 'the text is empty' 'exit 20'
 solver 27 'line 1: its verdict is cut short: "s SAT"' 'echo s SAT >$3; exit 10'
+solver 27 'line 1, where the text ends: its verdict is cut short: "s UNSAT"' 'printf "s UNSAT" >$3; exit 20'
 note=minisat solver 27 'the closing 0 is missing, the text was probably cut short: 3 of 4 literals are there' 'printf "SAT\n1 -2 -3" >$3; exit 10'
 note=minisat solver 28 'line 1: the solver gave up, so there may be a plan or none: "s UNKNOWN"' 'echo INDET >$3; exit 10'
+note=minisat solver 28 'line 1: the solver gave up, so there may be a plan or none: "s UNKNOWN"' 'echo INDET >$3; exit 20'
 note=minisat solver 29 'variable 3, for agent 0 (line 3) at vertex 0 at time 1, is missing' 'printf "SAT\n1 -2 0\n" >$3; exit 10'
 note=minisat solver 24 'clause 0 of family A (each agent begins at its start), for agent 0 (line 3) at vertex 0 at time 0' 'printf "SAT\n-1 -2 -3 -4 0\n" >$3; exit 10'
 
@@ -464,8 +487,7 @@ ends solve-status 'exit 255'
 ends solve-status 'exit 124'
 note=minisat ends solve-disagreement 'echo UNSAT >$3; exit 10'
 note=minisat ends solve-disagreement 'printf "SAT\n1 -2 -3 4 0\n" >$3; exit 20'
-note=minisat ends solve-disagreement 'echo INDET >$3; exit 20'
-ends solve-disagreement 'exit 20'
+ends solve-disagreement 'echo s UNSATISFIABLE >$3; exit 10'
 # A signal ends the solver too: it has said who it is, and is gone soon after.
 for signal in TERM HUP; do
     rm -f solver

@@ -464,9 +464,11 @@ fn damage_status(g: &mut Generator, lines: &mut Vec<Vec<u8>>) {
     }
 }
 
-/// For 4 variables: an s line and v lines of 14 bytes each.
+/// For 4 variables: an s line and a v line of 14 bytes each, and one of 12
+/// bytes, without the 0.
 const S_LINE: &[u8] = b"s SATISFIABLE\n";
 const V_LINE: &[u8] = b"v 1 -2 -3 4 0\n";
+const OPEN_LINE: &[u8] = b"v 1 -2 -3 4\n";
 
 /// The entries of all accepted texts of `worked`.
 pub const WORKED: [i32; 4] = [1, -2, -3, 4];
@@ -496,7 +498,11 @@ pub fn worked() -> Vec<(Vec<u8>, Item)> {
     for line in lines.chain(with_token) {
         all.push(([&line[..], b"\n", S_LINE, V_LINE].concat(), (27, 0)));
         all.push(([S_LINE, &line, b"\n", V_LINE].concat(), (27, 14)));
-        all.push(([S_LINE, V_LINE, &line].concat(), (27, 28)));
+        // After a 0 any v line is wrong, whatever its tokens.
+        all.push(match line.first() {
+            Some(b'v') => ([S_LINE, OPEN_LINE, &line].concat(), (27, 26)),
+            _ => ([S_LINE, V_LINE, &line].concat(), (27, 28)),
+        });
     }
     // No other line is the s line.
     for line in BAD_STATUS {
@@ -571,6 +577,7 @@ const REFUSED: &[(&[u8], Item)] = &[
     // A v line after the 0, under each s line.
     (b"s SATISFIABLE\nv 1 -2 -3 4 0\nv 0\n", (27, 28)),
     (b"s SATISFIABLE\nv 1 -2 -3 4 0\nv 1\n", (27, 28)),
+    (b"s SATISFIABLE\nv 1 -2 -3 4 0\nv 5", (27, 28)),
     (b"s SATISFIABLE\nv 1 -2 -3 4 0\nc\n\nv -4", (27, 31)),
     (b"s SATISFIABLE\nv 1 -2 -3 4 0\nv 1 -2 -3 4 0\n", (27, 28)),
     (b"s SATISFIABLE\nv 0\nv 1 -2 -3 4\n", (27, 18)),

@@ -33,8 +33,9 @@ shuttles refusal NUMBER PLACE [INSTANCE [M]]   plain words for a refusal
 INSTANCE is a file of instance bytes, or a description: a file that is text throughout is a description.
 A PLAN is numbers, row by row: the vertex of each agent at time 0, then at time 1, and so on.
 PLAN - reads the numbers from standard input. `decode --numbers` writes a plan in this form.
-OUTPUT is the text of the SAT competitions, as cadical, kissat and picosat print it. Minisat's result file and what
-cryptominisat prints are brought into that form first, and a note on standard error says so.
+OUTPUT is the text of the SAT competitions, as cadical and picosat print it. Minisat's result file is brought into that
+form first, and so is what cryptominisat prints where a v line ends with a space or it gave up; a note on standard error
+says so.
 
 Exit status: 0 done; 1 refused by the library; 2 anything else that went wrong; 3 no plan of makespan M.
 ";

@@ -1,8 +1,8 @@
-//! The place of a refusal in the reader's terms. Each function says nothing where what it needs is not known.
+//! The place of a refusal in plain terms. Each function says nothing where what it needs is not known.
 
 use crate::clause;
 use crate::errors::quoted;
-use crate::horizon::Horizon;
+use crate::horizon::{Horizon, HIGHEST};
 use crate::map::Map;
 use crate::solver_lines;
 use std::cmp::Ordering;
@@ -17,7 +17,7 @@ pub struct Subject<'a> {
     pub text: Option<&'a [u8]>,
 }
 
-/// A place in the reader's terms.
+/// A place in plain terms.
 pub type Terms = fn(Subject, usize) -> Option<String>;
 
 // Names of things
@@ -317,16 +317,18 @@ pub fn shared(subject: Subject, place: usize) -> Option<String> {
 
 // The valuation
 
-/// What a variable says: `agent 0 (line 3) at vertex 1 at time 0`.
-fn meaning(map: &Map, number: usize) -> Option<String> {
-    let x = clause::variable(map, number)?;
+/// What a variable of the formula says: `agent 0 (line 3) at vertex 1 at time 0`. Where no horizon is known, the
+/// highest bounds the time.
+fn meaning(map: &Map, horizon: Option<&Horizon>, number: usize) -> Option<String> {
+    let last = horizon.map_or(HIGHEST, |horizon| horizon.value.min(HIGHEST));
+    let x = clause::variable(map, number).filter(|x| x.time as u64 <= last)?;
     let (agent, vertex, time) = (map.agent(x.agent), x.vertex, x.time);
     Some(format!("{agent} at vertex {vertex} at time {time}"))
 }
 
 pub fn entry(subject: Subject, place: usize) -> Option<String> {
     let number = place.checked_add(1)?;
-    let meaning = meaning(subject.map?, number)?;
+    let meaning = meaning(subject.map?, subject.horizon, number)?;
     Some(format!(
         "entry {place} must be {number} or -{number}, for {meaning}"
     ))
@@ -348,7 +350,9 @@ pub fn verdict(subject: Subject, place: usize) -> Option<String> {
 }
 
 pub fn variable_given(subject: Subject, number: usize) -> Option<String> {
-    let meaning = meaning(subject.map?, number)?;
+    let Some(meaning) = meaning(subject.map?, subject.horizon, number) else {
+        return Some("the formula has no such variable".to_string());
+    };
     let given = subject.text.map_or(String::new(), |text| {
         format!(", {}", solver_lines::given(text, number))
     });

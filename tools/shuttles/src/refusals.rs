@@ -1,13 +1,13 @@
 //! Plain words for every refusal, numbered as in include/runglaet.h and README.md.
 //!
 //! A line begins with the number and its words, so that refusals of one kind can be grouped by their first forty
-//! characters; the place comes last, in the reader's terms and then as the library gave it.
+//! characters; the place comes last, in plain terms and then as the library gave it.
 
 use crate::places::{self, Subject, Terms};
 use runglaet::Answer;
 
 #[rustfmt::skip] // a line a refusal
-/// The refusals: number, words, what the place is, and the place in the reader's terms.
+/// The refusals: number, words, what the place is, and the place in plain terms.
 pub const REFUSALS: &[(u32, &str, &str, Terms)] = &[
     (1, "the instance is cut short before the end of its sizes", "the bytes given", places::sizes_cut),
     (2, "the number of vertices must be from 1 to 64", "a byte of the instance", places::vertex_count),
@@ -35,8 +35,8 @@ pub const REFUSALS: &[(u32, &str, &str, Terms)] = &[
     (24, "the valuation makes a clause false, which does not mean that there is no plan", "a clause", places::falsified),
     (25, "two agents meet head-on: they exchange vertices in one step", "a byte of the plan", places::occupied),
     (26, "an agent closes up: it enters a vertex that another leaves in the same step", "a byte of the plan", places::occupied),
-    (27, "the solver's text is not of the form that is read", "a byte of the text", places::text_form),
-    (28, "the solver's verdict is not SATISFIABLE", "a byte of the text", places::verdict),
+    (27, "the solver's text is not of the form that is read", "the first byte of a wrong line, the text's length, or 524288", places::text_form),
+    (28, "the solver's verdict is not SATISFIABLE", "the first byte of the s line", places::verdict),
     (29, "a variable is missing from the solver's text, or is there more than once", "a variable", places::variable_given),
 ];
 
@@ -177,6 +177,40 @@ mod tests {
         }
     }
 
+    /// Variables 1 to 4 at horizon 1, and 1 to 66 at the highest.
+    #[test]
+    fn variables_of_the_formula() {
+        let map = description::map("vertices 2\nedge 0 1\nagent 0 1").unwrap();
+        let one = Horizon::read("1");
+        let none = "the formula has no such variable";
+        for (horizon, second, expected) in [
+            (Some(&one), 0, none),
+            (
+                Some(&one),
+                4,
+                "variable 4, for agent 0 (line 3) at vertex 1 at time 1",
+            ),
+            (Some(&one), 5, none),
+            (Some(&one), u64::MAX, none),
+            (None, 0, none),
+            (
+                None,
+                66,
+                "variable 66, for agent 0 (line 3) at vertex 1 at time 32",
+            ),
+            (None, 67, none),
+        ] {
+            let subject = Subject {
+                map: Some(&map),
+                horizon,
+                ..Subject::default()
+            };
+            let line = describe(Answer { number: 29, second }, subject);
+            let end = format!(" more than once: {expected} (place {second})");
+            assert!(line.ends_with(&end), "{line}");
+        }
+    }
+
     #[rustfmt::skip] // a line a refusal
     #[test]
     fn without_an_instance() {
@@ -185,8 +219,8 @@ mod tests {
             (20, 5, "refused 20: an agent drives into another that stays where it is: the place is a byte of the plan (place 5)"),
             (25, 5, "refused 25: two agents meet head-on: they exchange vertices in one step: the place is a byte of the plan (place 5)"),
             (26, 5, "refused 26: an agent closes up: it enters a vertex that another leaves in the same step: the place is a byte of the plan (place 5)"),
-            (27, 45, "refused 27: the solver's text is not of the form that is read: the place is a byte of the text (place 45)"),
-            (28, 0, "refused 28: the solver's verdict is not SATISFIABLE: the place is a byte of the text (place 0)"),
+            (27, 45, "refused 27: the solver's text is not of the form that is read: the place is the first byte of a wrong line, the text's length, or 524288 (place 45)"),
+            (28, 0, "refused 28: the solver's verdict is not SATISFIABLE: the place is the first byte of the s line (place 0)"),
             (29, 3, "refused 29: a variable is missing from the solver's text, or is there more than once: the place is a variable (place 3)"),
             (36, 5, "refused 36: this tool has no words for refusals of this number (place 5)"),
         ] {

@@ -1,7 +1,7 @@
 //! Brings what minisat and cryptominisat write into the form of the SAT competitions, which the library reads.
 //!
-//! Line for line, so that each line keeps its number, and nothing else is changed. What a right text is, the library
-//! says.
+//! Line for line, so that each line keeps its number, and nothing else is changed. The text tells its form, whoever
+//! printed it. What a right text is, the library says.
 
 use std::borrow::Cow;
 
@@ -57,7 +57,8 @@ fn from_minisat(given: &[u8]) -> Option<(Vec<u8>, String)> {
     Some((text, note))
 }
 
-/// Cryptominisat ends v lines with a space, and has a word of its own where it gave up.
+/// Cryptominisat ends every v line but the last with a space, and has a word of its own where it gave up. One v line
+/// alone is in the competition's form.
 fn from_cryptominisat(given: &[u8]) -> Option<(Vec<u8>, String)> {
     let (word, verdict) = INDETERMINATE;
     let gave_up = |line: &[u8]| line == word.as_bytes();

@@ -26,23 +26,36 @@ fn tokens(line: &[u8]) -> impl Iterator<Item = &[u8]> {
         .flat_map(|values| values.split(|&byte| byte == b' '))
 }
 
+/// Whether a line has the closing 0.
+fn closes(line: &[u8]) -> bool {
+    tokens(line).any(|token| token == b"0")
+}
+
 // The form (27)
 
 /// What is wrong with the text where the library refused it.
 pub fn fault(text: &[u8], place: usize, variables: usize) -> Option<String> {
     if text.len() > TEXT_MAX && place == TEXT_MAX {
-        let given = text.len();
-        return Some(format!("{given} bytes were given, {TEXT_MAX} are the most"));
+        let length = text.len();
+        return Some(format!(
+            "the text has {length} bytes, {TEXT_MAX} are the most"
+        ));
     }
     if place == text.len() {
         return Some(missing(text, variables));
     }
     let (number, line) = line_at(text, place)?;
+    // It has no end, so that it may have been cut.
+    let last = if place + line.len() == text.len() {
+        ", where the text ends"
+    } else {
+        ""
+    };
     let line = match reason(&text[..place], line, variables) {
         Some(reason) => format!("{reason}: {}", quoted(line)),
         None => quoted(line),
     };
-    Some(format!("line {number}: {line}"))
+    Some(format!("line {number}{last}: {line}"))
 }
 
 /// What is not there, where no line is wrong.
@@ -50,18 +63,28 @@ fn missing(text: &[u8], variables: usize) -> String {
     if text.is_empty() {
         return "the text is empty".to_string();
     }
+    let verdict = lines(text).any(|line| VERDICTS.contains(&line));
+    let literals = lines(text).flat_map(tokens).count();
     let goes_on = |line: &[u8]| line.trim_ascii_end().contains(&b'\r');
     let why = match numbered(text).find(|(_, line)| goes_on(line)) {
         Some((number, _)) => {
-            format!("line {number} goes on as a comment behind a carriage return")
+            format!(", line {number} goes on as a comment behind a carriage return")
         }
-        None => "the text was probably cut short".to_string(),
+        None if lines(text).any(closes) => {
+            ", the beginning of the text was probably not copied".to_string()
+        }
+        None if verdict && literals >= variables => String::new(),
+        None => ", the text was probably cut short".to_string(),
     };
-    if !lines(text).any(|line| VERDICTS.contains(&line)) {
-        return format!("the s line is missing, {why}");
+    if !verdict {
+        return format!("the s line is missing{why}");
     }
-    let literals = lines(text).flat_map(tokens).count();
-    format!("the closing 0 is missing, {why}: {literals} of {variables} literals are there")
+    let count = if literals < variables {
+        format!(": {literals} of {variables} literals are there")
+    } else {
+        String::new()
+    };
+    format!("the closing 0 is missing{why}{count}")
 }
 
 /// Why a line is wrong, with the text before it.
@@ -139,7 +162,6 @@ fn values_fault(before: &[u8], line: &[u8], variables: usize) -> Option<String> 
     if let Some(fault) = spaces_fault(line) {
         return Some(fault);
     }
-    let closes = |line| tokens(line).any(|token| token == b"0");
     if let Some((closing, _)) = numbered(before).find(|(_, line)| closes(line)) {
         return Some(format!(
             "a v line stands behind the closing 0, which is in line {closing}"
@@ -248,9 +270,9 @@ mod tests {
             (&b"s SATISFIABLE\r\nv 1\r\n"[..], r#"line 1: a carriage return stands at its end: "s SATISFIABLE\r""#),
             (b"\r\n", r#"line 1: a carriage return stands at its end: "\r""#),
             (b"SAT\r\n1 0\r\n", r#"line 1: a carriage return stands at its end: "SAT\r""#),
-            (b"s SATISFIABLE\rv 1 0\r", r#"line 1: a carriage return stands at column 14: "s SATISFIABLE\rv 1 0\r""#),
+            (b"s SATISFIABLE\rv 1 0\r", r#"line 1, where the text ends: a carriage return stands at column 14: "s SATISFIABLE\rv 1 0\r""#),
             (b"s SATISFIABLE\nv 1\t2\n", r#"line 2: a tab stands at column 4: "v 1\t2""#),
-            (b"v\t1", r#"line 1: a tab stands at column 2: "v\t1""#),
+            (b"v\t1", r#"line 1, where the text ends: a tab stands at column 2: "v\t1""#),
             (b"\n\n v 1 0\n", r#"line 3: a space stands at its beginning: " v 1 0""#),
             (b" c\n", r#"line 1: a space stands at its beginning: " c""#),
             (b" \n", r#"line 1: a space stands at its beginning: " ""#),
@@ -258,7 +280,8 @@ mod tests {
             (b"v 1 \n", r#"line 1: a space stands at its end: "v 1 ""#),
             (b"s UNKNOWN \n", r#"line 1: a space stands at its end: "s UNKNOWN ""#),
             (b"s  UNKNOWN\n", r#"line 1: two spaces in a row stand at column 2: "s  UNKNOWN""#),
-            (b"v", r#"line 1: no literal stands behind its v: "v""#),
+            (b"v 1\nv 2 -", r#"line 2, where the text ends: "-" at column 5 is no number: "v 2 -""#),
+            (b"v", r#"line 1, where the text ends: no literal stands behind its v: "v""#),
             (b"v \n", r#"line 1: no literal stands behind its v: "v ""#),
             (b"v 1 x 0\n", r#"line 1: "x" at column 5 is no number: "v 1 x 0""#),
             (b"v 1 - 0\n", r#"line 1: "-" at column 5 is no number: "v 1 - 0""#),
@@ -274,11 +297,11 @@ mod tests {
             (b"v 0 0\n", r#"line 1: "0" at column 5 stands behind the closing 0: "v 0 0""#),
             (b"v 1\nc 0\nv 0\n\nv x\n", r#"line 5: a v line stands behind the closing 0, which is in line 3: "v x""#),
             (b"c\ns UNKNOWN\n\ns UNKNOWN\n", r#"line 4: a second s line, the first is line 2: "s UNKNOWN""#),
-            (b"s SATISFIABLE\ns UNSATISFIABLE", r#"line 2: a second s line, the first is line 1: "s UNSATISFIABLE""#),
-            (b"s", r#"line 1: its verdict is cut short: "s""#),
+            (b"s SATISFIABLE\ns UNSATISFIABLE", r#"line 2, where the text ends: a second s line, the first is line 1: "s UNSATISFIABLE""#),
+            (b"s", r#"line 1, where the text ends: its verdict is cut short: "s""#),
             (b"s \n", r#"line 1: its verdict is cut short: "s ""#),
             (b"s SAT\n", r#"line 1: its verdict is cut short: "s SAT""#),
-            (b"s UNK", r#"line 1: its verdict is cut short: "s UNK""#),
+            (b"s UNK", r#"line 1, where the text ends: its verdict is cut short: "s UNK""#),
             (b"s PERHAPS\n", r#"line 1: its verdict is none of SATISFIABLE, UNSATISFIABLE and UNKNOWN: "s PERHAPS""#),
             (b"s SATISFIABLE 1\n", r#"line 1: its verdict is none of SATISFIABLE, UNSATISFIABLE and UNKNOWN: "s SATISFIABLE 1""#),
             (b"c\nSAT\n", r#"line 2: it begins with none of "c", "s " and "v ": "SAT""#),
@@ -298,17 +321,23 @@ mod tests {
         for (text, expected) in [
             ("", "the text is empty"),
             ("\n", "the s line is missing, the text was probably cut short"),
-            ("c s SATISFIABLE\nv 1 2 3 4 0\n", "the s line is missing, the text was probably cut short"),
+            ("v 1 2 3 4\n", "the s line is missing, the text was probably cut short"),
+            ("c s SATISFIABLE\nv 1 2 3 4 0\n", "the s line is missing, the beginning of the text was probably not copied"),
+            ("v 0", "the s line is missing, the beginning of the text was probably not copied"),
             ("c\r\n", "the s line is missing, the text was probably cut short"),
+            ("c\rs SATISFIABLE\nv 1 2 3 4 0\n", "the s line is missing, line 1 goes on as a comment behind a carriage return"),
             ("c\rs SATISFIABLE\rv 1\r", "the s line is missing, line 1 goes on as a comment behind a carriage return"),
             ("s SATISFIABLE\nc\rv 1 0\r", "the closing 0 is missing, line 2 goes on as a comment behind a carriage return: 0 of 4 literals are there"),
             ("s SATISFIABLE", "the closing 0 is missing, the text was probably cut short: 0 of 4 literals are there"),
             ("v 1 -2\nc 3\ns SATISFIABLE\nv 3", "the closing 0 is missing, the text was probably cut short: 3 of 4 literals are there"),
+            ("v 1 -2\nc 3\ns SATISFIABLE\nv 3 4", "the closing 0 is missing"),
+            ("s SATISFIABLE\nv 1 2 3 4 4 4\n", "the closing 0 is missing"),
+            ("s SATISFIABLE\nv 1 2 3 4\nc\rv 0\r", "the closing 0 is missing, line 3 goes on as a comment behind a carriage return"),
         ] {
             assert_eq!(said(text.as_bytes()), expected);
         }
         let long = vec![b'\n'; TEXT_MAX + 1];
-        assert_eq!(said(&long), "524289 bytes were given, 524288 are the most");
+        assert_eq!(said(&long), "the text has 524289 bytes, 524288 are the most");
         assert_eq!(said(&long[1..]), "the s line is missing, the text was probably cut short");
     }
 
@@ -326,7 +355,10 @@ mod tests {
     #[test]
     fn without_a_reason() {
         assert_eq!(fault(b"c\nv 1 0\n", 2, 4).unwrap(), "line 2: \"v 1 0\"");
-        assert_eq!(fault(b"s UNKNOWN", 0, 4).unwrap(), "line 1: \"s UNKNOWN\"");
+        assert_eq!(
+            fault(b"s UNKNOWN", 0, 4).unwrap(),
+            "line 1, where the text ends: \"s UNKNOWN\""
+        );
         assert_eq!(fault(b"v 1 0\n", 7, 4), None);
         assert_eq!(verdict(b"", 1), None);
     }
