@@ -328,6 +328,19 @@ reads 0 "$passes" "$("$shuttles" encode pair.txt 1 0 1)\n"
 { echo 's SATISFIABLE'; echo 'v 1 -2 -3 4 0'; head -c 524260 /dev/zero | tr '\0' '\n'; } >long.txt
 result "$([ "$(wc -c <long.txt) $(from long.txt "$shuttles" decode pair.txt 1 2>&1 | tail -n 1)" = "524288 $passes" ] || echo refused)" \
     'the longest text'
+# costs COST MAKESPAN DESCRIPTION PLAN...: the plan passes, and that is its cost.
+costs() {
+    local cost=$1 makespan=$2 map=$3
+    shift 3
+    result "$([ "$("$shuttles" check "$map" "$makespan" "$@" 2>&1)" = "plan passes: makespan $makespan, cost $cost" ] || echo said otherwise)" \
+        "cost $cost: $map $*"
+}
+printf 'vertices 2\nedge 0 1\nagent 0 0\n' >home.txt
+costs 3 2 "$root/examples/path.txt" 0 1 0 2 1 2
+costs 3 3 pair.txt 0 0 0 1
+costs 1 3 pair.txt 0 1 1 1
+costs 2 3 home.txt 0 1 0 0
+costs 0 0 home.txt 0
 # Those that the library does not give for what the tool asks of it.
 for number in 11 12 14 15 16 23; do
     expect "refusal $number" 0 "$shuttles" refusal "$number" 24

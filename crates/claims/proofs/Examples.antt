@@ -5,7 +5,7 @@ use Rattle.answers.specs.Answers.{ask, askEach, decide, lent, withClauses}
 use Rattle.instance.specs.Instance.{instance, adjacent}
 use Rattle.formula.specs.Variables.{index}
 use Rattle.formula.specs.Formula.{A, B, C, D, E, F, G, clauses, words}
-use Rattle.plan.specs.Plan.{condition1, condition2, condition3, occupantLeaves, cost}
+use Rattle.plan.specs.Plan.{condition1, condition2, condition3, occupantLeaves, rests, restTime, cost}
 use Rattle.valuation.specs.Valuation.{true?, named, namedPlan, planValuation}
 use Rattle.instance.specs.Questions.{instanceQuestions}
 use Rattle.solver_text.specs.Text.{ahead, behind, token?, value, kind}
@@ -15,5 +15,5 @@ use Rattle.calls.specs.Calls.{planQuestions, writeAnswer, writeSlice, clauseAns
 use Rattle.claims.specs.Examples.{Claim}
 
 pub examples : Claim
-unfolding filled ask askEach decide lent withClauses instance adjacent index A B C D E F G clauses words condition1 condition2 condition3 occupantLeaves cost true? named namedPlan planValuation instanceQuestions occupiedNumber planQuestions writeAnswer writeSlice clauseAnswer clauseSlice checkAnswer decodeAnswer decodeSlice encodeAnswer encodeSlice ahead behind token? value kind status? satisfiable? closing? complete? offset rightLine statusPlace literalsOf times inOrder textQuestions readAnswer readSlice
+unfolding filled ask askEach decide lent withClauses instance adjacent index A B C D E F G clauses words condition1 condition2 condition3 occupantLeaves rests restTime cost true? named namedPlan planValuation instanceQuestions occupiedNumber planQuestions writeAnswer writeSlice clauseAnswer clauseSlice checkAnswer decodeAnswer decodeSlice encodeAnswer encodeSlice ahead behind token? value kind status? satisfiable? closing? complete? offset rightLine statusPlace literalsOf times inOrder textQuestions readAnswer readSlice
 examples = refl

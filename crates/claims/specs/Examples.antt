@@ -198,12 +198,16 @@ table =
     ∷ example exchange 1 (write (sevens 72)) (words (written 72 24) exchangeWords)
     -- on the path one agent closes up behind another, then waits for it, then drives into it where it stays
     ∷ example (pathTwo 0 1 1 2) 1 (check (0 ∷ 1 ∷ 1 ∷ 2 ∷ [])) (answer (refuse 26 2))
-    ∷ example (pathTwo 0 1 1 2) 2 (check (0 ∷ 1 ∷ 0 ∷ 2 ∷ 1 ∷ 2 ∷ [])) (answer (accept 2))
+    ∷ example (pathTwo 0 1 1 2) 2 (check (0 ∷ 1 ∷ 0 ∷ 2 ∷ 1 ∷ 2 ∷ [])) (answer (accept 3))
     ∷ example (pathTwo 0 1 1 2) 1 (check (0 ∷ 1 ∷ 1 ∷ 1 ∷ [])) (answer (refuse 20 2))
     -- agents 0 and 1 are at fault: the occupant that agent 0 meets moves on, the one that agent 1 meets stays
     ∷ example pathFull 1 (check (0 ∷ 1 ∷ 2 ∷ 1 ∷ 2 ∷ 2 ∷ [])) (answer (refuse 26 3))
-    -- one move and two waits cost 1
-    ∷ example pair 3 (check (0 ∷ 0 ∷ 0 ∷ 1 ∷ [])) (answer (accept 1))
+    -- waiting counts before the last move, not after it
+    ∷ example pair 3 (check (0 ∷ 0 ∷ 0 ∷ 1 ∷ [])) (answer (accept 3))
+    ∷ example pair 3 (check (0 ∷ 1 ∷ 1 ∷ 1 ∷ [])) (answer (accept 1))
+    -- an agent that leaves is busy until it is back; one that never moves is at rest from the beginning
+    ∷ example (pairWith 0 0) 3 (check (0 ∷ 1 ∷ 0 ∷ 0 ∷ [])) (answer (accept 2))
+    ∷ example (pairWith 0 0) 3 (check (0 ∷ 0 ∷ 0 ∷ 0 ∷ [])) (answer (accept 0))
     -- two agents meet on one vertex
     ∷ example (pathTwo 0 2 1 2) 1 (check (0 ∷ 2 ∷ 1 ∷ 1 ∷ [])) (answer (refuse 21 3))
     -- an agent jumps

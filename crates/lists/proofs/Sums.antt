@@ -1,10 +1,11 @@
 -- Sums, and lists whose blocks have different lengths: pairs v < w, and the numbers other than one.
 use mathlib.Core.Path.{_≡_, refl, sym, _∙_, ap, ap₂}
-use mathlib.Core.Logic.{⊎-elim}
+use mathlib.Core.Logic.{_↔_, ⊎-elim, by-cases}
 use mathlib.Core.List.{List, [], _∷_}
 use mathlib.Core.Bool.{Bool, true, false, not, _&&_, _||_}
 use Prim.Native.Nat.{ℕ, zero, suc, _+_, _*_, _-_, _/_, _≤_, _<_}
 use native.Mathlib.Nat.{suc-mul, mul-suc, zero-mul, mul-zero, add-mul, le-refl, not-suc-le-zero, eq-or-lt-of-le, le-of-suc-le-suc, mul-div-cancel-left, zero-lt-suc, add-zero}
+use native.Mathlib.Decide.{decLe}
 use native.Mathlib.Omega.{arith}
 use borrow.Author.Tests.{eq-eqb, ne-eqb}
 use lib.ListN.{length, getD, length-append, List·getD-append}
@@ -26,6 +27,11 @@ sum-const (suc n) c = rw (sum-const n c, suc-mul)
 pub sum-mul : (n : ℕ) (f : ℕ → ℕ) (c : ℕ) → sum n (λ i. f i * c) ≡ sum n f * c
 sum-mul zero f c = sym (zero-mul c)
 sum-mul (suc n) f c = rw (sum-mul n f c, add-mul)
+
+-- a sum of numbers that are at most c
+pub sum-below : (n c : ℕ) (f : ℕ → ℕ) → ((i : ℕ) → i < n → f i ≤ c) → sum n f ≤ n * c
+sum-below zero c f h = omega arith
+sum-below (suc n) c f h = omega (arith, sum-below n c f (λ i l. h i (omega arith)), h n (le-refl (suc n)), suc-mul n c)
 
 pub sum-le : (n : ℕ) (f : ℕ → ℕ) (i : ℕ) → i < n → sum i f + f i ≤ sum n f
 sum-le zero f i l = absurd (not-suc-le-zero l)
@@ -129,6 +135,24 @@ sum-one (suc n) x l =
     (λ q. rw (eq-eqb x n q) (ap (λ s. s + 1) (sum-zero n _ (λ i h. rw (ne-eqb x i (omega arith))))))
     (λ h. rw (ne-eqb x n (omega arith)) (add-zero _ ∙ sum-one n x h))
     (eq-or-lt-of-le (le-of-suc-le-suc l))
+
+pub ind-yes : (b : Bool) → T b → ind b ≡ 1
+ind-yes true t = refl
+ind-yes false t = absurd t
+
+pub ind-no : (b : Bool) → (T b → ⊥) → ind b ≡ 0
+ind-no true f = absurd (f tt)
+ind-no false f = refl
+
+-- a test that holds exactly below r holds at r numbers
+pub count-below : (n r : ℕ) (p : ℕ → Bool) → r ≤ n → ((i : ℕ) → i < n → T (p i) ↔ (i < r)) → sum n (λ i. ind (p i)) ≡ r
+count-below zero r p l h = omega arith
+count-below (suc n) r p l h =
+    by-cases (decLe r n)
+    (λ q. omega (arith, count-below n r p q (λ i k. h i (omega arith)), ind-no (p n) (λ t. let z = h n (le-refl (suc n)) .0 t in omega arith)))
+    (λ q.
+    let s : sum n (λ i. ind (p i)) ≡ n = count-below n n p (le-refl n) (λ i k. ((λ t. k), (λ o. h i (omega arith) .1 (omega arith)))) in
+    omega (arith, s, ind-yes (p n) (h n (le-refl (suc n)) .1 (omega arith))))
 
 pub ind-and : (a b : Bool) → ind (a && b) ≡ ind a * ind b
 ind-and true true = refl

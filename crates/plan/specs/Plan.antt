@@ -1,10 +1,10 @@
--- Plans: their rows, the three conditions as tests, the occupant of a vertex that is entered, makespan and cost.
+-- Plans: their rows, the three conditions as tests, the occupant of a vertex that is entered, makespan, time until rest and cost.
 use mathlib.Core.List.{List}
 use mathlib.Core.Bool.{Bool, not, _||_, cond}
 use Prim.Native.Nat.{ℕ, zero, suc, _+_, _*_, _-_, _/_}
 use lib.ListN.{length, getD}
-use lib.Dec.{eqb}
-use Rattle.lists.specs.Loop.{for, unless, every, first, unlikeEarlier}
+use lib.Dec.{ltb, eqb}
+use Rattle.lists.specs.Loop.{every, first, sum, unlikeEarlier}
 use Rattle.instance.specs.declared.Sizes.{Sizes}
 
 -- a row: the vertex of each agent at one time
@@ -72,6 +72,15 @@ occupantLeaves s here next a =
 abbrev pub makespan : ℕ → List ℕ → ℕ
 makespan k p = length p / k - 1
 
--- the cost: the number of moves, that is of pairs t, a whose vertex changes
+-- An agent is busy until it stands for good. P t is row t, and m the last time.
+-- agent a keeps one vertex in all rows t to m
+unfoldable pub rests : ℕ → (ℕ → Row) → ℕ → ℕ → Bool
+rests m P t a = every (suc m) λ u. ltb u t || keeps (P t) (P u) a
+
+-- its cost, the time until rest: the least such t
+unfoldable pub restTime : ℕ → (ℕ → Row) → ℕ → ℕ
+restTime m P a = first (suc m) λ t. rests m P t a
+
+-- a plan's cost: the sum over its agents
 unfoldable pub cost : Sizes → List ℕ → ℕ
-cost s p = length (for (s .m) λ t. for (s .k) λ a. unless (keeps (planRow s p t) (planRow s p (suc t)) a) a)
+cost s p = sum (s .k) (restTime (s .m) (planRow s p))

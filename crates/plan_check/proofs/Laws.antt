@@ -20,7 +20,8 @@ use Rattle.answers.proofs.Faults.{fault-ext}
 use Rattle.instance.specs.declared.Sizes.{Sizes}
 use Rattle.instance.specs.declared.Checked.{Checked}
 use Rattle.instance.specs.Instance.{Instance, adjacent, joined}
-use Rattle.plan.specs.Plan.{Row, planBytes, planIndex, planRow, condition, condition2, occupantLeaves, cost}
+use Rattle.plan.specs.Plan.{Row, planBytes, planIndex, planRow, condition, condition2, occupantLeaves, restTime, cost}
+use Rattle.plan.proofs.Rest.{rest-until, rest-keeps, rest-moves}
 use Rattle.plan.proofs.Steps.{occupant-inside, leaves-stays, leaves-exchanges, leaves-on}
 use Rattle.calls.specs.Questions.{occupiedNumber, question13, question18, question20, question21, question22}
 use Rattle.calls.specs.Calls.{stepQuestions, planQuestions, checkRest}
@@ -31,23 +32,26 @@ use Rattle.instance.proofs.Accepted.{sizes-same}
 use Rattle.calls.proofs.Plan.{numbered-step, numbered-plan}
 use Rattle.conditions.specs.Inside.{Inside}
 
--- ---- counting the moves of a step, agent by agent
-module _ (test : ℕ → Bool) (a moves : ℕ) (e : moves ≡ length (for a λ i. unless (test i) i)) where
-  pub count-move : test a ≡ false → moves + 1 ≡ length (for (a + 1) λ i. unless (test i) i)
-  count-move h = rw (add-one a, length-append, h, e)
+-- ---- the time until rest, row by row, where the code finds the vertex of agent a in rows t and t + 1
+module _ (s : Sizes) (p : List ℕ) (a : ℕ) where
+  abbrev rest : ℕ → ℕ
+  rest t = restTime t (planRow s p) a
 
-  pub count-wait : test a ≡ true → moves ≡ length (for (a + 1) λ i. unless (test i) i)
-  count-wait h = rw (add-one a, length-append, h, add-zero) e
+  pub rest-begins : 0 ≡ rest 0
+  rest-begins = let l = rest-until 0 (planRow s p) a .within in omega arith
 
-pub count-step : (p : List ℕ) (t k a moves : ℕ) → a ≡ k
-    → moves ≡ length (for a λ i. unless (eqb (getD p (t * k + i) 0) (getD p (t * k + k + i) 0)) i)
-    → moves ≡ length (for k λ i. unless (eqb (getD p (t * k + i) 0) (getD p (suc t * k + i) 0)) i)
-count-step p t k a moves ea e =
-    rw suc-mul (e ∙ ap (λ (j : ℕ). length (for j λ i. unless (eqb (getD p (t * k + i) 0) (getD p (t * k + k + i) 0)) i)) ea)
+  module _ (t : ℕ) where
+    abbrev after : ℕ
+    after = getD p (t * s .k + s .k + a) 0
 
--- one more step
-pub count-more : (f : ℕ → List ℕ) (t moves more : ℕ) → moves ≡ length (for t f) → more ≡ length (f t) → moves + more ≡ length (for (t + 1) f)
-count-more f t moves more e h = rw (add-one t, length-append, e, h)
+    byte-after : after ≡ planRow s p (suc t) a
+    byte-after = ap (λ (x : ℕ). getD p (x + a) 0) (sym (suc-mul t (s .k)))
+
+    pub rest-changed : planRow s p t a ≢ after → t + 1 ≡ rest (t + 1)
+    rest-changed d = rw (add-one t) (sym (rest-moves t (planRow s p) a (λ e. d (e ∙ sym byte-after))))
+
+    pub rest-same : (r : ℕ) → r ≡ rest t → planRow s p t a ≡ after → r ≡ rest (t + 1)
+    rest-same r er e = rw (add-one t) (er ∙ sym (rest-keeps t (planRow s p) a (e ∙ byte-after)))
 
 -- ---- question 20's number of agent a in step t
 abbrev numberOf : Sizes → List ℕ → ℕ → ℕ → ℕ
@@ -258,9 +262,9 @@ module _ (b : List ℕ) (c : Checked) (w : Accepted b c) (p : List ℕ) where
     pub stop-plan : r .number ≢ 0 → r ≡ decide (checkRest I p) (cost (I .sizes) p)
     stop-plan d = er ∙ count-free (planQuestions I p) 0 _ (λ z. d (ap (λ (a : Answer). a .number) er ∙ z)) ∙ pass-13
 
-    pub pass-plan : (moves : ℕ) → moves ≡ cost (c .sizes) p → r .number ≡ 0 → accept moves ≡ decide (checkRest I p) (cost (I .sizes) p)
-    pass-plan moves em z =
+    pub pass-plan : (count : ℕ) → count ≡ cost (c .sizes) p → r .number ≡ 0 → accept count ≡ decide (checkRest I p) (cost (I .sizes) p)
+    pass-plan count ec z =
         let known = and-iff (numbered (question13 I p)) _ .0 (numbered-plan I p) .1 in
-        ap accept (em ∙ ap (λ (s : Sizes). cost s p) (sizes-same b c w))
+        ap accept (ec ∙ ap (λ (s : Sizes). cost s p) (sizes-same b c w))
         ∙ sym (decide-count (planQuestions I p) _ (decide-iff (planQuestions I p) 0 known .0 (sym (ap (λ (a : Answer). a .number) er) ∙ z)))
         ∙ pass-13

@@ -8,14 +8,13 @@ ghost use lib.Dec.{T, ltb, eqb};
 ghost use Rattle.lists.specs.Loop.{for};
 ghost use Rattle.answers.specs.Answers.{decide};
 ghost use Rattle.answers.specs.Fault.{FirstFault};
-ghost use Rattle.plan.specs.Plan.{planBytes, planRow, condition2, occupantLeaves, cost};
+ghost use Rattle.plan.specs.Plan.{planBytes, planRow, condition2, occupantLeaves, restTime, cost};
 ghost use Rattle.calls.specs.Questions.{occupiedNumber};
 ghost use Rattle.calls.specs.Calls.{stepQuestions, planQuestions, checkAnswer};
 ghost use Rattle.instance.specs.Instance.{Instance};
 ghost use Rattle.instance.specs.Limits.{Limits};
 ghost use Rattle.instance.specs.Shows.{ShowsGraph, Shows};
 ghost use Rattle.conditions.specs.Inside.{Inside};
-ghost use Rattle.plan_check.specs.Steps.{moversIn};
 
 // The number for agent a, which enters an occupied vertex in step t: 20, 25 or 26, by what the occupant does.
 fn occupied_number(s: Sizes, p: &[u8], t: usize, a: usize) -> u32
@@ -161,34 +160,39 @@ pub fn ask_plan(s: Sizes, starts: &[u8; 16], goals: &[u8; 16], near: &[u64; 64],
     }
 }
 
-// How many agents change vertex in step t.
-fn step_moves(s: Sizes, p: &[u8], t: usize) -> usize
-    requires { ⌜ (length (now p) ≡ planBytes s) × (t < s .m) ⌝ }
-    ensures { λ r. ⌜ (r ≡ length (moversIn s (now (p .entry)) t)) × (r ≤ s .k) ⌝ }
+// The time until rest of agent a in the first `rows` rows: it keeps one vertex from then on.
+fn rest_time(s: Sizes, p: &[u8], rows: usize, a: usize) -> usize
+    requires { ⌜ (length (now p) ≡ planBytes s) × (rows ≤ s .m + 1) × (a < s .k) ⌝ }
+    ensures { λ r. ⌜ (r ≡ restTime (rows - 1) (planRow s (now (p .entry))) a) × (r ≤ s .m) ⌝ }
 {
     let k = s.k;
-    let row = t * k;
-    let next = row + k;
-    let mut moves: usize = 0;
-    for a in 0..k {
+    let mut rest: usize = 0;
+    let mut t: usize = 0;
+    while t + 1 < rows {
+        let row = t * k;
+        let next = row + k;
         if p[row + a] != p[next + a] {
-            moves += 1;
+            rest = t + 1;
         }
+        t += 1;
     }
-    moves
+    rest
 }
 
-// The plan's cost: its number of moves.
+// The plan's cost: the sum of its agents' times until rest.
 fn plan_cost(s: Sizes, p: &[u8]) -> usize
+    requires { ⌜ Limits s ⌝ }
     requires { ⌜ length (now p) ≡ planBytes s ⌝ }
     ensures { λ r. ⌜ r ≡ cost s (now (p .entry)) ⌝ }
 {
+    let k = s.k;
     let m = s.m;
-    let mut moves: usize = 0;
-    for t in 0..m {
-        moves += step_moves(s, p, t);
+    let rows = m + 1;
+    let mut cost: usize = 0;
+    for a in 0..k {
+        cost += rest_time(s, p, rows, a);
     }
-    moves
+    cost
 }
 
 // The plan check, for every input: 0 and the plan's cost, or number and place of the first no.

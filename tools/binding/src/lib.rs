@@ -110,7 +110,7 @@ pub fn clause(instance: &[u8], horizon: u64, clause_number: u64, words: &mut [i3
     }
 }
 
-/// Checks a plan; the count is its cost.
+/// Checks a plan; the count is its cost, the time until rest summed over the agents.
 pub fn check_plan(instance: &[u8], horizon: u64, plan: &[u8]) -> Answer {
     unsafe {
         runglaet_check_plan(

@@ -1,49 +1,43 @@
--- `plan_check::plan_cost` meets its contract. The loop keeps the number of moves in the steps passed. Assumes nothing.
-use mathlib.Core.Path.{_≡_, refl, _∙_, ap}
+-- `plan_check::plan_cost` meets its contract. The loop keeps the sum over the agents passed. Assumes nothing.
+use mathlib.Core.Path.{_≡_, refl, _∙_, ap, ap₂}
 use Prim.Native.Nat.{ℕ, _+_, _-_, _*_, _≤_}
+use native.Mathlib.Numerals.{add-one}
 use native.Mathlib.Omega.{arith}
-use lib.ListN.{length}
+use Rattle.lists.specs.Loop.{sum}
+use Rattle.plan.specs.Plan.{planRow, restTime, cost}
 use borrow.Author.Needs.{needs}
-use Rattle.lists.specs.Loop.{for}
-use Rattle.plan.specs.Plan.{cost}
-use Rattle.plan.proofs.Rows.{Rows, rows}
-use Rattle.plan_check.specs.Steps.{moversIn}
-use Rattle.plan_check.proofs.Laws.{count-more}
 use Rattle.plan_check.proofs.plan_cost.Statement.{statement}
 use Rattle.plan_check.proofs.plan_cost.Tie as tie
 
 abbrev Inv-loop : tie.InvT-loop
-Inv-loop s p m moves₀ t₀ moves t = (t ≤ m) × ((moves ≡ length (for t (moversIn s p))) × (moves ≤ t * s .k))
+Inv-loop s p k m rows cost₀ a₀ cost a = (a ≤ k) × ((cost ≡ sum a (restTime (s .m) (planRow s p))) × (cost ≤ a * 32))
 
 abbrev μ-loop : tie.MeasureT-loop
-μ-loop s p m moves₀ t₀ moves t = m - t
+μ-loop s p k m rows cost₀ a₀ cost a = k - a
 
--- rows t and t + 1 are within the plan
-known : (c : tie.In-loop Inv-loop μ-loop) → Rows (c .before .before .before .args .s) (c .before .before .before .args .p .now) (c .before .loop .t)
-known c = rows _ _ _ (c .before .before .before .pre) (c .loop-test .taken)
+add-rows : tie.Need-add-rows Inv-loop μ-loop
+add-rows c = omega (arith, c .before .pre .0 .m-most)
 
 loop-holds : tie.Need-loop-holds Inv-loop μ-loop
 loop-holds c = (omega arith, (refl, omega arith))
 
-step-moves-requires : tie.Need-step-moves-requires Inv-loop μ-loop
-step-moves-requires c κs = (c .before .before .before .pre, c .loop-test .taken)
+rest-time-requires : tie.Need-rest-time-requires Inv-loop μ-loop
+rest-time-requires c κs = (c .before .before .before .pre .1, omega arith, c .loop-test .taken)
 
-add-moves : tie.Need-add-moves Inv-loop μ-loop
-add-moves c = omega (arith, known (c .before))
+add-cost : tie.Need-add-cost Inv-loop μ-loop
+add-cost c = omega (arith, c .before .before .before .before .pre .0 .k-most, c .before .before .before .before .pre .0 .m-most, c .rest-time .ensures .1)
 
 loop-again : tie.Need-loop-again Inv-loop μ-loop
 loop-again c =
-    let s = c .before .before .before .before in
-    let l = c .before .before .loop in
-    (omega arith, (count-more (moversIn (s .args .s) (s .args .p .now)) (l .t) (l .moves) (c .step-moves .result) (l .inv .1 .0) (c .step-moves .ensures .0), omega (arith, known (c .before))))
+    let e : c .before .before .before .before .args .s .m + 1 - 1 ≡ c .before .before .before .before .args .s .m = omega arith in
+    let r = c .rest-time .ensures .0 ∙ ap (λ (j : ℕ). restTime j (planRow (c .before .before .before .before .args .s) (c .before .before .before .before .args .p .now)) (c .before .before .loop .a)) e in
+    (omega arith, (rw (add-one (c .before .before .loop .a)) (ap₂ _+_ (c .before .before .loop .inv .1 .0) r), omega (arith, c .before .before .before .before .pre .0 .m-most, c .rest-time .ensures .1)))
 
 returns : tie.Need-returns Inv-loop μ-loop
 unfolding cost
 returns c =
-    let s = c .before .before .before in
-    let l = c .before .loop in
-    let e : l .t ≡ s .args .s .m = omega arith in
-    l .inv .1 .0 ∙ ap (λ (j : ℕ). length (for j (moversIn (s .args .s) (s .args .p .now)))) e
+    let e : c .before .loop .a ≡ c .before .before .before .args .s .k = omega arith in
+    c .before .loop .inv .1 .0 ∙ ap (λ (j : ℕ). sum j (restTime (c .before .before .before .args .s .m) (planRow (c .before .before .before .args .s) (c .before .before .before .args .p .now)))) e
 
 pub plan-cost-spec : {M : Type 1} → statement M
 plan-cost-spec =
@@ -51,9 +45,10 @@ plan-cost-spec =
     (tie.spec
     Inv-loop
     μ-loop
+    add-rows
     loop-holds
-    step-moves-requires
-    add-moves
+    rest-time-requires
+    add-cost
     (λ c. search needs)
     (λ c. search needs)
     loop-again
