@@ -2,24 +2,15 @@
 use mathlib.Core.Path.{_≡_}
 use mathlib.Core.Logic.{_↔_}
 use mathlib.Core.List.{List}
-use Prim.Native.Nat.{ℕ, _*_, _≤_, _<_}
+use Prim.Native.Nat.{ℕ, _*_, _≤_}
 use lib.ListN.{length}
 use lib.Dec.{T}
 use Rattle.lists.specs.Loop.{for, unless, sum}
 use Rattle.instance.specs.declared.Sizes.{Sizes}
 use Rattle.instance.specs.Instance.{instance}
 use Rattle.plan.specs.Plan.{Row, planRow, rests, restTime, cost}
+use Rattle.plan.specs.Rest.{Rests, BusyUntil}
 use Rattle.calls.specs.Calls.{checkAnswer}
-
--- agent a keeps one vertex in all rows t to m, where P t is row t
-abbrev pub Rests : ℕ → (ℕ → Row) → ℕ → ℕ → Type 0
-Rests m P t a = (v : ℕ) × ((u : ℕ) → t ≤ u → u ≤ m → P u a ≡ v)
-
--- agent a rests from t on, and from no earlier time
-pub record BusyUntil (m : ℕ) (P : ℕ → Row) (a t : ℕ) : Type 0 where
-  pub within : t ≤ m
-  pub rests : Rests m P t a
-  pub least : (u : ℕ) → u < t → Rests m P u a → ⊥
 
 -- the pairs t, a of a plan with agent a not yet at rest at t; at m each is
 abbrev pub busy : Sizes → List ℕ → List (ℕ × ℕ)
@@ -34,8 +25,8 @@ pub record Counted (b : List ℕ) (m : ℕ) (p : List ℕ) : Type 0 where
   pub most512 : checkAnswer b m p .second ≤ 512
 
 pub record Claim : Type 0 where
-  -- the test says what the proposition says, up to the last row
-  pub test : (m : ℕ) (P : ℕ → Row) (t a : ℕ) → t ≤ m → T (rests m P t a) ↔ Rests m P t a
+  -- the test says what the proposition says
+  pub test : (m : ℕ) (P : ℕ → Row) (t a : ℕ) → T (rests m P t a) ↔ Rests m P a t
   -- the time until rest is the one time from which on the agent rests, and from no earlier one
   pub until : (m : ℕ) (P : ℕ → Row) (a : ℕ) → BusyUntil m P a (restTime m P a)
   pub only : (m : ℕ) (P : ℕ → Row) (a t : ℕ) → BusyUntil m P a t → t ≡ restTime m P a

@@ -11,7 +11,7 @@ use borrow.Author.Tests.{eq-eqb, ne-eqb}
 use lib.ListN.{length, getD, length-append, List·getD-append}
 use lib.Seq.{getD-append-add}
 use lib.Dec.{T, ltb, eqb}
-use Rattle.lists.specs.Loop.{for, when, sum, some}
+use Rattle.lists.specs.Loop.{for, when, unless, sum, some}
 use Rattle.lists.proofs.Tests.{some-iff}
 use Rattle.lists.proofs.Loops.{for-length, for-getD, for-ext, for-above, for-others}
 use Rattle.lists.proofs.Blocks.{place-lt, for1-length, for1-getD}
@@ -114,6 +114,10 @@ when-count {L} n p f = for-sum n _ ∙ sum-ext n _ _ (λ w l. go (p w) (f w))
     go : (b : Bool) (x : L) → length (when b (x ∷ [])) ≡ ind b
     go true x = refl
     go false x = refl
+
+pub unless-count : {L : Type 0} (b : Bool) (x : L) → length (unless b x) ≡ ind (not b)
+unless-count true x = refl
+unless-count false x = refl
 
 pub sum-add : (n : ℕ) (f g : ℕ → ℕ) → sum n (λ i. f i + g i) ≡ sum n f + sum n g
 sum-add zero f g = refl

@@ -3,8 +3,8 @@
 use mathlib.Core.Path.{_≡_, sym, _∙_, ap, subst}
 use mathlib.Core.Logic.{_↔_, _≢_, by-cases}
 use mathlib.Core.List.{List}
-use mathlib.Core.Bool.{Bool, true, false, not}
-use Prim.Native.Nat.{ℕ, zero, suc, _+_, _*_, _≤_, _<_}
+use mathlib.Core.Bool.{not}
+use Prim.Native.Nat.{ℕ, suc, _*_, _≤_, _<_}
 use native.Mathlib.Nat.{le-refl, le-of-suc-le-suc, mul-comm}
 use native.Mathlib.Decide.{decLt, decLe}
 use native.Mathlib.Omega.{arith}
@@ -15,93 +15,90 @@ use Rattle.lists.proofs.Sums.{ind, sum-ext, sum-swap, sum-below, count-below}
 use Rattle.answers.proofs.Faults.{fault-at, fault-of, fault-first}
 use Rattle.instance.specs.declared.Sizes.{Sizes}
 use Rattle.plan.specs.Plan.{Row, planRow, rests, restTime, cost}
+use Rattle.plan.specs.Rest.{Rests, BusyUntil}
 
 module _ (m : ℕ) (P : ℕ → Row) (a : ℕ) where
-  pub rests-iff : (t : ℕ) → T (rests m P t a) ↔ ((u : ℕ) → u < suc m → (u < t → ⊥) → P t a ≡ P u a)
+  rows-alike : (t : ℕ) → ((u : ℕ) → u < suc m → (u < t → ⊥) → P t a ≡ P u a) ↔ Rests m P a t
+  rows-alike t = (
+    (λ h. (P t a, λ u o q. sym (h u (omega arith) (omega arith)))),
+    (λ (v, h) u q f. h t (omega arith) (omega arith) ∙ sym (h u (omega arith) (omega arith))),
+  )
+
+  -- the test says what the proposition says
+  pub rests-iff : (t : ℕ) → T (rests m P t a) ↔ Rests m P a t
   unfolding rests
-  rests-iff t = simp (every-iff, or-imp, ltb-iff, eqb-iff) ((λ h. h), (λ h. h))
+  rests-iff t = simp (every-iff, or-imp, ltb-iff, eqb-iff) (rows-alike t)
 
-  pub rests-last : T (rests m P m a)
-  rests-last = rests-iff m .1 (λ u l f. let e : m ≡ u = omega arith in ap (λ (t : ℕ). P t a) e)
+  -- the last row alone is one vertex
+  pub rests-last : Rests m P a m
+  rests-last = (P m a, λ u l q. let e : u ≡ m = omega arith in ap (λ (t : ℕ). P t a) e)
 
-  pub rests-later : (t u : ℕ) → t ≤ u → u ≤ m → T (rests m P t a) → T (rests m P u a)
-  rests-later t u l o h =
-      let r = rests-iff t .0 h in
-      rests-iff u .1 (λ w q f. sym (r u (omega arith) (omega arith)) ∙ r w q (omega arith))
+  pub rests-later : (t u : ℕ) → t ≤ u → Rests m P a t → Rests m P a u
+  rests-later t u l (v, h) = (v, λ w o q. h w (omega arith) q)
 
-  -- agent a rests from t on, and from no earlier time
-  pub record Until (t : ℕ) : Type 0 where
-    pub within : t ≤ m
-    pub at : T (rests m P t a)
-    pub least : (u : ℕ) → u < t → T (rests m P u a) → ⊥
-
-  -- the time until rest is such a time, and none else is
-  pub rest-only : (t : ℕ) → Until t → restTime m P a ≡ t
+  -- the time until rest is the one time of which it is said
+  pub rest-only : (t : ℕ) → BusyUntil m P a t → t ≡ restTime m P a
   unfolding restTime
   rest-only t w =
       let l : t < suc m = let o = w .within in omega arith in
-      fault-first (suc m) (λ u. rests m P u a) t
-      (fault-at l (λ u q. not-iff (rests m P u a) .1 (w .least u q)) (λ q. not-iff (rests m P t a) .0 q (w .at))) l .1
+      sym (fault-first (suc m) (λ u. rests m P u a) t
+      (fault-at l (λ u q. not-iff (rests m P u a) .1 (λ h. w .least u q (rests-iff u .0 h))) (λ q. not-iff (rests m P t a) .0 q (rests-iff t .1 (w .rests)))) l .1)
 
-  pub rest-until : Until (restTime m P a)
+  pub rest-until : BusyUntil m P a (restTime m P a)
   rest-until =
       let (r, f) = fault-of (suc m) (λ u. not (rests m P u a)) in
-      let l : r ≤ m = by-cases (decLe r m) (λ o. o) (λ o. absurd (not-iff (rests m P m a) .0 (f .before m (omega arith)) rests-last)) in
-      let w : Until r =
+      let l : r ≤ m =
+      by-cases (decLe r m) (λ o. o) (λ o. absurd (not-iff (rests m P m a) .0 (f .before m (omega arith)) (rests-iff m .1 rests-last))) in
+      let w : BusyUntil m P a r =
       record {
         within = l;
-        at = fault-first (suc m) (λ u. rests m P u a) r f (omega arith) .0;
-        least = λ u q. not-iff (rests m P u a) .0 (f .before u q);
+        rests = rests-iff r .0 (fault-first (suc m) (λ u. rests m P u a) r f (omega arith) .0);
+        least = λ u q h. not-iff (rests m P u a) .0 (f .before u q) (rests-iff u .1 h);
       } in
-      subst Until (sym (rest-only r w)) w
+      subst (BusyUntil m P a) (rest-only r w) w
 
-  pub rest-iff : (t : ℕ) → t ≤ m → T (rests m P t a) ↔ (restTime m P a ≤ t)
-  rest-iff t l = (
-    (λ h. by-cases (decLe (restTime m P a) t) (λ o. o) (λ o. absurd (rest-until .least t (omega arith) h))),
-    (λ o. rests-later (restTime m P a) t o l (rest-until .at)),
-  )
-
-  pub busy-iff : (t : ℕ) → t ≤ m → T (not (rests m P t a)) ↔ (t < restTime m P a)
-  busy-iff t l = (
-    (λ h. by-cases (decLt t (restTime m P a)) (λ o. o) (λ o. absurd (not-iff (rests m P t a) .0 h (rest-iff t l .1 (omega arith))))),
-    (λ o. not-iff (rests m P t a) .1 (rest-until .least t o)),
+  -- agent a is not yet at rest exactly before that time
+  pub busy-iff : (t : ℕ) → T (not (rests m P t a)) ↔ (t < restTime m P a)
+  busy-iff t = (
+    (λ h.
+        by-cases (decLt t (restTime m P a))
+        (λ o. o)
+        (λ o. absurd (not-iff (rests m P t a) .0 h (rests-iff t .1 (rests-later (restTime m P a) t (omega arith) (rest-until .rests)))))),
+    (λ o. not-iff (rests m P t a) .1 (λ h. rest-until .least t o (rests-iff t .0 h))),
   )
 
 -- ---- one more row
 module _ (m : ℕ) (P : ℕ → Row) (a : ℕ) where
-  rests-more : (t : ℕ) → t ≤ m → T (rests (suc m) P t a) ↔ (T (rests m P t a) × (P m a ≡ P (suc m) a))
+  rests-more : (t : ℕ) → t ≤ m → Rests (suc m) P a t ↔ (Rests m P a t × (P m a ≡ P (suc m) a))
   rests-more t l = (
-    (λ h.
-        let r = rests-iff (suc m) P a t .0 h in (
-          rests-iff m P a t .1 (λ u q f. r u (omega arith) f),
-          sym (r m (omega arith) (omega arith)) ∙ r (suc m) (omega arith) (omega arith),
-        )),
-    (λ h.
-        let r = rests-iff m P a t .0 (h .0) in
-        rests-iff (suc m) P a t .1 (λ u q f.
-        by-cases (decLe u m)
-        (λ o. r u (omega arith) f)
-        (λ o. let e : suc m ≡ u = omega arith in r m (omega arith) (omega arith) ∙ h .1 ∙ ap (λ (v : ℕ). P v a) e))),
+    (λ (v, h). ((v, λ u o q. h u o (omega arith)), h m l (omega arith) ∙ sym (h (suc m) (omega arith) (omega arith)))),
+    (λ ((v, h), e). (
+      v,
+      λ u o q.
+          by-cases (decLe u m)
+          (λ r. h u o r)
+          (λ r. let s : u ≡ suc m = omega arith in ap (λ (w : ℕ). P w a) s ∙ sym e ∙ h m l (omega arith)),
+    )),
   )
 
   -- an agent that keeps its vertex in it has the same time until rest; one that moves rests from that row on
-  pub rest-keeps : P m a ≡ P (suc m) a → restTime (suc m) P a ≡ restTime m P a
+  pub rest-keeps : P m a ≡ P (suc m) a → restTime m P a ≡ restTime (suc m) P a
   rest-keeps e =
       let w = rest-until m P a in
       let l = w .within in
       rest-only (suc m) P a (restTime m P a)
       (record {
         within = omega arith;
-        at = rests-more (restTime m P a) l .1 (w .at, e);
+        rests = rests-more (restTime m P a) l .1 (w .rests, e);
         least = λ u q h. w .least u q (rests-more u (omega arith) .0 h .0);
       })
 
-  pub rest-moves : P m a ≢ P (suc m) a → restTime (suc m) P a ≡ suc m
+  pub rest-moves : P m a ≢ P (suc m) a → suc m ≡ restTime (suc m) P a
   rest-moves d =
       rest-only (suc m) P a (suc m)
       (record {
         within = le-refl (suc m);
-        at = rests-last (suc m) P a;
+        rests = rests-last (suc m) P a;
         least = λ u q h. d (rests-more u (le-of-suc-le-suc q) .0 h .1);
       })
 
@@ -117,7 +114,7 @@ module _ (s : Sizes) (p : List ℕ) where
   unfolding cost
   cost-pairs =
       sum-ext k (restTime m P) (λ a. sum m (λ t. ind (not (rests m P t a))))
-      (λ a l. sym (count-below m (restTime m P a) (λ t. not (rests m P t a)) (rest-until m P a .within) (λ t q. busy-iff m P a t (omega arith))))
+      (λ a l. sym (count-below m (restTime m P a) (λ t. not (rests m P t a)) (rest-until m P a .within) (λ t q. busy-iff m P a t)))
       ∙ sum-swap k m (λ a t. ind (not (rests m P t a)))
 
   pub cost-most : cost s p ≤ m * k

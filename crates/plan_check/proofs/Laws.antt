@@ -2,14 +2,14 @@
 use mathlib.Core.Path.{_≡_, sym, _∙_, ap, ap₂, subst}
 use mathlib.Core.Logic.{_≢_}
 use mathlib.Core.List.{List, [], _∷_, _++_}
-use mathlib.Core.Bool.{Bool, true, false, not}
+use mathlib.Core.Bool.{Bool, not}
 use Prim.Native.Nat.{ℕ, suc, _+_, _-_, _*_, _≤_, _<_}
-use native.Mathlib.Nat.{suc-mul, add-zero, zero-add, zero-mul}
+use native.Mathlib.Nat.{suc-mul, zero-add, zero-mul}
 use native.Mathlib.Numerals.{add-one}
 use native.Mathlib.Omega.{arith}
-use lib.ListN.{length, getD, length-append}
+use lib.ListN.{length, getD}
 use lib.Dec.{T, eqb, ltb}
-use Rattle.lists.specs.Loop.{for, unless, all}
+use Rattle.lists.specs.Loop.{for, all}
 use Rattle.lists.proofs.Tests.{and-iff, eqb-iff, ltb-iff}
 use Rattle.lists.proofs.Loops.{for-all}
 use Rattle.answers.specs.declared.Answer.{Answer}
@@ -48,10 +48,10 @@ module _ (s : Sizes) (p : List ℕ) (a : ℕ) where
     byte-after = ap (λ (x : ℕ). getD p (x + a) 0) (sym (suc-mul t (s .k)))
 
     pub rest-changed : planRow s p t a ≢ after → t + 1 ≡ rest (t + 1)
-    rest-changed d = rw (add-one t) (sym (rest-moves t (planRow s p) a (λ e. d (e ∙ sym byte-after))))
+    rest-changed d = rw (add-one t) (rest-moves t (planRow s p) a (λ e. d (e ∙ sym byte-after)))
 
     pub rest-same : (r : ℕ) → r ≡ rest t → planRow s p t a ≡ after → r ≡ rest (t + 1)
-    rest-same r er e = rw (add-one t) (er ∙ sym (rest-keeps t (planRow s p) a (e ∙ byte-after)))
+    rest-same r er e = rw (add-one t) (er ∙ rest-keeps t (planRow s p) a (e ∙ byte-after))
 
 -- ---- question 20's number of agent a in step t
 abbrev numberOf : Sizes → List ℕ → ℕ → ℕ → ℕ

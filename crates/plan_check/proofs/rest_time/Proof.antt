@@ -1,10 +1,10 @@
 -- `plan_check::rest_time` meets its contract. The loop keeps the time until rest in the rows passed. Assumes nothing.
 use mathlib.Core.Logic.{⊎-elim}
-use mathlib.Core.Path.{_≡_, refl, sym, _∙_, ap}
-use Prim.Native.Nat.{ℕ, suc, _+_, _-_, _*_, _≤_}
+use mathlib.Core.Path.{_≡_, _∙_, ap}
+use Prim.Native.Nat.{ℕ, _+_, _-_, _*_, _≤_}
 use native.Mathlib.Omega.{arith}
 use lib.ListN.{getD}
-use Rattle.plan.specs.Plan.{Row, planRow, restTime}
+use Rattle.plan.specs.Plan.{planRow, restTime}
 use Rattle.plan.proofs.Rows.{Rows, rows}
 use Rattle.plan_check.proofs.Laws.{rest-begins, rest-same, rest-changed}
 use borrow.Author.Needs.{needs}
