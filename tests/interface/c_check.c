@@ -1,5 +1,5 @@
-/* Each call once or more on the examples of document 01, the reader on texts of its own, and all with null pointers, from
- * C. */
+/* Each call once or more on the examples of document 01, the plan check's cost and the reader on examples of their own,
+ * and all with null pointers, from C. */
 #include "runglaet.h"
 
 #include <stdio.h>
@@ -116,6 +116,36 @@ static void reader(void) {
     expect("a longer text", reads(longest, RUNGLAET_TEXT_MAX + 1, 27, 524288));
 }
 
+/* The plan check's answer for one agent on the pair's edge that is at these vertices; it must be accepted. */
+static int costs(const uint8_t *plan, size_t length, uint64_t cost) {
+    const uint8_t instance[8] = {2, 1, 1, 0, 0, 1, plan[0], plan[length - 1]};
+    return says(runglaet_check_plan(instance, sizeof instance, length - 1, plan, length), 0, cost);
+}
+
+#define PLAN(...) (const uint8_t[]){__VA_ARGS__}
+#define COSTS(cost, ...) \
+    expect("plan " #__VA_ARGS__ ": cost " #cost, costs(PLAN(__VA_ARGS__), sizeof PLAN(__VA_ARGS__), cost))
+
+/* The cost is the time until rest: waits count up to the last move, and none after it. */
+static void time_until_rest(void) {
+    COSTS(0, 0);
+    COSTS(0, 0, 0, 0);
+    COSTS(1, 0, 1);
+    COSTS(3, 0, 0, 0, 1);
+    COSTS(1, 0, 1, 1, 1);
+    COSTS(2, 0, 0, 1, 1);
+    COSTS(2, 0, 1, 0);
+    COSTS(2, 0, 1, 0, 0);
+    COSTS(3, 0, 1, 1, 0);
+    COSTS(3, 0, 1, 0, 1, 1);
+
+    /* Two agents on two edges, 0-1 and 2-3: both move in both steps; the first moves, then the second. */
+    static const uint8_t two[12] = {4, 2, 2, 0, 0, 2, 1, 3, 0, 2, 0, 2}, both[6] = {0, 2, 1, 3, 0, 2};
+    expect("two agents: cost 4", says(runglaet_check_plan(two, sizeof two, 2, both, 6), 0, 4));
+    static const uint8_t other[12] = {4, 2, 2, 0, 0, 2, 1, 3, 0, 2, 1, 3}, turns[6] = {0, 2, 1, 2, 1, 3};
+    expect("one and then the other: cost 3", says(runglaet_check_plan(other, sizeof other, 2, turns, 6), 0, 3));
+}
+
 int main(void) {
     static const int32_t formula[24] = {1,  0,  4, 0,  1,  2, 0,  3, 4, 0,  -1, -2,
                                         0, -3, -4, 0, -1,  3, 4,  0, -2, 4,  3,  0};
@@ -169,7 +199,7 @@ int main(void) {
     expect("path, encoder: 26, place 2", says(runglaet_encode(path, sizeof path, 1, follow, 4, words, 25), 26, 2));
     expect("path: 20, place 2", says(runglaet_check_plan(path, sizeof path, 1, stand, 4), 20, 2));
     expect("path, encoder: 20, place 2", says(runglaet_encode(path, sizeof path, 1, stand, 4, words, 25), 20, 2));
-    expect("path: cost 2", says(runglaet_check_plan(path, sizeof path, 2, wait, 6), 0, 2));
+    expect("path: cost 3", says(runglaet_check_plan(path, sizeof path, 2, wait, 6), 0, 3));
     static const uint8_t meet[12] = {3, 2, 2, 0, 0, 1, 1, 2, 0, 2, 1, 2}, met[4] = {0, 2, 1, 1};
     expect("path: 21, place 3", says(runglaet_check_plan(meet, sizeof meet, 1, met, 4), 21, 3));
     static const uint8_t jump[10] = {3, 1, 2, 0, 0, 1, 1, 2, 0, 2}, jumped[2] = {0, 2};
@@ -177,6 +207,7 @@ int main(void) {
     static const uint8_t repeated[12] = {3, 2, 2, 0, 0, 0, 1, 1, 0, 1, 1, 2};
     expect("edge 0-1 twice: 7, place 5", says(runglaet_check_plan(repeated, sizeof repeated, 1, follow, 4), 7, 5));
 
+    time_until_rest();
     reader();
     null_pointers();
     printf("c_check: %d answers, %d wrong\n", asked, failures);

@@ -2,11 +2,12 @@
 //!
 //! The six calls and `check_instance` work on raw bytes and never panic.
 //! `plain` generates the clauses slowly, `questions` asks one question at a
-//! time, `sample`, `parts` and `output` make test inputs and `text` prints a
-//! formula as DIMACS CNF.
+//! time, `sample`, `parts` and `output` make test inputs, `costs` has plans with
+//! known costs and `text` prints a formula as DIMACS CNF.
 
 #![forbid(unsafe_code)]
 
+pub mod costs;
 mod formula;
 mod instance;
 pub mod output;

@@ -1,5 +1,6 @@
 //! The clause table as nested loops, slow on purpose, and the literal meaning
-//! of satisfaction and of passing. Shares no code with the six calls.
+//! of satisfaction, of passing and of the cost. Shares no code with the six
+//! calls.
 //! Instances and plans given here must be of the right form.
 
 #![allow(clippy::needless_range_loop)]
@@ -160,4 +161,23 @@ pub fn passes(instance: &[u8], horizon: u64, plan: &[u8]) -> bool {
     let alone = |t: usize, a: usize| agents().all(|b| b == a || at(t + 1, b) != at(t + 1, a));
     ends && (0..m)
         .all(|t| agents().all(|a| keeps_or_crosses(t, a) && enters_vacant(t, a) && alone(t, a)))
+}
+
+/// The cost of a plan that passes: an agent is busy at a time when it is
+/// elsewhere at some later one; all busy times of all agents count.
+pub fn cost(instance: &[u8], horizon: u64, plan: &[u8]) -> usize {
+    let (k, m) = (parts(instance).k, horizon as usize);
+    let mut busy = 0;
+    for a in 0..k {
+        for t in 0..m {
+            let mut elsewhere = false;
+            for later in t + 1..=m {
+                elsewhere |= plan[later * k + a] != plan[t * k + a];
+            }
+            if elsewhere {
+                busy += 1;
+            }
+        }
+    }
+    busy
 }

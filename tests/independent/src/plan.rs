@@ -3,7 +3,7 @@
 use crate::instance::Instance;
 use crate::{answer, refuse, Answer};
 
-/// The count is the cost, the number of moves.
+/// The count is the cost.
 pub fn check_plan(instance: &[u8], horizon: u64, plan: &[u8]) -> Answer {
     answer(check(instance, horizon, plan))
 }
@@ -11,7 +11,8 @@ pub fn check_plan(instance: &[u8], horizon: u64, plan: &[u8]) -> Answer {
 fn check(bytes: &[u8], horizon: u64, plan: &[u8]) -> Result<usize, Answer> {
     let instance = Instance::read(bytes, horizon)?;
     check_length(&instance, plan)?;
-    check_rows(&instance, plan)
+    check_rows(&instance, plan)?;
+    Ok(cost(&instance, plan))
 }
 
 /// Question 13.
@@ -22,8 +23,8 @@ pub(crate) fn check_length(instance: &Instance, plan: &[u8]) -> Result<(), Answe
     Ok(())
 }
 
-/// Questions 17 to 22 for a plan of the right length; gives the cost.
-pub(crate) fn check_rows(instance: &Instance, plan: &[u8]) -> Result<usize, Answer> {
+/// Questions 17 to 22 for a plan of the right length.
+pub(crate) fn check_rows(instance: &Instance, plan: &[u8]) -> Result<(), Answer> {
     let (k, m) = (instance.k, instance.m);
     if let Some(index) = plan.iter().position(|&v| usize::from(v) >= instance.n) {
         return refuse(17, index);
@@ -31,7 +32,6 @@ pub(crate) fn check_rows(instance: &Instance, plan: &[u8]) -> Result<usize, Answ
     if let Some(a) = (0..k).find(|&a| plan[a] != instance.starts[a]) {
         return refuse(18, a);
     }
-    let mut cost = 0;
     for t in 0..m {
         let row = &plan[t * k..(t + 1) * k];
         let next = &plan[(t + 1) * k..(t + 2) * k];
@@ -53,10 +53,21 @@ pub(crate) fn check_rows(instance: &Instance, plan: &[u8]) -> Result<usize, Answ
         if let Some(a) = (0..k).find(|&a| next[..a].contains(&next[a])) {
             return refuse(21, place + a);
         }
-        cost += (0..k).filter(|&a| moves(a)).count();
     }
     if let Some(a) = (0..k).find(|&a| plan[m * k + a] != instance.goals[a]) {
         return refuse(22, m * k + a);
     }
-    Ok(cost)
+    Ok(())
+}
+
+/// The time until rest, summed over the agents: an agent's is the least t such
+/// that it keeps one vertex in all rows t to m.
+fn cost(instance: &Instance, plan: &[u8]) -> usize {
+    let (k, m) = (instance.k, instance.m);
+    let at = |t: usize, a: usize| plan[t * k + a];
+    // The last row is compared first: it differs most often.
+    let rests = |t: usize, a: usize| (t..=m).rev().all(|later| at(later, a) == at(t, a));
+    // From m on it keeps one: there is no later row.
+    let until_rest = |a: usize| (0..=m).find(|&t| rests(t, a)).unwrap_or(m);
+    (0..k).map(until_rest).sum()
 }

@@ -1,6 +1,7 @@
 //! Inputs for tests, the same for the same seed.
 
 use crate::questions::Item;
+use std::ops::Range;
 
 /// The generator xorshift64*.
 pub struct Generator {
@@ -69,21 +70,49 @@ impl Generator {
     /// An accepted instance and a plan that passes for it: a random valid walk,
     /// with the goals where it ends.
     pub fn walk(&mut self, n: usize, k: usize, percent: usize, m: usize) -> (Vec<u8>, Vec<u8>) {
+        self.walk_within(n, percent, m, &vec![0..m; k])
+    }
+
+    /// The same, where each agent moves in some stretch of the steps alone: it
+    /// waits before, and rests from its end on.
+    pub fn waiting_walk(
+        &mut self,
+        n: usize,
+        k: usize,
+        percent: usize,
+        m: usize,
+    ) -> (Vec<u8>, Vec<u8>) {
+        let stretch = |g: &mut Generator| {
+            let (s, t) = (g.below(m + 1), g.below(m + 1));
+            s.min(t)..s.max(t)
+        };
+        let stretches: Vec<Range<usize>> = (0..k).map(|_| stretch(self)).collect();
+        self.walk_within(n, percent, m, &stretches)
+    }
+
+    /// A walk in which an agent may move in the steps given for it.
+    fn walk_within(
+        &mut self,
+        n: usize,
+        percent: usize,
+        m: usize,
+        steps: &[Range<usize>],
+    ) -> (Vec<u8>, Vec<u8>) {
         let edges = self.edges(n, percent);
-        let starts = self.vertices(n, k);
+        let starts = self.vertices(n, steps.len());
         let mut row = starts.clone();
         let mut plan = starts.clone();
-        for _ in 0..m {
-            row = self.step(&edges, &row);
+        for t in 0..m {
+            let moving = (0..row.len()).filter(|&a| steps[a].contains(&t)).collect();
+            row = self.step(&edges, &row, moving);
             plan.extend(&row);
         }
         (instance_bytes(n, &edges, &starts, &row), plan)
     }
 
-    /// A valid step from this row; agents choose in random order.
-    fn step(&mut self, edges: &[(u8, u8)], row: &[u8]) -> Vec<u8> {
+    /// A valid step from this row; these agents choose, in random order.
+    fn step(&mut self, edges: &[(u8, u8)], row: &[u8], mut agents: Vec<usize>) -> Vec<u8> {
         let mut next = row.to_vec();
-        let mut agents: Vec<usize> = (0..row.len()).collect();
         self.shuffle(&mut agents);
         for a in agents {
             let mut choices = vec![row[a]];

@@ -7,6 +7,7 @@
 
 #![forbid(unsafe_code)]
 
+use independent::costs::{self, Told};
 use independent::output::{damaged, output, padded, some_output, some_text, some_valuation};
 use independent::output::{worked, SHORT_LINES};
 use independent::parts::{enter_occupied, Parts};
@@ -103,8 +104,8 @@ struct Cases {
     /// Kinds, with the numbers of two items that failed at once in a case that
     /// says so. Items that go step by step are of one step.
     twice: BTreeSet<(u8, u32, u32)>,
-    /// Accepted plans with moves and waits, but not as many.
-    uneven: usize,
+    /// What the accepted plans tell from their costs.
+    told: Told,
 }
 
 impl Cases {
@@ -155,8 +156,7 @@ impl Cases {
                 hashed = Some(1);
                 let r = check_plan(b, m, payload);
                 if r.number == 0 {
-                    let (moves, waits) = (r.second, m * given.k() as u64 - r.second);
-                    self.uneven += usize::from(moves > 0 && waits > 0 && moves != waits);
+                    self.told.add(given.k(), payload, r.second);
                 }
                 (r.number, r.second)
             }
@@ -190,8 +190,8 @@ impl Cases {
         self.put(CLAUSE, given, number, &[], lent);
     }
 
-    fn plan(&mut self, given: &Given, plan: &[u8]) {
-        self.put(PLAN, given, 0, plan, 0);
+    fn plan(&mut self, given: &Given, plan: &[u8]) -> Option<Item> {
+        self.put(PLAN, given, 0, plan, 0)
     }
 
     fn decoder(&mut self, given: &Given, entries: &[i32], lent: usize) {
@@ -696,6 +696,26 @@ impl Cases {
         self.decoder(&given, &entries, plan.len());
     }
 
+    /// Plans whose costs are known beforehand.
+    fn costs(&mut self) {
+        for (instance, m, plan, cost) in costs::worked() {
+            let answer = self.plan(&Given { instance, m }, &plan);
+            assert_eq!(answer, Some((0, cost)), "{plan:?}");
+        }
+    }
+
+    /// An accepted plan in which agents wait, move and rest, with up to `most`
+    /// vertices and steps.
+    fn waiting(&mut self, most: usize) {
+        let n = 2 + self.random.below(most - 1);
+        let k = 1 + self.random.below(n.min(16));
+        let m = self.random.below(1 + most);
+        let percent = [30, 60, 100][self.random.below(3)];
+        let (instance, plan) = self.random.waiting_walk(n, k, percent, m);
+        let m = m as u64;
+        self.plan(&Given { instance, m }, &plan);
+    }
+
     /// `k` agents of which some enter occupied vertices. Each of the three numbers
     /// is the answer, with 4 agents or more beside each of the others.
     fn crowded(&mut self, k: usize) {
@@ -1144,11 +1164,15 @@ fn gate(cases: &mut Cases) {
     }
     cases.numbers();
     cases.all_texts(101);
+    cases.costs();
+    for _ in 0..30 {
+        cases.waiting(9);
+    }
 }
 
 /// Fails where a kind never gives an answer that it can give, where the items of
 /// two numbers of neighbouring questions or of one question never fail at once,
-/// or where every accepted plan has no moves, no waits or as many of both.
+/// or where no accepted plan tells a wrong count from the cost.
 fn require_all(cases: &Cases) {
     let mut missing = Vec::new();
     for kind in WRITER..=READER {
@@ -1166,8 +1190,8 @@ fn require_all(cases: &Cases) {
             }
         }
     }
-    if cases.uneven == 0 {
-        missing.push("no accepted plan has moves and waits in different numbers".to_string());
+    for name in cases.told.missing() {
+        missing.push(format!("no accepted plan tells from the cost: {name}"));
     }
     if !missing.is_empty() {
         eprintln!("{}", missing.join("\n"));
@@ -1204,7 +1228,7 @@ fn main() {
         output: String::new(),
         times: [[0; NUMBERS]; 7],
         twice: BTreeSet::new(),
-        uneven: 0,
+        told: Told::default(),
     };
     match mode {
         "gate" => {
@@ -1225,7 +1249,9 @@ fn main() {
                     }
                 }
                 cases.texts(if i % 4 == 0 { 12 } else { 4 });
+                cases.waiting(if i % 4 == 0 { 32 } else { 9 });
             }
+            cases.costs();
             cases.largest(false);
             cases.longest();
         }

@@ -3,6 +3,7 @@
 use super::{says, unwritten, wrote};
 use crate::sample::{all_edges, instance_bytes, largest_instance, Generator};
 use crate::*;
+use std::collections::BTreeSet;
 
 /// Writer and clause by number against the table.
 fn compare_formula(instance: &[u8], m: u64, clauses: &[Vec<i32>]) {
@@ -59,15 +60,16 @@ fn compare_decoder(instance: &[u8], m: u64, clauses: &[Vec<i32>], entries: &[i32
 
 /// Plan check and encoder against the plain meaning; tells whether they accepted.
 fn compare_plan(instance: &[u8], m: u64, plan: &[u8]) -> bool {
-    let (n, k) = (usize::from(instance[0]), usize::from(instance[1]));
+    let (n, k) = (usize::from(instance[0]), u64::from(instance[1]));
     let count = n * plan.len();
     let mut entries = vec![7; count + 1];
     let answer = check_plan(instance, m, plan);
     let encoded = encode(instance, m, plan, &mut entries);
     let passes = plain::passes(instance, m, plan);
     if passes {
-        let moves = (k..plan.len()).filter(|&i| plan[i] != plan[i - k]).count();
-        assert_eq!(answer, says(0, moves as u64));
+        let cost = plain::cost(instance, m, plan) as u64;
+        assert_eq!(answer, says(0, cost), "{plan:?}");
+        assert!(cost <= m * k);
         assert_eq!(encoded, says(0, count as u64));
         assert_eq!(entries[..count], plain::valuation(n, plan));
         assert_eq!(entries[count], 7);
@@ -155,6 +157,30 @@ fn all_small_plans() {
         }
     }
     assert!(passing > 0);
+}
+
+/// Every plan of tiny sizes, with the ends that it has and all edges. Every cost
+/// up to m·k comes; on 3 vertices only one of two agents can move in a step, so
+/// that they rest from times 2 and 3 on at the latest.
+#[test]
+fn all_tiny_costs() {
+    for (n, k, m, most) in [
+        (2, 1, 9, 9),
+        (3, 1, 6, 6),
+        (4, 1, 4, 4),
+        (3, 2, 3, 5),
+        (4, 2, 2, 4),
+    ] {
+        let mut costs = BTreeSet::new();
+        for plan in all_plans(n, (m + 1) * k) {
+            let instance = instance_bytes(n, &all_edges(n), &plan[..k], &plan[m * k..]);
+            let m = m as u64;
+            if check_instance(&instance, m) == says(0, 0) && compare_plan(&instance, m, &plan) {
+                costs.insert(plain::cost(&instance, m, &plan));
+            }
+        }
+        assert!(costs.into_iter().eq(0..=most), "{n} {k} {m}");
+    }
 }
 
 /// Every valuation of every small instance with at most 12 variables; with
@@ -251,6 +277,23 @@ fn random_walks() {
             compare_decoder(&instance, m, &clauses, &flipped);
         }
     }
+}
+
+/// Plans with waits before, between and after the moves.
+#[test]
+fn random_costs() {
+    let mut random = Generator::new(19);
+    let mut told = costs::Told::default();
+    for _ in 0..3000 {
+        let n = 1 + random.below(24);
+        let k = 1 + random.below(n.min(16));
+        let m = random.below(33);
+        let percent = random.below(101);
+        let (instance, plan) = random.waiting_walk(n, k, percent, m);
+        assert!(compare_plan(&instance, m as u64, &plan));
+        told.add(k, &plan, plain::cost(&instance, m as u64, &plan) as u64);
+    }
+    assert_eq!(told.missing(), [""; 0]);
 }
 
 #[test]

@@ -108,7 +108,42 @@ fn following() {
         encode(&instance, 1, &[0, 1, 1, 2], &mut [7; 12]),
         says(26, 2)
     );
-    assert_eq!(check_plan(&instance, 2, &[0, 1, 0, 2, 1, 2]), says(0, 2));
+    assert_eq!(check_plan(&instance, 2, &[0, 1, 0, 2, 1, 2]), says(0, 3));
+}
+
+#[test]
+fn time_until_rest() {
+    let cost = |m: u64, plan: &[u8]| check_plan(&PAIR, m, plan);
+    assert_eq!(cost(1, &[0, 1]), says(0, 1));
+    // Two waits and then the move; the move and then two waits.
+    assert_eq!(cost(3, &[0, 0, 0, 1]), says(0, 3));
+    assert_eq!(cost(3, &[0, 1, 1, 1]), says(0, 1));
+    // It leaves its goal and comes back.
+    assert_eq!(cost(3, &[0, 1, 0, 1]), says(0, 3));
+    // It leaves its start and comes back.
+    let home = instance_bytes(2, &[(0, 1)], &[0], &[0]);
+    assert_eq!(check_plan(&home, 2, &[0, 1, 0]), says(0, 2));
+    assert_eq!(check_plan(&home, 3, &[0, 1, 0, 0]), says(0, 2));
+    assert_eq!(check_plan(&home, 3, &[0, 1, 1, 0]), says(0, 3));
+    assert_eq!(check_plan(&home, 3, &[0; 4]), says(0, 0));
+}
+
+#[test]
+fn worked_costs() {
+    for (instance, m, plan, cost) in costs::worked() {
+        assert_eq!(check_plan(&instance, m, &plan), says(0, cost), "{plan:?}");
+        assert_eq!(plain::cost(&instance, m, &plan) as u64, cost, "{plan:?}");
+    }
+}
+
+/// The worked plans alone tell every wrong count from the cost.
+#[test]
+fn wrong_costs() {
+    let mut told = costs::Told::default();
+    for (instance, _, plan, cost) in costs::worked() {
+        told.add(instance[1].into(), &plan, cost);
+    }
+    assert_eq!(told.missing(), [""; 0]);
 }
 
 #[test]

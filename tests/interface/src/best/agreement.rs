@@ -1,5 +1,6 @@
 //! Each form against the independent program, on inputs right and damaged. A difference ends the benchmark.
 
+use independent::costs::Told;
 use independent::output::{padded, some_text, worked};
 use independent::questions::{ASKED, NUMBERS};
 use independent::sample::Generator;
@@ -31,7 +32,10 @@ fn draw(g: &mut Generator) -> Case {
     let most = [2, 6, 33][g.below(3)];
     let m = g.below(most);
     let percent = [0, 30, 60, 100][g.below(4)];
-    let (mut instance, plan) = g.walk(n, k, percent, m);
+    let (mut instance, plan) = match g.below(2) {
+        0 => g.walk(n, k, percent, m),
+        _ => g.waiting_walk(n, k, percent, m),
+    };
     let parts = Parts::of(&instance);
     let mut horizon = m as u64;
     match g.below(20) {
@@ -70,6 +74,7 @@ pub fn compare_calls(cases: usize) -> usize {
     let mut g = Generator::new(2026);
     let mut hits = [[0; NUMBERS]; 6];
     let mut falsified = [0; 7];
+    let mut told = Told::default();
     for _ in 0..cases {
         let case = draw(&mut g);
         let (instance, m) = (&case.instance[..], case.horizon);
@@ -107,13 +112,15 @@ pub fn compare_calls(cases: usize) -> usize {
         }
 
         let plan = some_plan(&mut g, &case.parts, case.m, &case.plan);
-        let number = same::<u8, _>(
+        let answer = same::<u8, _>(
             &[],
             |_| super::check_plan(instance, m, &plan),
             |_| independent::check_plan(instance, m, &plan),
-        )
-        .number;
-        hits[2][number as usize] += 1;
+        );
+        hits[2][answer.number as usize] += 1;
+        if answer.number == 0 {
+            told.add(case.parts.k(), &plan, answer.second);
+        }
 
         let entries = some_entries(&mut g, &case.parts, case.m, &case.plan);
         let answer = same(
@@ -156,6 +163,7 @@ pub fn compare_calls(cases: usize) -> usize {
         }
     }
     assert!(falsified.iter().all(|&hits| hits > 0), "{falsified:?}");
+    assert_eq!(told.missing(), [""; 0], "no plan tells these from the cost");
     hits.iter().flatten().sum()
 }
 

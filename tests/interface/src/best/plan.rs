@@ -8,7 +8,8 @@ use std::hint::black_box;
 pub fn check_plan(instance: &[u8], horizon: u64, plan: &[u8]) -> Answer {
     answer(Instance::read(instance, horizon).and_then(|instance| {
         check_length(&instance, plan)?;
-        check_rows(&instance, plan)
+        check_rows(&instance, plan)?;
+        Ok(COSTS[instance.k - 1](plan))
     }))
 }
 
@@ -28,8 +29,8 @@ pub fn check_length(instance: &Instance, plan: &[u8]) -> Result<(), Answer> {
     Ok(())
 }
 
-/// Questions 17 to 22, of a plan of the right length; gives the cost.
-pub fn check_rows(instance: &Instance, plan: &[u8]) -> Result<usize, Answer> {
+/// Questions 17 to 22, of a plan of the right length.
+pub fn check_rows(instance: &Instance, plan: &[u8]) -> Result<(), Answer> {
     let k = instance.k;
     let n = instance.n as u8;
     let outside = |&v: &u8| v >= n;
@@ -51,7 +52,7 @@ pub fn check_rows(instance: &Instance, plan: &[u8]) -> Result<usize, Answer> {
     let last = instance.m * k;
     match first_difference(&plan[last..], instance.goals) {
         Some(a) => refuse(22, last + a),
-        None => Ok(moves(plan, &plan[k..])),
+        None => Ok(()),
     }
 }
 
@@ -102,10 +103,27 @@ fn refuse_step<T>(
     refuse(21, place + (0..next.len()).find(shares).unwrap_or(0))
 }
 
-/// How many differ, at most 512.
-fn moves(rows: &[u8], nexts: &[u8]) -> usize {
-    let moves: u16 = rows.iter().zip(nexts).map(|(v, w)| u16::from(v != w)).sum();
-    moves.into()
+/// The cost by the number of agents, so that the compiler knows it and takes a row at once.
+const COSTS: [fn(&[u8]) -> usize; 16] = [
+    cost::<1>, cost::<2>, cost::<3>, cost::<4>, cost::<5>, cost::<6>, cost::<7>, cost::<8>,
+    cost::<9>, cost::<10>, cost::<11>, cost::<12>, cost::<13>, cost::<14>, cost::<15>, cost::<16>,
+];
+
+/// From the last row back: an agent is busy in every row up to the last one where it is not yet at its last vertex.
+fn cost<const K: usize>(plan: &[u8]) -> usize {
+    let (rows, _) = plan.as_chunks::<K>();
+    let Some(goals) = rows.last() else {
+        return 0;
+    };
+    let (mut busy, mut times) = ([0; K], [0u8; K]);
+    for row in rows.iter().rev() {
+        let agents = busy.iter_mut().zip(&mut times);
+        for ((busy, times), (v, w)) in agents.zip(row.iter().zip(goals)) {
+            *busy |= v ^ w;
+            *times += u8::from(*busy != 0);
+        }
+    }
+    times.into_iter().map(usize::from).sum()
 }
 
 fn first_difference(row: &[u8], vertices: &[u8]) -> Option<usize> {

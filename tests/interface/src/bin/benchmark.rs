@@ -14,6 +14,7 @@ mod best;
 
 use best::agreement::{compare_calls, compare_program, independent_text, printed, same};
 use independent::output::output;
+use independent::plain;
 use independent::sample::Generator;
 use interface as library;
 use interface::input::{grid_walk, valuation, Parts};
@@ -238,7 +239,8 @@ fn instance_check(table: &mut Table, input: &Input) {
     table.row("instance check", input, row, None, note);
 }
 
-/// The plan check; of the largest instance also against the independent program, and with a plan that is refused.
+/// The plan check; of the largest instance also against the independent program, with a plan full of waits too and one
+/// that is refused.
 fn plan_check(table: &mut Table, input: &Input) {
     let passing = times_of_plan(input, &input.plan, 0);
     table.row("plan check", input, passing, Some(1.2), "");
@@ -248,6 +250,9 @@ fn plan_check(table: &mut Table, input: &Input) {
             table.row("plan check", input, row, Some(1.0), note);
         };
         against(passing, "  against the independent program");
+        let waits = waiting(input);
+        let waited = times_of_plan(&waits, &waits.plan, 0);
+        against(waited, "  the same, agents wait, move and rest");
         let refused = times_of_plan(input, &exchanged(input), 25);
         against(refused, "  the same, refused by 25 in the last step");
     }
@@ -261,6 +266,24 @@ fn times_of_plan(input: &Input, plan: &[u8], number: u32) -> [f64; 3] {
         let said = PLAN_CHECKS[form](black_box(instance), m, black_box(plan));
         assert_eq!(said.0, number);
     })
+}
+
+/// An instance of the same sizes with all edges, and a plan in which each agent waits, moves and rests.
+fn waiting(input: &Input) -> Input {
+    let [n, k] = [0, 1].map(|size| usize::from(input.instance[size]));
+    let m = input.m as usize;
+    let (instance, plan) = Generator::new(7).waiting_walk(n, k, 100, m);
+    let steps = plan.iter().zip(&plan[k..]);
+    let moves = steps.filter(|(v, w)| v != w).count();
+    let cost = plain::cost(&instance, input.m, &plan);
+    assert!(0 < moves && 2 * moves < m * k, "{moves} moves");
+    assert!(moves < cost && cost < m * k, "cost {cost}");
+    Input {
+        name: input.name,
+        instance,
+        m: input.m,
+        plan,
+    }
 }
 
 /// The plan with another last step, for an instance with all edges: the last two agents exchange, the others stay.

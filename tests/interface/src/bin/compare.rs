@@ -1,10 +1,11 @@
 //! Compares the library with the independent program, through the C interface.
 //!
-//! compare [SEED [COUNT [FIRST]]]: texts with known answers, every small instance, the largest one and COUNT random
-//! cases; with FIRST only COUNT random cases from that one on.
+//! compare [SEED [COUNT [FIRST]]]: texts and plans with known answers, every small instance, the largest one and COUNT
+//! random cases; with FIRST only COUNT random cases from that one on.
 
 #![forbid(unsafe_code)]
 
+use independent::costs::{self, Told};
 use independent::output::{damaged, output, padded, some_output, some_text, worked, WORKED};
 use independent::questions::{ASKED, NUMBERS};
 use independent::sample::{all_edges, instance_bytes, largest_instance, Generator};
@@ -130,6 +131,8 @@ struct Run {
     /// By family: clauses given, and clauses that refusal 24 named.
     given: [u64; 7],
     falsified: [u64; 7],
+    /// What the accepted plans tell from their costs.
+    told: Told,
     /// Accepted plans and valuations that came back as they were.
     round_trips: u64,
 }
@@ -286,6 +289,9 @@ impl Run {
         if input.items() != plan {
             self.fail(&asked, "the plan was changed");
         }
+        if answer.number == 0 {
+            self.told.add(instance[1].into(), plan, answer.second);
+        }
         answer
     }
 
@@ -440,7 +446,7 @@ impl Run {
         }
     }
 
-    /// Texts with known answers, for the pair at m 1.
+    /// Texts with known answers, for the pair at m 1, and plans with known costs.
     fn worked(&mut self) {
         self.part = "worked";
         let pair = [2, 1, 1, 0, 0, 1, 0, 1];
@@ -452,6 +458,11 @@ impl Run {
             assert!(number != 0 || entries == WORKED);
             self.text(&pair, 1, &text, 3);
             self.text(&pair, 1, &text, 5);
+        }
+        for (instance, m, plan, cost) in costs::worked() {
+            self.case += 1;
+            assert_eq!(self.check(&instance, m, &plan), Said::new(0, cost, 0));
+            self.plan(&instance, m, &plan, usize::from(instance[0]) * plan.len());
         }
     }
 
@@ -690,7 +701,10 @@ impl Run {
     fn random_case(&mut self, g: &mut Generator) {
         let (n, k, m) = sizes(g);
         let percent = [0, 20, 40, 60, 80, 100][g.below(6)];
-        let (mut instance, plan) = g.walk(n, k, percent, m);
+        let (mut instance, plan) = match g.below(2) {
+            0 => g.walk(n, k, percent, m),
+            _ => g.waiting_walk(n, k, percent, m),
+        };
         if g.chance(10) {
             // Goals that the walk misses.
             let mut parts = Parts::of(&instance);
@@ -775,7 +789,7 @@ impl Run {
         }
     }
 
-    /// The table of numbers; true when each call gave every number it can.
+    /// The tables; true when each call gave every number it can, and families and wrong counts all came.
     fn report(&self) -> bool {
         let mut complete = true;
         print!("{:>8}", "number");
@@ -812,6 +826,11 @@ impl Run {
             let (given, falsified) = (self.given[family], self.falsified[family]);
             println!("{letter:>8}{given:>14}{falsified:>14}");
             complete &= given > 0 && falsified > 0;
+        }
+        println!("\n{:>8}  tell from the cost", "plans");
+        for (name, plans) in self.told.times() {
+            println!("{plans:>8}  {name}");
+            complete &= plans > 0;
         }
         println!("\nround trips: {}", self.round_trips);
         complete
@@ -894,13 +913,14 @@ fn main() {
         hits: [[0; NUMBERS]; 6],
         given: [0; 7],
         falsified: [0; 7],
+        told: Told::default(),
         round_trips: 0,
     };
     println!("seed {seed}, {count} random cases");
     let clock = Instant::now();
     if first.is_none() {
         run.worked();
-        println!("known texts: {} ({:.1?})", run.case, clock.elapsed());
+        println!("known answers: {} ({:.1?})", run.case, clock.elapsed());
         run.small();
         println!("small instances: {} ({:.1?})", run.case, clock.elapsed());
         run.largest(&mut Generator::new(mix(seed, u64::MAX - 1)));
@@ -910,7 +930,7 @@ fn main() {
     println!("random cases done ({:.1?})\n", clock.elapsed());
     let complete = run.report();
     if first.is_none() && !complete {
-        println!("FAILED: a number or a family was never hit");
+        println!("FAILED: a number, a family or a wrong count was never hit");
         std::process::exit(1);
     }
     let calls: u64 = run.hits.iter().flatten().sum();
