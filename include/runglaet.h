@@ -55,7 +55,7 @@ runglaet_answer runglaet_clause(const uint8_t *instance, size_t instance_len, ui
  * Asks 1 to 10, 13 and 17 to 22. Where an agent enters a vertex on which another stood, question 20, the number tells
  * what the other one does: 20 it stays, 25 the two exchange vertices, 26 it goes elsewhere. The lowest such agent of the
  * step decides. Accepted: `second` is the plan's cost, the sum over its agents of the time until rest: the least t such
- * that the agent keeps one vertex in all rows t to m. It is at most m * k, and so at most 512. */
+ * that the agent keeps one vertex in all rows t to m. The cost is at most m * k, and so at most 512. */
 runglaet_answer runglaet_check_plan(const uint8_t *instance, size_t instance_len, uint64_t horizon,
                                     const uint8_t *plan, size_t plan_len);
 

@@ -339,9 +339,9 @@ printf 'vertices 2\nedge 0 1\nagent 0 0\n' >home.txt
 costs 3 2 "$root/examples/path.txt" 0 1 0 2 1 2
 costs 3 3 pair.txt 0 0 0 1
 costs 1 3 pair.txt 0 1 1 1
-costs 2 3 home.txt 0 1 0 0
+costs 3 4 home.txt 0 1 1 0 0
 costs 0 0 home.txt 0
-# Those that the library does not give for what the tool asks of it.
+# Refusals that the library does not give for what the tool asks of it.
 for number in 11 12 14 15 16 23; do
     expect "refusal $number" 0 "$shuttles" refusal "$number" 24
     expect "refusal $number" 0 "$shuttles" refusal "$number" 8 path.txt 2

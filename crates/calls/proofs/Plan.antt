@@ -1,9 +1,9 @@
--- The plan check's questions are answered yes exactly for the plans that pass, and they answer a number of question 20 exactly where it
--- is its turn and an agent fails condition 2.
+-- The plan check's questions are answered yes exactly for the plans that pass, its count is then the cost, and they answer a number of
+-- question 20 exactly where it is its turn and an agent fails condition 2.
 use mathlib.Core.Path.{_≡_, refl, sym, _∙_, ap, subst}
 use mathlib.Core.Logic.{_↔_, _≢_, ⊎-elim, Iff·trans}
 use mathlib.Core.List.{List, [], _∷_, _++_}
-use Prim.Native.Nat.{ℕ, suc, _<_}
+use Prim.Native.Nat.{ℕ, suc, _*_, _≤_, _<_}
 use native.Mathlib.Omega.{arith}
 use lib.Dec.{T}
 use Rattle.lists.specs.Loop.{for, all}
@@ -14,12 +14,15 @@ use Rattle.answers.specs.Answers.{Question, decide, clear}
 use Rattle.answers.proofs.Laws.{numbered, clear-iff, each-all, each-nil, decide-iff, decide-count, decide-after, decide-refused, decide-lists, step-stop, ask-nil, ask-all}
 use Rattle.instance.specs.declared.Sizes.{Sizes}
 use Rattle.instance.specs.Instance.{Instance, instance, adjacent}
-use Rattle.plan.specs.Plan.{Row, condition1, condition2, condition3, planRow}
+use Rattle.formula.proofs.Limits.{agent-steps}
+use Rattle.plan.specs.Plan.{Row, condition1, condition2, condition3, planRow, cost}
 use Rattle.plan.specs.Passing.{ValidStep, Passes}
+use Rattle.plan.proofs.Rest.{cost-most}
 use Rattle.plan.proofs.Steps.{apart-any, crosses-iff}
 use Rattle.calls.specs.Questions.{question13, question17, question18, question22}
 use Rattle.instance.specs.Questions.{instanceQuestions}
-use Rattle.calls.specs.Calls.{stepQuestions, planQuestions, checkAnswer}
+use Rattle.instance.proofs.Instance.{numbered-instance, limits}
+use Rattle.calls.specs.Calls.{stepQuestions, planQuestions, checkQuestions, checkAnswer}
 use Rattle.calls.proofs.Occupied.{occupied?, Occupied, past, numbered-occupied, InStep, in-step}
 
 module _ (I : Instance) (p : List ℕ) where
@@ -143,6 +146,30 @@ module _ (I : Instance) (p : List ℕ) where
       let e′ : decide (steps ++ goals) c ≡ decide steps 0 =
       decide-refused steps goals 0 c (λ z. refused (ap (λ (a : Answer). a .number) e ∙ z)) in
       subst Occupied (e ∙ sym (decide-after early (steps ++ goals) c first ∙ e′)) o
+
+-- what the plan check says of a plan that it accepts: the instance is accepted, and the count is the plan's cost, which is at most
+-- m·k and at most 512
+pub record Accepts (b : List ℕ) (m : ℕ) (p : List ℕ) : Type 0 where
+  pub ok : T (all clear (instanceQuestions b m))
+  pub count : checkAnswer b m p .second ≡ cost (instance b m .sizes) p
+  pub most : checkAnswer b m p .second ≤ m * instance b m .sizes .k
+  pub most512 : checkAnswer b m p .second ≤ 512
+
+pub check-accepts : (b : List ℕ) (m : ℕ) (p : List ℕ) → checkAnswer b m p .number ≡ 0 → Accepts b m p
+unfolding checkAnswer instance
+check-accepts b m p e =
+    let s = instance b m .sizes in
+    let qs = checkQuestions b m p in
+    let known : T (all numbered qs) = all-append numbered (instanceQuestions b m) _ .1 (numbered-instance b m, numbered-plan (instance b m) p) in
+    let yes : T (all clear qs) = decide-iff qs _ known .0 e in
+    let ok = all-append clear (instanceQuestions b m) _ .0 yes .0 in
+    let c : checkAnswer b m p .second ≡ cost s p = ap (λ (a : Answer). a .second) (decide-count qs _ yes) in
+    record {
+      ok = ok;
+      count = c;
+      most = rw c (cost-most s p);
+      most512 = rw c (omega (arith, cost-most s p, agent-steps s (limits b m ok)));
+    }
 
 -- the plan check passes a plan exactly when it leads from the starts to the goals and every step obeys the three conditions
 pub check-iff : (b : List ℕ) (m : ℕ) → T (all clear (instanceQuestions b m)) → (p : List ℕ)

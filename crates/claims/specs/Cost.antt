@@ -12,9 +12,9 @@ use Rattle.plan.specs.Plan.{Row, planRow, rests, restTime, cost}
 use Rattle.plan.specs.Rest.{Rests, BusyUntil}
 use Rattle.calls.specs.Calls.{checkAnswer}
 
--- the pairs t, a of a plan with agent a not yet at rest at t; at m each is
+-- the pairs t, a of a plan with agent a not yet at rest at t; t runs below m, since at m every agent is at rest
 abbrev pub busy : Sizes → List ℕ → List (ℕ × ℕ)
-busy s p = for (s .m) λ t. for (s .k) λ a. unless (rests (s .m) (planRow s p) t a) (t, a)
+busy s p = for (s .m) λ t. for (s .k) λ a. unless (rests (s .m) (planRow s p) a t) (t, a)
 
 -- for an instance, horizon and plan that the plan check accepts
 pub record Counted (b : List ℕ) (m : ℕ) (p : List ℕ) : Type 0 where
@@ -26,7 +26,7 @@ pub record Counted (b : List ℕ) (m : ℕ) (p : List ℕ) : Type 0 where
 
 pub record Claim : Type 0 where
   -- the test says what the proposition says
-  pub test : (m : ℕ) (P : ℕ → Row) (t a : ℕ) → T (rests m P t a) ↔ Rests m P a t
+  pub test : (m : ℕ) (P : ℕ → Row) (t a : ℕ) → T (rests m P a t) ↔ Rests m P a t
   -- the time until rest is the one time from which on the agent rests, and from no earlier one
   pub until : (m : ℕ) (P : ℕ → Row) (a : ℕ) → BusyUntil m P a (restTime m P a)
   pub only : (m : ℕ) (P : ℕ → Row) (a t : ℕ) → BusyUntil m P a t → t ≡ restTime m P a

@@ -206,7 +206,7 @@ table =
     ∷ example pair 3 (check (0 ∷ 0 ∷ 0 ∷ 1 ∷ [])) (answer (accept 3))
     ∷ example pair 3 (check (0 ∷ 1 ∷ 1 ∷ 1 ∷ [])) (answer (accept 1))
     -- an agent that leaves is busy until it is back; one that never moves is at rest from the beginning
-    ∷ example (pairWith 0 0) 3 (check (0 ∷ 1 ∷ 0 ∷ 0 ∷ [])) (answer (accept 2))
+    ∷ example (pairWith 0 0) 4 (check (0 ∷ 1 ∷ 1 ∷ 0 ∷ 0 ∷ [])) (answer (accept 3))
     ∷ example (pairWith 0 0) 3 (check (0 ∷ 0 ∷ 0 ∷ 0 ∷ [])) (answer (accept 0))
     -- two agents meet on one vertex
     ∷ example (pathTwo 0 2 1 2) 1 (check (0 ∷ 2 ∷ 1 ∷ 1 ∷ [])) (answer (refuse 21 3))

@@ -6,7 +6,7 @@ use native.Mathlib.Omega.{arith}
 use Rattle.instance.specs.declared.Sizes.{Sizes}
 use Rattle.lists.specs.Loop.{pairs}
 use Rattle.instance.specs.Limits.{Limits}
-use Rattle.formula.proofs.Limits.{rows, variables-most, moves, count-D-most, count-E-most, count-F-most, count-G-most}
+use Rattle.formula.proofs.Limits.{rows, variables-most, agent-steps, count-D-most, count-E-most, count-F-most, count-G-most}
 
 pub record Products (s : Sizes) : Type 0 where
   pub rows′ : (s .m + 1) * s .k ≤ 528
@@ -16,7 +16,7 @@ pub record Products (s : Sizes) : Type 0 where
   pub d : (s .m + 1) * s .k * pairs (s .n) ≤ 1064448
   pub columns : (s .m + 1) * s .n ≤ 2112
   pub e : (s .m + 1) * s .n * pairs (s .k) ≤ 253440
-  pub moves′ : s .m * s .k ≤ 512
+  pub agent-steps′ : s .m * s .k ≤ 512
   pub f : s .m * s .k * s .n ≤ 32768
   pub words : s .m * s .k * (3 * s .n + 2 * s .e) ≤ 2162688
   pub others : s .m * s .k * (s .k - 1) ≤ 7680
@@ -33,9 +33,9 @@ products s w =
       d = rw add-one (count-D-most s w);
       columns = mul-le-mul {n₂ = 33} {m₂ = 64} (omega (arith, w .m-most)) (w .n-most);
       e = rw add-one (count-E-most s w);
-      moves′ = moves s w;
+      agent-steps′ = agent-steps s w;
       f = count-F-most s w;
-      words = mul-le-mul {n₂ = 512} {m₂ = 4224} (moves s w) (omega (arith, w .n-most, w .e-most));
-      others = mul-le-mul {n₂ = 512} {m₂ = 15} (moves s w) (omega (arith, w .k-most));
+      words = mul-le-mul {n₂ = 512} {m₂ = 4224} (agent-steps s w) (omega (arith, w .n-most, w .e-most));
+      others = mul-le-mul {n₂ = 512} {m₂ = 15} (agent-steps s w) (omega (arith, w .k-most));
       g = count-G-most s w;
     }

@@ -1,5 +1,5 @@
 -- No formula of an accepted instance is longer than the largest, and no clause has more than 66 words.
-use mathlib.Core.Path.{_≡_, refl}
+use mathlib.Core.Path.{_≡_}
 use mathlib.Core.Logic.{⊎-elim}
 use mathlib.Core.List.{List·Memᴰ}
 use mathlib.Core.Bool.{Bool, true, false}
@@ -12,7 +12,7 @@ use Rattle.lists.specs.Loop.{all, sum, pairs}
 use Rattle.lists.proofs.Tests.{leb-iff}
 use Rattle.lists.proofs.Loops.{for-all, when-all, one-all, all-append, all-mem}
 use Rattle.lists.proofs.Blocks.{for1-length}
-use Rattle.lists.proofs.Sums.{ind, when-count}
+use Rattle.lists.proofs.Sums.{ind, ind-no, when-count}
 use Rattle.instance.specs.declared.Sizes.{Sizes}
 use Rattle.instance.specs.Instance.{Instance, adjacent, degree, Edges}
 use Rattle.instance.proofs.Graph.{adjacent-iff, for-neighbours}
@@ -36,8 +36,8 @@ module _ (s : Sizes) (w : Limits s) where
       mul-le-mul {n₂ = 1024} {m₂ = 33} q (omega arith)
 
   -- the counts of the five longer families
-  pub moves : m * k ≤ 512
-  moves = mul-le-mul {n₂ = 32} {m₂ = 16} (w .m-most) (w .k-most)
+  pub agent-steps : m * k ≤ 512
+  agent-steps = mul-le-mul {n₂ = 32} {m₂ = 16} (w .m-most) (w .k-most)
 
   pub count-D-most : clausesBy s .D ≤ 1064448
   count-D-most = mul-le-mul {n₂ = 528} {m₂ = 2016} rows (pairs-most n 64 (w .n-most))
@@ -48,11 +48,11 @@ module _ (s : Sizes) (w : Limits s) where
       mul-le-mul {n₂ = 2112} {m₂ = 120} q (pairs-most k 16 (w .k-most))
 
   pub count-F-most : clausesBy s .F ≤ 32768
-  count-F-most = mul-le-mul {n₂ = 512} {m₂ = 64} moves (w .n-most)
+  count-F-most = mul-le-mul {n₂ = 512} {m₂ = 64} agent-steps (w .n-most)
 
   pub count-G-most : clausesBy s .G ≤ 491520
   count-G-most =
-      let q : m * k * (k - 1) ≤ 7680 = mul-le-mul {n₂ = 512} {m₂ = 15} moves (omega arith) in
+      let q : m * k * (k - 1) ≤ 7680 = mul-le-mul {n₂ = 512} {m₂ = 15} agent-steps (omega arith) in
       mul-le-mul {n₂ = 7680} {m₂ = 64} q (w .n-most)
 
   pub clauses-most : clauseCount s ≤ 1842736
@@ -63,7 +63,7 @@ module _ (s : Sizes) (w : Limits s) where
   unfolding wordCount
   words-most =
       let c : suc m * k * (n + 1) ≤ 34320 = mul-le-mul {n₂ = 528} {m₂ = 65} rows (omega arith) in
-      let f : m * k * (3 * n + 2 * e) ≤ 2162688 = mul-le-mul {n₂ = 512} {m₂ = 4224} moves (omega arith) in
+      let f : m * k * (3 * n + 2 * e) ≤ 2162688 = mul-le-mul {n₂ = 512} {m₂ = 4224} agent-steps (omega arith) in
       omega (arith, c, f, count-D-most, count-E-most, count-G-most, w .k-most)
 
 -- ---- the longest clause: one of family F, with a vertex and at most n - 1 neighbours
@@ -75,15 +75,11 @@ sum-most : (n : ℕ) (p : ℕ → Bool) → sum n (λ i. ind (p i)) ≤ n
 sum-most zero p = le-refl 0
 sum-most (suc n) p = omega (arith, sum-most n p, ind-most (p n))
 
-ind-none : (b : Bool) → (T b → ⊥) → ind b ≡ 0
-ind-none true f = absurd (f tt)
-ind-none false f = refl
-
 sum-but-one : (n : ℕ) (p : ℕ → Bool) (v : ℕ) → v < n → (T (p v) → ⊥) → sum n (λ i. ind (p i)) ≤ n - 1
 sum-but-one zero p v l f = absurd (not-suc-le-zero l)
 sum-but-one (suc n) p v l f =
     ⊎-elim
-    (λ q. let z : ind (p n) ≡ 0 = rw (← q) (ind-none (p v) f) in omega (arith, sum-most n p))
+    (λ q. let z : ind (p n) ≡ 0 = rw (← q) (ind-no (p v) f) in omega (arith, sum-most n p))
     (λ h. omega (arith, sum-but-one n p v h f, ind-most (p n)))
     (eq-or-lt-of-le (le-of-suc-le-suc l))
 

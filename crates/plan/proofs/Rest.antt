@@ -25,7 +25,7 @@ module _ (m : ℕ) (P : ℕ → Row) (a : ℕ) where
   )
 
   -- the test says what the proposition says
-  pub rests-iff : (t : ℕ) → T (rests m P t a) ↔ Rests m P a t
+  pub rests-iff : (t : ℕ) → T (rests m P a t) ↔ Rests m P a t
   unfolding rests
   rests-iff t = simp (every-iff, or-imp, ltb-iff, eqb-iff) (rows-alike t)
 
@@ -41,30 +41,30 @@ module _ (m : ℕ) (P : ℕ → Row) (a : ℕ) where
   unfolding restTime
   rest-only t w =
       let l : t < suc m = let o = w .within in omega arith in
-      sym (fault-first (suc m) (λ u. rests m P u a) t
-      (fault-at l (λ u q. not-iff (rests m P u a) .1 (λ h. w .least u q (rests-iff u .0 h))) (λ q. not-iff (rests m P t a) .0 q (rests-iff t .1 (w .rests)))) l .1)
+      sym (fault-first (suc m) (λ u. rests m P a u) t
+      (fault-at l (λ u q. not-iff (rests m P a u) .1 (λ h. w .least u q (rests-iff u .0 h))) (λ q. not-iff (rests m P a t) .0 q (rests-iff t .1 (w .rests)))) l .1)
 
   pub rest-until : BusyUntil m P a (restTime m P a)
   rest-until =
-      let (r, f) = fault-of (suc m) (λ u. not (rests m P u a)) in
+      let (r, f) = fault-of (suc m) (λ u. not (rests m P a u)) in
       let l : r ≤ m =
-      by-cases (decLe r m) (λ o. o) (λ o. absurd (not-iff (rests m P m a) .0 (f .before m (omega arith)) (rests-iff m .1 rests-last))) in
+      by-cases (decLe r m) (λ o. o) (λ o. absurd (not-iff (rests m P a m) .0 (f .before m (omega arith)) (rests-iff m .1 rests-last))) in
       let w : BusyUntil m P a r =
       record {
         within = l;
-        rests = rests-iff r .0 (fault-first (suc m) (λ u. rests m P u a) r f (omega arith) .0);
-        least = λ u q h. not-iff (rests m P u a) .0 (f .before u q) (rests-iff u .1 h);
+        rests = rests-iff r .0 (fault-first (suc m) (λ u. rests m P a u) r f (omega arith) .0);
+        least = λ u q h. not-iff (rests m P a u) .0 (f .before u q) (rests-iff u .1 h);
       } in
       subst (BusyUntil m P a) (rest-only r w) w
 
   -- agent a is not yet at rest exactly before that time
-  pub busy-iff : (t : ℕ) → T (not (rests m P t a)) ↔ (t < restTime m P a)
+  pub busy-iff : (t : ℕ) → T (not (rests m P a t)) ↔ (t < restTime m P a)
   busy-iff t = (
     (λ h.
         by-cases (decLt t (restTime m P a))
         (λ o. o)
-        (λ o. absurd (not-iff (rests m P t a) .0 h (rests-iff t .1 (rests-later (restTime m P a) t (omega arith) (rest-until .rests)))))),
-    (λ o. not-iff (rests m P t a) .1 (λ h. rest-until .least t o (rests-iff t .0 h))),
+        (λ o. absurd (not-iff (rests m P a t) .0 h (rests-iff t .1 (rests-later (restTime m P a) t (omega arith) (rest-until .rests)))))),
+    (λ o. not-iff (rests m P a t) .1 (λ h. rest-until .least t o (rests-iff t .0 h))),
   )
 
 -- ---- one more row
@@ -110,12 +110,12 @@ module _ (s : Sizes) (p : List ℕ) where
   P = planRow s p
 
   -- it is the number of pairs t, a with agent a not yet at rest at t
-  pub cost-pairs : cost s p ≡ sum m (λ t. sum k (λ a. ind (not (rests m P t a))))
+  pub cost-pairs : cost s p ≡ sum m (λ t. sum k (λ a. ind (not (rests m P a t))))
   unfolding cost
   cost-pairs =
-      sum-ext k (restTime m P) (λ a. sum m (λ t. ind (not (rests m P t a))))
-      (λ a l. sym (count-below m (restTime m P a) (λ t. not (rests m P t a)) (rest-until m P a .within) (λ t q. busy-iff m P a t)))
-      ∙ sum-swap k m (λ a t. ind (not (rests m P t a)))
+      sum-ext k (restTime m P) (λ a. sum m (λ t. ind (not (rests m P a t))))
+      (λ a l. sym (count-below m (restTime m P a) (λ t. not (rests m P a t)) (rest-until m P a .within) (λ t q. busy-iff m P a t)))
+      ∙ sum-swap k m (λ a t. ind (not (rests m P a t)))
 
   pub cost-most : cost s p ≤ m * k
   unfolding cost

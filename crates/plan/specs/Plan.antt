@@ -75,12 +75,12 @@ makespan k p = length p / k - 1
 -- An agent is busy until it stands for good. P t is row t, and m the last time.
 -- agent a keeps one vertex in all rows t to m
 unfoldable pub rests : ℕ → (ℕ → Row) → ℕ → ℕ → Bool
-rests m P t a = every (suc m) λ u. ltb u t || keeps (P t) (P u) a
+rests m P a t = every (suc m) λ u. ltb u t || keeps (P t) (P u) a
 
 -- its cost, the time until rest: the least such t
 unfoldable pub restTime : ℕ → (ℕ → Row) → ℕ → ℕ
-restTime m P a = first (suc m) λ t. rests m P t a
+restTime m P a = first (suc m) λ t. rests m P a t
 
--- a plan's cost: the sum over its agents
+-- a plan's cost: the sum over its agents (the sum of costs)
 unfoldable pub cost : Sizes → List ℕ → ℕ
 cost s p = sum (s .k) (restTime (s .m) (planRow s p))

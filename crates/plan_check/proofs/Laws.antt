@@ -32,7 +32,7 @@ use Rattle.instance.proofs.Accepted.{sizes-same}
 use Rattle.calls.proofs.Plan.{numbered-step, numbered-plan}
 use Rattle.conditions.specs.Inside.{Inside}
 
--- ---- the time until rest, row by row, where the code finds the vertex of agent a in rows t and t + 1
+-- ---- the time until rest, by the bytes that the code reads for agent a in rows t and t + 1
 module _ (s : Sizes) (p : List ℕ) (a : ℕ) where
   abbrev rest : ℕ → ℕ
   rest t = restTime t (planRow s p) a

@@ -160,10 +160,10 @@ pub fn ask_plan(s: Sizes, starts: &[u8; 16], goals: &[u8; 16], near: &[u64; 64],
     }
 }
 
-// The time until rest of agent a in the first `rows` rows: it keeps one vertex from then on.
+// The time until rest of agent a in the first `rows` rows: where its last move there ends, or 0.
 fn rest_time(s: Sizes, p: &[u8], rows: usize, a: usize) -> usize
     requires { ⌜ (length (now p) ≡ planBytes s) × (rows ≤ s .m + 1) × (a < s .k) ⌝ }
-    ensures { λ r. ⌜ (r ≡ restTime (rows - 1) (planRow s (now (p .entry))) a) × (r ≤ s .m) ⌝ }
+    ensures { λ r. ⌜ r ≡ restTime (rows - 1) (planRow s (now (p .entry))) a ⌝ }
 {
     let k = s.k;
     let mut rest: usize = 0;

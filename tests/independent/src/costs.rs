@@ -89,7 +89,7 @@ const WRONG: [(&str, Count); 12] = [
     ("the greatest in place of the sum", |runs| {
         runs.iter().map(|run| until_rest(run)).max().unwrap_or(0)
     }),
-    ("less than m for each of several agents", |runs| {
+    ("one less where several are busy to the end", |runs| {
         let most = runs.len() * last(&runs[0]);
         let cost = sum(runs, until_rest);
         if runs.len() > 1 && cost == most && most > 0 {

@@ -33,7 +33,8 @@ shuttles refusal NUMBER PLACE [INSTANCE [M]]   plain words for a refusal
 INSTANCE is a file of instance bytes, or a description: a file that is text throughout is a description.
 A PLAN is numbers, row by row: the vertex of each agent at time 0, then at time 1, and so on.
 PLAN - reads the numbers from standard input. `decode --numbers` writes a plan in this form.
-The cost of a plan is the sum over its agents of the time from which on the agent stands for good.
+The cost of a plan is the sum of its agents' times until rest: from then on the agent stays where it is. Waiting on the
+way counts.
 OUTPUT is the text of the SAT competitions, as cadical and picosat print it. Minisat's result file is brought into that
 form first, and so is what cryptominisat prints where a v line ends with a space or it gave up; a note on standard error
 says so.

@@ -5,6 +5,7 @@ use native.Mathlib.Numerals.{add-one}
 use native.Mathlib.Omega.{arith}
 use Rattle.lists.specs.Loop.{sum}
 use Rattle.plan.specs.Plan.{planRow, restTime, cost}
+use Rattle.plan.proofs.Rest.{rest-until}
 use borrow.Author.Needs.{needs}
 use Rattle.plan_check.proofs.plan_cost.Statement.{statement}
 use Rattle.plan_check.proofs.plan_cost.Tie as tie
@@ -24,20 +25,26 @@ loop-holds c = (omega arith, (refl, omega arith))
 rest-time-requires : tie.Need-rest-time-requires Inv-loop μ-loop
 rest-time-requires c κs = (c .before .before .before .pre .1, omega arith, c .loop-test .taken)
 
+-- what is added is the time until rest of agent a, which is at most 32
+added : (c : tie.After-rest-time Inv-loop μ-loop) → (c .rest-time .result ≡ restTime (c .before .before .before .before .args .s .m) (planRow (c .before .before .before .before .args .s) (c .before .before .before .before .args .p .now)) (c .before .before .loop .a)) × (c .rest-time .result ≤ 32)
+added c =
+    let s = c .before .before .before .before in
+    let e : s .args .s .m + 1 - 1 ≡ s .args .s .m = omega arith in
+    let r = c .rest-time .ensures ∙ ap (λ (j : ℕ). restTime j (planRow (s .args .s) (s .args .p .now)) (c .before .before .loop .a)) e in
+    (r, omega (arith, r, rest-until (s .args .s .m) (planRow (s .args .s) (s .args .p .now)) (c .before .before .loop .a) .within, s .pre .0 .m-most))
+
 add-cost : tie.Need-add-cost Inv-loop μ-loop
-add-cost c = omega (arith, c .before .before .before .before .pre .0 .k-most, c .before .before .before .before .pre .0 .m-most, c .rest-time .ensures .1)
+add-cost c = omega (arith, added c .1, c .before .before .before .before .pre .0 .k-most)
 
 loop-again : tie.Need-loop-again Inv-loop μ-loop
-loop-again c =
-    let e : c .before .before .before .before .args .s .m + 1 - 1 ≡ c .before .before .before .before .args .s .m = omega arith in
-    let r = c .rest-time .ensures .0 ∙ ap (λ (j : ℕ). restTime j (planRow (c .before .before .before .before .args .s) (c .before .before .before .before .args .p .now)) (c .before .before .loop .a)) e in
-    (omega arith, (rw (add-one (c .before .before .loop .a)) (ap₂ _+_ (c .before .before .loop .inv .1 .0) r), omega (arith, c .before .before .before .before .pre .0 .m-most, c .rest-time .ensures .1)))
+loop-again c = (omega arith, (rw (add-one (c .before .before .loop .a)) (ap₂ _+_ (c .before .before .loop .inv .1 .0) (added c .0)), omega (arith, added c .1)))
 
 returns : tie.Need-returns Inv-loop μ-loop
 unfolding cost
 returns c =
-    let e : c .before .loop .a ≡ c .before .before .before .args .s .k = omega arith in
-    c .before .loop .inv .1 .0 ∙ ap (λ (j : ℕ). sum j (restTime (c .before .before .before .args .s .m) (planRow (c .before .before .before .args .s) (c .before .before .before .args .p .now)))) e
+    let s = c .before .before .before in
+    let e : c .before .loop .a ≡ s .args .s .k = omega arith in
+    c .before .loop .inv .1 .0 ∙ ap (λ (j : ℕ). sum j (restTime (s .args .s .m) (planRow (s .args .s) (s .args .p .now)))) e
 
 pub plan-cost-spec : {M : Type 1} → statement M
 plan-cost-spec =

@@ -1,4 +1,5 @@
--- `plan_check::rest_time` meets its contract. The loop keeps the time until rest in the rows passed. Assumes nothing.
+-- `plan_check::rest_time` meets its contract. The loop keeps the time until rest in the rows passed, and that it is not after them (so
+-- that a count of moves is refused for its value alone). Assumes nothing.
 use mathlib.Core.Logic.{⊎-elim}
 use mathlib.Core.Path.{_≡_, _∙_, ap}
 use Prim.Native.Nat.{ℕ, _+_, _-_, _*_, _≤_}
@@ -44,15 +45,19 @@ shared-slice-read-if1-2 c = omega (arith, known (c .before .before))
 
 loop-again : tie.Need-loop-again Inv-loop μ-loop
 loop-again c =
+    let s = c .before .before .before .before .before .args in
+    let l = c .before .before .before .before .loop in
     ⊎-elim
-    (λ w. (omega arith, (rw (w .1) (rest-changed (c .before .before .before .before .before .args .s) (c .before .before .before .before .before .args .p .now) (c .before .before .before .before .before .args .a) (c .before .before .before .before .loop .t) (w .0 .taken)), omega arith)))
-    (λ w. (omega arith, (rw (w .1) (rest-same (c .before .before .before .before .before .args .s) (c .before .before .before .before .before .args .p .now) (c .before .before .before .before .before .args .a) (c .before .before .before .before .loop .t) (c .before .before .before .before .loop .rest) (c .before .before .before .before .loop .inv .1 .0) (w .0 .left)), omega arith)))
+    (λ w. (omega arith, (rw (w .1) (rest-changed (s .s) (s .p .now) (s .a) (l .t) (w .0 .taken)), omega arith)))
+    (λ w. (omega arith, (rw (w .1) (rest-same (s .s) (s .p .now) (s .a) (l .t) (l .rest) (l .inv .1 .0) (w .0 .left)), omega arith)))
     (c .if1 .came)
 
 returns : tie.Need-returns Inv-loop μ-loop
 returns c =
-    let e : c .before .loop .t ≡ c .before .before .args .rows - 1 = omega arith in
-    (c .before .loop .inv .1 .0 ∙ ap (λ (j : ℕ). restTime j (planRow (c .before .before .args .s) (c .before .before .args .p .now)) (c .before .before .args .a)) e, omega arith)
+    let s = c .before .before .args in
+    let l = c .before .loop in
+    let e : l .t ≡ s .rows - 1 = omega arith in
+    l .inv .1 .0 ∙ ap (λ (j : ℕ). restTime j (planRow (s .s) (s .p .now)) (s .a)) e
 
 pub rest-time-spec : {M : Type 1} → statement M
 rest-time-spec =
