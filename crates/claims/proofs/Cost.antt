@@ -23,7 +23,7 @@ counted b m p e =
 pub cost-claim : Claim
 cost-claim =
     record {
-      test = λ m P t a. rests-iff m P a t;
+      test = rests-iff;
       until = rest-until;
       only = rest-only;
       pairs = λ s p.

@@ -26,7 +26,7 @@ pub record Counted (b : List ℕ) (m : ℕ) (p : List ℕ) : Type 0 where
 
 pub record Claim : Type 0 where
   -- the test says what the proposition says
-  pub test : (m : ℕ) (P : ℕ → Row) (t a : ℕ) → T (rests m P a t) ↔ Rests m P a t
+  pub test : (m : ℕ) (P : ℕ → Row) (a t : ℕ) → T (rests m P a t) ↔ Rests m P a t
   -- the time until rest is the one time from which on the agent rests, and from no earlier one
   pub until : (m : ℕ) (P : ℕ → Row) (a : ℕ) → BusyUntil m P a (restTime m P a)
   pub only : (m : ℕ) (P : ℕ → Row) (a t : ℕ) → BusyUntil m P a t → t ≡ restTime m P a

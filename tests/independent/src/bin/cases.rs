@@ -708,8 +708,9 @@ impl Cases {
     /// vertices and steps.
     fn waiting(&mut self, most: usize) {
         let n = 2 + self.random.below(most - 1);
-        let k = 1 + self.random.below(n.min(16));
-        let m = self.random.below(1 + most);
+        // Half of the vertices at least are free, so that most agents that want to move can.
+        let k = 1 + self.random.below((n / 2).min(16));
+        let m = 1 + self.random.below(most);
         let percent = [30, 60, 100][self.random.below(3)];
         let (instance, plan) = self.random.waiting_walk(n, k, percent, m);
         let m = m as u64;
