@@ -147,17 +147,15 @@ module _ (I : Instance) (p : List ℕ) where
       decide-refused steps goals 0 c (λ z. refused (ap (λ (a : Answer). a .number) e ∙ z)) in
       subst Occupied (e ∙ sym (decide-after early (steps ++ goals) c first ∙ e′)) o
 
--- what the plan check says of a plan that it accepts: the instance is accepted, and the count is the plan's cost, which is at most
--- m·k and at most 512
-pub record Accepts (b : List ℕ) (m : ℕ) (p : List ℕ) : Type 0 where
-  pub ok : T (all clear (instanceQuestions b m))
+-- of a plan that the check accepts the count is the cost, which is at most m·k and at most 512
+pub record CountsCost (b : List ℕ) (m : ℕ) (p : List ℕ) : Type 0 where
   pub count : checkAnswer b m p .second ≡ cost (instance b m .sizes) p
   pub most : checkAnswer b m p .second ≤ m * instance b m .sizes .k
   pub most512 : checkAnswer b m p .second ≤ 512
 
-pub check-accepts : (b : List ℕ) (m : ℕ) (p : List ℕ) → checkAnswer b m p .number ≡ 0 → Accepts b m p
+pub check-counts : (b : List ℕ) (m : ℕ) (p : List ℕ) → checkAnswer b m p .number ≡ 0 → CountsCost b m p
 unfolding checkAnswer instance
-check-accepts b m p e =
+check-counts b m p e =
     let s = instance b m .sizes in
     let qs = checkQuestions b m p in
     let known : T (all numbered qs) = all-append numbered (instanceQuestions b m) _ .1 (numbered-instance b m, numbered-plan (instance b m) p) in
@@ -165,7 +163,6 @@ check-accepts b m p e =
     let ok = all-append clear (instanceQuestions b m) _ .0 yes .0 in
     let c : checkAnswer b m p .second ≡ cost s p = ap (λ (a : Answer). a .second) (decide-count qs _ yes) in
     record {
-      ok = ok;
       count = c;
       most = rw c (cost-most s p);
       most512 = rw c (omega (arith, cost-most s p, agent-steps s (limits b m ok)));

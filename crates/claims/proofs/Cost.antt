@@ -7,13 +7,13 @@ use Rattle.instance.specs.Instance.{instance}
 use Rattle.plan.specs.Plan.{planRow, rests, cost}
 use Rattle.plan.proofs.Rest.{rests-iff, rest-until, rest-only, cost-pairs}
 use Rattle.calls.specs.Calls.{checkAnswer}
-use Rattle.calls.proofs.Plan.{check-accepts}
+use Rattle.calls.proofs.Plan.{check-counts}
 use Rattle.claims.specs.Cost.{Counted, Claim}
 
 counted : (b : List ℕ) (m : ℕ) (p : List ℕ) → checkAnswer b m p .number ≡ 0 → Counted b m p
 unfolding instance cost
 counted b m p e =
-    let w = check-accepts b m p e in
+    let w = check-counts b m p e in
     record {
       total = w .count;
       most = w .most;

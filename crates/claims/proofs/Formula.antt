@@ -22,7 +22,7 @@ use Rattle.plan.specs.Passing.{Passes}
 use Rattle.instance.specs.Questions.{instanceQuestions}
 use Rattle.calls.specs.Calls.{writeQuestions, writeAnswer, clauseQuestions, clauseAnswer, checkAnswer, decodeQuestions, decodeAnswer, encodeQuestions, encodeAnswer, readQuestions, readAnswer}
 use Rattle.instance.proofs.Instance.{instance-iff, edges-known, limits}
-use Rattle.calls.proofs.Plan.{check-accepts, check-iff}
+use Rattle.calls.proofs.Plan.{check-counts, check-iff}
 use Rattle.claims.proofs.Refusals.{numbered-write, numbered-clause, numbered-decode, numbered-encode, numbered-read}
 use Rattle.claims.specs.Formula.{Counts, Claim}
 
@@ -61,7 +61,7 @@ module _ (b : List ℕ) (m : ℕ) (ok : T (all clear (instanceQuestions b m))) w
               rw (clause-count I) at l,
               counted (clauseQuestions b m c size) _ (numbered-clause b m c size) e ∙ length-append (getD (clauses I) c []) _ ∙ add-one _,
             );
-        check = λ p e. check-accepts b m p e .count;
+        check = λ p e. check-counts b m p e .count;
         decoder = λ entries size e. counted (decodeQuestions b m entries size) _ (numbered-decode b m entries size) e ∙ ap (λ (x : ℕ). x * I .sizes .k) (sym (add-one m));
         encoder = λ p size e. counted (encodeQuestions b m p size) _ (numbered-encode b m p size) e ∙ ap (λ (x : ℕ). I .sizes .n * I .sizes .k * x) (sym (add-one m));
         reader = λ text size e. counted (readQuestions b m text size) _ (numbered-read b m text size) e ∙ ap (λ (x : ℕ). I .sizes .n * I .sizes .k * x) (sym (add-one m));

@@ -18,16 +18,14 @@ use Rattle.plan.specs.Plan.{Row, planRow, rests, restTime, cost}
 use Rattle.plan.specs.Rest.{Rests, BusyUntil}
 
 module _ (m : ℕ) (P : ℕ → Row) (a : ℕ) where
-  rows-alike : (t : ℕ) → ((u : ℕ) → u < suc m → (u < t → ⊥) → P t a ≡ P u a) ↔ Rests m P a t
-  rows-alike t = (
-    (λ h. (P t a, λ u o q. sym (h u (omega arith) (omega arith)))),
-    (λ (v, h) u q f. h t (omega arith) (omega arith) ∙ sym (h u (omega arith) (omega arith))),
-  )
-
   -- the test says what the proposition says
   pub rests-iff : (t : ℕ) → T (rests m P a t) ↔ Rests m P a t
   unfolding rests
-  rests-iff t = simp (every-iff, or-imp, ltb-iff, eqb-iff) (rows-alike t)
+  rests-iff t =
+      simp (every-iff, or-imp, ltb-iff, eqb-iff) (
+        (λ h. (P t a, λ u o q. sym (h u (omega arith) (omega arith)))),
+        (λ (v, h) u q f. h t (omega arith) (omega arith) ∙ sym (h u (omega arith) (omega arith))),
+      )
 
   -- the last row alone is one vertex
   pub rests-last : Rests m P a m

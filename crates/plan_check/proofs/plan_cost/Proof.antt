@@ -29,8 +29,8 @@ rest-time-requires c κs = (c .before .before .before .pre .1, omega arith, c .l
 added : (c : tie.After-rest-time Inv-loop μ-loop) → (c .rest-time .result ≡ restTime (c .before .before .before .before .args .s .m) (planRow (c .before .before .before .before .args .s) (c .before .before .before .before .args .p .now)) (c .before .before .loop .a)) × (c .rest-time .result ≤ 32)
 added c =
     let s = c .before .before .before .before in
-    let e : s .args .s .m + 1 - 1 ≡ s .args .s .m = omega arith in
-    let r = c .rest-time .ensures ∙ ap (λ (j : ℕ). restTime j (planRow (s .args .s) (s .args .p .now)) (c .before .before .loop .a)) e in
+    let r : c .rest-time .result ≡ restTime (s .args .s .m) (planRow (s .args .s) (s .args .p .now)) (c .before .before .loop .a) =
+    c .rest-time .ensures ∙ ap (λ (j : ℕ). restTime j (planRow (s .args .s) (s .args .p .now)) (c .before .before .loop .a)) (omega arith) in
     (r, omega (arith, r, rest-until (s .args .s .m) (planRow (s .args .s) (s .args .p .now)) (c .before .before .loop .a) .within, s .pre .0 .m-most))
 
 add-cost : tie.Need-add-cost Inv-loop μ-loop

@@ -48,7 +48,7 @@ loop-again c =
     let s = c .before .before .before .before .before .args in
     let l = c .before .before .before .before .loop in
     ⊎-elim
-    (λ w. (omega arith, (rw (w .1) (rest-changed (s .s) (s .p .now) (s .a) (l .t) (w .0 .taken)), omega arith)))
+    (λ w. (omega arith, (rw (w .1) (omega (arith, rest-changed (s .s) (s .p .now) (s .a) (l .t) (w .0 .taken))), omega arith)))
     (λ w. (omega arith, (rw (w .1) (rest-same (s .s) (s .p .now) (s .a) (l .t) (l .rest) (l .inv .1 .0) (w .0 .left)), omega arith)))
     (c .if1 .came)
 
