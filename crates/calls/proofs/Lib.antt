@@ -2,3 +2,4 @@ pub mod Occupied
 pub mod Plan
 pub mod Valuation
 pub mod Text
+pub mod Floor

@@ -1,5 +1,5 @@
 -- For each call: the questions it asks, its answer, and what it leaves in the lent slice.
--- b are the instance bytes and m is the horizon given; a size is the length of a lent slice.
+-- b are the instance bytes and m is the horizon given, which the floor has not; a size is the length of a lent slice.
 use mathlib.Core.List.{List, [], _∷_, _++_}
 use Prim.Native.Nat.{ℕ}
 use lib.ListN.{length, getD}
@@ -9,12 +9,13 @@ use Rattle.answers.specs.declared.Answer.{Answer}
 use Rattle.answers.specs.declared.Written.{Written}
 use Rattle.answers.specs.Answers.{Question, decide, lent, withClauses}
 use Rattle.instance.specs.Instance.{Instance, instance}
-use Rattle.instance.specs.Questions.{instanceQuestions}
+use Rattle.instance.specs.Questions.{bytesQuestions, instanceQuestions}
+use Rattle.distances.specs.Distance.{floor}
 use Rattle.formula.specs.Formula.{Formula, formula, line, words}
 use Rattle.plan.specs.Plan.{planBytes, cost}
 use Rattle.valuation.specs.Valuation.{namedPlan, planValuation}
 use Rattle.solver_text.specs.Form.{given, inOrder}
-use Rattle.calls.specs.Questions.{question11, question12, question13, question14, question15, question16, question17, question18, question19, question20, question21, question22, question23, question24, questions27, question28, question29}
+use Rattle.calls.specs.Questions.{question11, question12, question13, question14, question15, question16, question17, question18, question19, question20, question21, question22, question23, question24, questions27, question28, question29, question30}
 
 -- the three questions of step t
 abbrev pub stepQuestions : Instance → List ℕ → ℕ → List Question
@@ -29,14 +30,14 @@ unfoldable pub textQuestions : ℕ → List ℕ → List Question
 textQuestions N text = questions27 N text ++ question28 N text ∷ question29 N text ∷ []
 
 -- What each call asks of an accepted instance, after 1 to 10.
+-- a writer of the formula f: 12
+abbrev pub writeRest : Formula → ℕ → List Question
+writeRest f size = question12 (length (words f)) size ∷ []
+
 module _ (I : Instance) where
   -- the clause at a number, with its 0
   abbrev pub clauseWords : ℕ → List ℤ
   clauseWords c = line (getD (formula I .clauses) c [])
-
-  -- the formula writer: 12
-  abbrev pub writeRest : ℕ → List Question
-  writeRest size = question12 (length (words (formula I))) size ∷ []
 
   -- one clause: 11, 12
   abbrev pub clauseRest : ℕ → ℕ → List Question
@@ -59,6 +60,20 @@ module _ (I : Instance) where
   abbrev pub readRest : List ℕ → ℕ → List Question
   readRest text size = question16 (formula I) size ∷ textQuestions (formula I .variables) text
 
+-- ---- the writer of one formula for each instance, the base formula or the pruned one: 1 to 10, 12
+module _ (f : Instance → Formula) (b : List ℕ) (m : ℕ) where
+  abbrev written : Formula
+  written = f (instance b m)
+
+  abbrev pub writeQuestions : ℕ → List Question
+  writeQuestions size = instanceQuestions b m ++ writeRest written size
+
+  unfoldable pub writeAnswer : ℕ → Written
+  writeAnswer size = withClauses (decide (writeQuestions size) (length (words written))) (length (written .clauses))
+
+  unfoldable pub writeSlice : List ℤ → List ℤ
+  writeSlice s = lent (decide (writeQuestions (length s)) (length (words written))) (words written) s
+
 module _ (b : List ℕ) (m : ℕ) where
   abbrev I : Instance
   I = instance b m
@@ -66,16 +81,6 @@ module _ (b : List ℕ) (m : ℕ) where
   -- the base formula
   abbrev base : Formula
   base = formula I
-
-  -- ---- the formula writer: 1 to 10, 12
-  abbrev pub writeQuestions : ℕ → List Question
-  writeQuestions size = instanceQuestions b m ++ writeRest I size
-
-  unfoldable pub writeAnswer : ℕ → Written
-  writeAnswer size = withClauses (decide (writeQuestions size) (length (words base))) (length (base .clauses))
-
-  unfoldable pub writeSlice : List ℤ → List ℤ
-  writeSlice s = lent (decide (writeQuestions (length s)) (length (words base))) (words base) s
 
   -- ---- one clause: 1 to 12
   abbrev pub clauseQuestions : ℕ → ℕ → List Question
@@ -123,3 +128,11 @@ module _ (b : List ℕ) (m : ℕ) where
 
   unfoldable pub readSlice : List ℕ → List ℤ → List ℤ
   readSlice text s = lent (readAnswer text (length s)) (inOrder (base .variables) (given text)) s
+
+-- ---- the floor: 1 to 9, 30
+module _ (b : List ℕ) where
+  abbrev pub floorQuestions : List Question
+  floorQuestions = bytesQuestions b ++ question30 b ∷ []
+
+  unfoldable pub floorAnswer : Answer
+  floorAnswer = decide floorQuestions (floor (instance b 0))

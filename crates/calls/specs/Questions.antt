@@ -1,13 +1,15 @@
 -- The questions asked after 1 to 10: under each number, what is asked and the place that a no names.
 use mathlib.Core.List.{List, [], _∷_}
-use Prim.Native.Nat.{ℕ, suc}
+use mathlib.Core.Bool.{Bool, not}
+use Prim.Native.Nat.{ℕ, suc, _+_}
 use lib.ListN.{length, getD}
 use lib.Dec.{leb, ltb, eqb}
 use lib.IntN.{ℤ}
 use Rattle.lists.specs.Loop.{any}
 use Rattle.answers.specs.Answers.{Question, ask, askEach, refuse}
 use Rattle.instance.specs.declared.Sizes.{Sizes}
-use Rattle.instance.specs.Instance.{Instance, adjacent}
+use Rattle.instance.specs.Instance.{Instance, instance, agents, goals, adjacent}
+use Rattle.distances.specs.Distance.{unreachable, startToGoal}
 use Rattle.formula.specs.Formula.{Formula}
 use Rattle.plan.specs.Plan.{planBytes, planIndex, planRow, condition1, condition2, condition3, Leaving, stays, exchanges, movesOn, occupantLeaves}
 use Rattle.valuation.specs.Valuation.{rightEntry, satisfied?}
@@ -102,3 +104,13 @@ module _ (N : ℕ) (text : List ℕ) where
   -- Is each variable given once?
   abbrev pub question29 : Question
   question29 = askEach N (λ i. eqb (times (suc i) (given text)) 1) λ i. refuse 29 (suc i)
+
+-- of the bytes of an accepted instance: in the floor call only. No horizon is given; 0 stands for it, and any other would do.
+module _ (b : List ℕ) where
+  -- agent a can reach its goal from its start
+  abbrev pub reachable : ℕ → Bool
+  reachable a = not (eqb (startToGoal (instance b 0) a) unreachable)
+
+  -- Can each goal be reached from its start?
+  abbrev pub question30 : Question
+  question30 = askEach (agents b) reachable λ a. refuse 30 (goals b + a)

@@ -14,7 +14,7 @@ use Rattle.answers.specs.declared.Answer.{Answer}
 use Rattle.answers.specs.Answers.{Question, clear, decide, withClauses}
 use Rattle.answers.proofs.Laws.{numbered, clear-iff, decide-iff, decide-count, byNumber-accepted, ask-nil}
 use Rattle.instance.specs.Instance.{Instance, instance, agents}
-use Rattle.formula.specs.Formula.{clauses}
+use Rattle.formula.specs.Formula.{clauses, formula}
 use Rattle.formula.proofs.Counts.{count-A, count-B, count-C, count-D, count-E, count-F, count-G, words-A, words-B, words-C, words-D, words-E, words-F, words-G, clause-count, word-count, largest}
 use Rattle.formula.proofs.Limits.{words-most, clause-most}
 use Rattle.plan.specs.Plan.{makespan}
@@ -27,7 +27,7 @@ use Rattle.claims.proofs.Refusals.{numbered-write, numbered-clause, num
 use Rattle.claims.specs.Formula.{Counts, Claim}
 
 -- an acceptance holds its count
-counted : (qs : List Question) (c : ℕ) → T (all numbered qs) → decide qs c .number ≡ 0 → decide qs c .second ≡ c
+pub counted : (qs : List Question) (c : ℕ) → T (all numbered qs) → decide qs c .number ≡ 0 → decide qs c .second ≡ c
 counted qs c ok e = ap (λ (a : Answer). a .second) (decide-count qs c (decide-iff qs c ok .0 e))
 
 -- a question behind those of the instance is answered yes
@@ -52,7 +52,7 @@ module _ (b : List ℕ) (m : ℕ) (ok : T (all clear (instanceQuestions b m))) w
   counts =
       record {
         writer = λ size e. (
-          counted (writeQuestions b m size) _ (numbered-write b m size) e ∙ word-count I (edges-known b m ok),
+          counted (writeQuestions formula b m size) _ (numbered-write b m formula size) e ∙ word-count I (edges-known b m ok),
           byNumber-accepted _ _ 0 e ∙ clause-count I,
         );
         clause = λ c size e.

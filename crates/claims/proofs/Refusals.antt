@@ -15,14 +15,15 @@ use Rattle.answers.specs.declared.Answer.{Answer}
 use Rattle.answers.specs.Answers.{Question, ask, askEach, decide, withClauses}
 use Rattle.answers.proofs.Laws.{numbered, ask-all, decide-iff, lent-refused, byNumber-refused, numbered-second}
 use Rattle.instance.specs.Instance.{Instance, instance}
-use Rattle.instance.specs.Questions.{instanceQuestions, instanceAnswer}
+use Rattle.instance.specs.Questions.{question10, bytesQuestions, instanceQuestions, instanceAnswer}
 use Rattle.instance.proofs.Instance.{numbered-instance}
 use Rattle.formula.specs.Formula.{Formula, formula}
-use Rattle.calls.specs.Questions.{question13, question14, question15, question16, question23, question24}
-use Rattle.calls.specs.Calls.{stepQuestions, planQuestions, writeQuestions, writeAnswer, writeSlice, clauseQuestions, clauseAnswer, clauseSlice, checkQuestions, checkAnswer, decodeQuestions, decodeAnswer, decodeSlice, encodeQuestions, encodeAnswer, encodeSlice, textQuestions, readQuestions, readAnswer, readSlice}
+use Rattle.calls.specs.Questions.{question13, question14, question15, question16, question23, question24, question30}
+use Rattle.calls.specs.Calls.{stepQuestions, planQuestions, writeQuestions, writeAnswer, writeSlice, clauseQuestions, clauseAnswer, clauseSlice, checkQuestions, checkAnswer, decodeQuestions, decodeAnswer, decodeSlice, encodeQuestions, encodeAnswer, encodeSlice, textQuestions, readQuestions, readAnswer, readSlice, floorQuestions, floorAnswer}
 use Rattle.calls.proofs.Plan.{numbered-plan}
 use Rattle.calls.proofs.Valuation.{numbered-valuation}
 use Rattle.calls.proofs.Text.{numbered-text}
+use Rattle.calls.proofs.Floor.{numbered-floor}
 use Rattle.claims.specs.Refusals.{FirstItem, FirstNo, Honest, Claim}
 
 -- ---- the shape of a question
@@ -123,9 +124,12 @@ module _ (b : List ℕ) (m : ℕ) where
   abbrev F : Formula
   F = formula I
 
+  asked-bytes : EachAsked (bytesQuestions b)
+  asked-bytes = (one _ _, (one _ _, (one _ _, (one _ _, (one _ _, (many _ _ _, (many _ _ _, (many _ _ _, (many _ _ _, tt)))))))))
+
   asked-instance : EachAsked (instanceQuestions b m)
   unfolding instanceQuestions
-  asked-instance = (one _ _, (one _ _, (one _ _, (one _ _, (one _ _, (many _ _ _, (many _ _ _, (many _ _ _, (many _ _ _, (one _ _, tt))))))))))
+  asked-instance = asked-append (bytesQuestions b) (question10 m ∷ []) asked-bytes (one _ _, tt)
 
   asked-more : (qs : List Question) → EachAsked qs → EachAsked (instanceQuestions b m ++ qs)
   asked-more qs h = asked-append (instanceQuestions b m) qs asked-instance h
@@ -140,8 +144,8 @@ module _ (b : List ℕ) (m : ℕ) where
     ),
   )
 
-  pub numbered-write : (size : ℕ) → T (all numbered (writeQuestions b m size))
-  numbered-write size = numbered-more b m _ (simp (and-iff, ask-all) ((λ f. tt), tt))
+  pub numbered-write : (f : Instance → Formula) (size : ℕ) → T (all numbered (writeQuestions f b m size))
+  numbered-write f size = numbered-more b m _ (simp (and-iff, ask-all) ((λ f. tt), tt))
 
   pub numbered-clause : (c size : ℕ) → T (all numbered (clauseQuestions b m c size))
   numbered-clause c size = numbered-more b m _ (simp (and-iff, ask-all) ((λ f. tt), ((λ f. tt), tt)))
@@ -169,13 +173,13 @@ module _ (b : List ℕ) (m : ℕ) where
   asked-text text = (one _ _, (many _ _ _, (one _ _, (one _ _, (many _ _ _, tt)))))
 
 pub refusals : Claim
-unfolding instanceAnswer writeAnswer writeSlice withClauses clauseAnswer clauseSlice checkAnswer decodeAnswer decodeSlice encodeAnswer encodeSlice readAnswer readSlice
+unfolding instanceAnswer writeAnswer writeSlice withClauses clauseAnswer clauseSlice checkAnswer decodeAnswer decodeSlice encodeAnswer encodeSlice readAnswer readSlice floorAnswer
 refusals b m =
     record {
       instance = honest (instanceQuestions b m) 0 (numbered-instance b m) (asked-instance b m);
-      writer = λ size. honest (writeQuestions b m size) _ (numbered-write b m size) (asked-more b m _ (one _ _, tt));
-      writerSlice = λ s d. lent-refused _ _ s d;
-      noClauses = λ size d. byNumber-refused _ _ 0 d;
+      writer = λ f size. honest (writeQuestions f b m size) _ (numbered-write b m f size) (asked-more b m _ (one _ _, tt));
+      writerSlice = λ f s d. lent-refused _ _ s d;
+      noClauses = λ f size d. byNumber-refused _ _ 0 d;
       clause = λ c size. honest (clauseQuestions b m c size) _ (numbered-clause b m c size) (asked-more b m _ (one _ _, (one _ _, tt)));
       clauseSlice = λ c s d. lent-refused _ _ s d;
       check = λ p. honest (checkQuestions b m p) _ (numbered-check b m p) (asked-more b m _ (one _ _, asked-plan b m p));
@@ -189,4 +193,5 @@ refusals b m =
       reader = λ text size.
           honest (readQuestions b m text size) _ (numbered-read b m text size) (asked-more b m _ (one _ _, asked-text b m text));
       readerSlice = λ text s d. lent-refused _ _ s d;
+      floor = honest (floorQuestions b) _ (numbered-floor b) (asked-append (bytesQuestions b) (question30 b ∷ []) (asked-bytes b m) (many _ _ _, tt));
     }

@@ -8,7 +8,9 @@ use lib.IntN.{ℤ, pos, negℤ}
 use Rattle.answers.specs.declared.Answer.{Answer}
 use Rattle.answers.specs.declared.Written.{Written}
 use Rattle.answers.specs.Answers.{accept, refuse}
-use Rattle.calls.specs.Calls.{writeAnswer, writeSlice, clauseAnswer, clauseSlice, checkAnswer, decodeAnswer, decodeSlice, encodeAnswer, encodeSlice, readAnswer, readSlice}
+use Rattle.formula.specs.Formula.{formula}
+use Rattle.formula.specs.Pruned.{pruned}
+use Rattle.calls.specs.Calls.{writeAnswer, writeSlice, clauseAnswer, clauseSlice, checkAnswer, decodeAnswer, decodeSlice, encodeAnswer, encodeSlice, readAnswer, readSlice, floorAnswer}
 
 -- ---- instances
 -- two vertices, one edge, one agent from s to g; "pair" has s 0 and g 1
@@ -33,14 +35,24 @@ pathTwo s₀ s₁ g₀ g₁ = 3 ∷ 2 ∷ 2 ∷ 0 ∷ 0 ∷ 1 ∷ 1 ∷ 2 ∷ s�
 abbrev pub pathFull : List ℕ
 pathFull = 3 ∷ 3 ∷ 2 ∷ 0 ∷ 0 ∷ 1 ∷ 1 ∷ 2 ∷ 0 ∷ 1 ∷ 2 ∷ 0 ∷ 1 ∷ 2 ∷ []
 
+-- two vertices without an edge, one agent
+abbrev pub cutOne : ℕ → ℕ → List ℕ
+cutOne s g = 2 ∷ 1 ∷ 0 ∷ 0 ∷ s ∷ g ∷ []
+
+-- the edge 0-1 and vertex 2 alone, agents from 0 and from 2
+abbrev pub cutTwo : ℕ → ℕ → List ℕ
+cutTwo g₀ g₁ = 3 ∷ 2 ∷ 1 ∷ 0 ∷ 0 ∷ 1 ∷ 0 ∷ 2 ∷ g₀ ∷ g₁ ∷ []
+
 -- ---- calls, and what is seen of them
 pub data Call : Type 0 where
   write : List ℤ → Call
+  prune : List ℤ → Call
   clause : ℕ → List ℤ → Call
   check : List ℕ → Call
   decode : List ℤ → List ℕ → Call
   encode : List ℕ → List ℤ → Call
   read : List ℕ → List ℤ → Call
+  floor : Call
 
 pub data Seen : Type 0 where
   words : Written → List ℤ → Seen
@@ -50,12 +62,14 @@ pub data Seen : Type 0 where
   valuation : Answer → List ℤ → Seen
 
 abbrev pub run : List ℕ → ℕ → Call → Seen
-run b m (write s) = words (writeAnswer b m (length s)) (writeSlice b m s)
+run b m (write s) = words (writeAnswer formula b m (length s)) (writeSlice formula b m s)
+run b m (prune s) = words (writeAnswer pruned b m (length s)) (writeSlice pruned b m s)
 run b m (clause c s) = line (clauseAnswer b m c (length s)) (clauseSlice b m c s)
 run b m (check p) = answer (checkAnswer b m p)
 run b m (decode entries s) = plan (decodeAnswer b m entries (length s)) (decodeSlice b m entries s)
 run b m (encode p s) = valuation (encodeAnswer b m p (length s)) (encodeSlice b m p s)
 run b m (read text s) = valuation (readAnswer b m text (length s)) (readSlice b m text s)
+run b m floor = answer (floorAnswer b)
 
 pub record Example : Type 0 where
   pub bytes : List ℕ
@@ -82,7 +96,7 @@ written count clauses = record { number = 0; second = count; clauses = clauses }
 abbrev unwritten : ℕ → ℕ → Written
 unwritten number place = record { number = number; second = place; clauses = 0 }
 
--- ---- the words of two formulas, a clause a line
+-- ---- the words of formulas, a clause a line
 abbrev pairWords : List ℤ
 pairWords =
     pos 1 ∷ pos 0
@@ -123,6 +137,53 @@ exchangeWords =
     ∷ neg 2 ∷ neg 8 ∷ pos 0
     ∷ []
 
+-- of the pruned formulas: the pair with horizon 0, which is below its floor; the path with an agent that starts at its goal, horizon
+-- 1, where vertex 2 is too far from both; two vertices without an edge, horizon 1
+abbrev pairBelow : List ℤ
+pairBelow =
+    pos 1 ∷ pos 0
+    ∷ pos 2 ∷ pos 0
+    ∷ pos 1 ∷ pos 2 ∷ pos 0
+    ∷ neg 1 ∷ neg 2 ∷ pos 0
+    ∷ neg 1 ∷ pos 0
+    ∷ neg 2 ∷ pos 0
+    ∷ []
+
+abbrev pathPruned : List ℤ
+pathPruned =
+    pos 1 ∷ pos 0
+    ∷ pos 4 ∷ pos 0
+    ∷ pos 1 ∷ pos 2 ∷ pos 3 ∷ pos 0
+    ∷ pos 4 ∷ pos 5 ∷ pos 6 ∷ pos 0
+    ∷ neg 1 ∷ neg 2 ∷ pos 0
+    ∷ neg 1 ∷ neg 3 ∷ pos 0
+    ∷ neg 2 ∷ neg 3 ∷ pos 0
+    ∷ neg 4 ∷ neg 5 ∷ pos 0
+    ∷ neg 4 ∷ neg 6 ∷ pos 0
+    ∷ neg 5 ∷ neg 6 ∷ pos 0
+    ∷ neg 1 ∷ pos 4 ∷ pos 5 ∷ pos 0
+    ∷ neg 2 ∷ pos 5 ∷ pos 4 ∷ pos 6 ∷ pos 0
+    ∷ neg 3 ∷ pos 6 ∷ pos 5 ∷ pos 0
+    ∷ neg 2 ∷ pos 0
+    ∷ neg 3 ∷ pos 0
+    ∷ neg 5 ∷ pos 0
+    ∷ neg 6 ∷ pos 0
+    ∷ []
+
+abbrev cutPruned : List ℤ
+cutPruned =
+    pos 1 ∷ pos 0
+    ∷ pos 3 ∷ pos 0
+    ∷ pos 1 ∷ pos 2 ∷ pos 0
+    ∷ pos 3 ∷ pos 4 ∷ pos 0
+    ∷ neg 1 ∷ neg 2 ∷ pos 0
+    ∷ neg 3 ∷ neg 4 ∷ pos 0
+    ∷ neg 1 ∷ pos 3 ∷ pos 0
+    ∷ neg 2 ∷ pos 4 ∷ pos 0
+    ∷ neg 2 ∷ pos 0
+    ∷ neg 4 ∷ pos 0
+    ∷ []
+
 -- ---- lines of a solver's text, the v lines with their line ends
 -- "s SATISFIABLE", "s UNSATISFIABLE", "s UNKNOWN"
 abbrev satisfiable : List ℕ
@@ -154,7 +215,13 @@ table =
     example pair 1 (write (sevens 24)) (words (written 24 8) pairWords)
     ∷ example pair 1 (write (sevens 26)) (words (written 24 8) (pairWords ++ sevens 2))
     ∷ example pair 1 (write (sevens 23)) (words (unwritten 12 24) (sevens 23))
-    -- its clause number 6, four words; there is no clause 8
+    -- with family H 10 clauses, 28 words: at time 0 it is not at 1, at time 1 not at 0
+    ∷ example pair 1 (prune (sevens 30)) (words (written 28 10) (pairWords ++ neg 2 ∷ pos 0 ∷ neg 3 ∷ pos 0 ∷ sevens 2))
+    ∷ example pair 1 (prune (sevens 27)) (words (unwritten 12 28) (sevens 27))
+    ∷ example pair 0 (prune (sevens 14)) (words (written 14 6) pairBelow)
+    ∷ example (pathOne 0 0) 1 (prune (sevens 51)) (words (written 51 17) pathPruned)
+    ∷ example (cutOne 0 0) 1 (prune (sevens 26)) (words (written 26 10) cutPruned)
+    -- its clause number 6, four words; there is no clause 8, with family H or without
     ∷ example pair 1 (clause 6 (sevens 5)) (line (accept 4) (neg 1 ∷ pos 3 ∷ pos 4 ∷ pos 0 ∷ pos 7 ∷ []))
     ∷ example pair 1 (clause 6 (sevens 3)) (line (refuse 12 4) (sevens 3))
     ∷ example pair 1 (clause 8 (sevens 0)) (line (refuse 11 8) (sevens 0))
@@ -212,6 +279,17 @@ table =
     ∷ example (pathTwo 0 2 1 2) 1 (check (0 ∷ 2 ∷ 1 ∷ 1 ∷ [])) (answer (refuse 21 3))
     -- an agent jumps
     ∷ example (pathOne 0 2) 1 (check (0 ∷ 2 ∷ [])) (answer (refuse 19 1))
+    -- floors: the greatest distance from a start to its goal, 0 where each agent starts at its goal
+    ∷ example pair 0 floor (answer (accept 1))
+    ∷ example (pairWith 0 0) 0 floor (answer (accept 0))
+    ∷ example (pathOne 0 2) 0 floor (answer (accept 2))
+    ∷ example (pathTwo 0 1 1 2) 0 floor (answer (accept 1))
+    ∷ example (pathTwo 0 1 2 0) 0 floor (answer (accept 2))
+    -- a goal that cannot be reached, of the only agent, of the second, of both; an agent that is cut off and need not move
+    ∷ example (cutOne 0 1) 0 floor (answer (refuse 30 5))
+    ∷ example (cutTwo 1 0) 0 floor (answer (refuse 30 9))
+    ∷ example (cutTwo 2 0) 0 floor (answer (refuse 30 8))
+    ∷ example (cutTwo 1 2) 0 floor (answer (accept 1))
     -- no step at all
     ∷ example pair 0 (check (0 ∷ [])) (answer (refuse 22 0))
     ∷ example (pairWith 0 0) 0 (check (0 ∷ [])) (answer (accept 0))

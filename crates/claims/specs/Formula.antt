@@ -50,8 +50,8 @@ module _ (b : List ℕ) (m : ℕ) where
   -- the count of each acceptance
   pub record Counts : Type 0 where
     -- the writer: words, and the clause count beside them
-    pub writer : (size : ℕ) → writeAnswer b m size .number ≡ 0
-        → (writeAnswer b m size .second ≡ wordCount (I .sizes)) × (writeAnswer b m size .clauses ≡ clauseCount (I .sizes))
+    pub writer : (size : ℕ) → writeAnswer formula b m size .number ≡ 0
+        → (writeAnswer formula b m size .second ≡ wordCount (I .sizes)) × (writeAnswer formula b m size .clauses ≡ clauseCount (I .sizes))
     -- one clause: its words with the 0
     pub clause : (c size : ℕ) → clauseAnswer b m c size .number ≡ 0
         → (c < clauseCount (I .sizes)) × (clauseAnswer b m c size .second ≡ suc (length (getD (clauses I) c [])))

@@ -10,8 +10,10 @@ use lib.IntN.{ℤ}
 use Rattle.lists.specs.Loop.{all}
 use Rattle.answers.specs.declared.Answer.{Answer}
 use Rattle.answers.specs.Answers.{Question, refuse, askEach, clear}
+use Rattle.instance.specs.Instance.{Instance}
 use Rattle.instance.specs.Questions.{instanceQuestions, instanceAnswer}
-use Rattle.calls.specs.Calls.{writeQuestions, writeAnswer, writeSlice, clauseQuestions, clauseAnswer, clauseSlice, checkQuestions, checkAnswer, decodeQuestions, decodeAnswer, decodeSlice, encodeQuestions, encodeAnswer, encodeSlice, readQuestions, readAnswer, readSlice}
+use Rattle.formula.specs.Formula.{Formula}
+use Rattle.calls.specs.Calls.{writeQuestions, writeAnswer, writeSlice, clauseQuestions, clauseAnswer, clauseSlice, checkQuestions, checkAnswer, decodeQuestions, decodeAnswer, decodeSlice, encodeQuestions, encodeAnswer, encodeSlice, readQuestions, readAnswer, readSlice, floorQuestions, floorAnswer}
 
 -- of items 0 to n - 1, each with a test and a refusal: the first that fails gives this answer, and every item before it passes
 pub record FirstItem (n : ℕ) (test : ℕ → Bool) (refusal : ℕ → Answer) (answer : Answer) : Type 0 where
@@ -46,9 +48,11 @@ Unchanged number found left = number ≢ 0 → left ≡ found
 module _ (b : List ℕ) (m : ℕ) where
   pub record Refusals : Type 0 where
     pub instance : Honest (instanceQuestions b m) (instanceAnswer b m .number) (instanceAnswer b m .second)
-    pub writer : (size : ℕ) → Honest (writeQuestions b m size) (writeAnswer b m size .number) (writeAnswer b m size .second)
-    pub writerSlice : (s : List ℤ) → Unchanged (writeAnswer b m (length s) .number) s (writeSlice b m s)
-    pub noClauses : (size : ℕ) → writeAnswer b m size .number ≢ 0 → writeAnswer b m size .clauses ≡ 0
+    -- the writers: f is `formula` for the one, `pruned` for the other
+    pub writer : (f : Instance → Formula) (size : ℕ)
+        → Honest (writeQuestions f b m size) (writeAnswer f b m size .number) (writeAnswer f b m size .second)
+    pub writerSlice : (f : Instance → Formula) (s : List ℤ) → Unchanged (writeAnswer f b m (length s) .number) s (writeSlice f b m s)
+    pub noClauses : (f : Instance → Formula) (size : ℕ) → writeAnswer f b m size .number ≢ 0 → writeAnswer f b m size .clauses ≡ 0
     pub clause : (c size : ℕ) → Honest (clauseQuestions b m c size) (clauseAnswer b m c size .number) (clauseAnswer b m c size .second)
     pub clauseSlice : (c : ℕ) (s : List ℤ) → Unchanged (clauseAnswer b m c (length s) .number) s (clauseSlice b m c s)
     pub check : (p : List ℕ) → Honest (checkQuestions b m p) (checkAnswer b m p .number) (checkAnswer b m p .second)
@@ -61,6 +65,8 @@ module _ (b : List ℕ) (m : ℕ) where
     pub reader : (text : List ℕ) (size : ℕ)
         → Honest (readQuestions b m text size) (readAnswer b m text size .number) (readAnswer b m text size .second)
     pub readerSlice : (text : List ℕ) (s : List ℤ) → Unchanged (readAnswer b m text (length s) .number) s (readSlice b m text s)
+    -- the floor, which is given no horizon
+    pub floor : Honest (floorQuestions b) (floorAnswer b .number) (floorAnswer b .second)
 
 abbrev pub Claim : Type 0
 Claim = (b : List ℕ) (m : ℕ) → Refusals b m

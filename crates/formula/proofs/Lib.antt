@@ -4,3 +4,4 @@ pub mod Limits
 pub mod Places
 pub mod Blocks
 pub mod Held
+pub mod Pruned

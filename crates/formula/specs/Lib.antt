@@ -2,3 +2,4 @@ pub mod Variables
 pub mod Formula
 pub mod Blocks
 pub mod Counts
+pub mod Pruned

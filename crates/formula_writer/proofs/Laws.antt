@@ -17,7 +17,7 @@ use Rattle.instance.specs.declared.Checked.{Checked}
 use Rattle.instance.specs.Instance.{Instance, instance}
 use Rattle.instance.specs.Accepted.{Accepted, instanceOf}
 use Rattle.instance.proofs.Accepted.{sizes-same, graph}
-use Rattle.formula.specs.Formula.{clauses, formula, line, words}
+use Rattle.formula.specs.Formula.{Formula, clauses, formula, line, words}
 use Rattle.formula.specs.Counts.{clauseCount, wordCount}
 use Rattle.formula.specs.Blocks.{held, family}
 use Rattle.formula.proofs.Counts.{clause-count, word-count}
@@ -38,38 +38,38 @@ module _ (b : List ℕ) (c : Checked) (w : Accepted b c) where
   pub clause-count-of : length (clauses I) ≡ clauseCount (c .sizes)
   clause-count-of = clause-count I ∙ ap clauseCount (sym (sizes-same b c w))
 
-  -- 12, for a slice of the given size
-  module _ (size : ℕ) where
-    abbrev asked : Answer
-    asked = decide (writeRest I size) (length (words (formula I)))
+-- ---- any formula of so many words: 12, for a slice of the given size
+module _ (f : Formula) (needed : ℕ) (count : length (words f) ≡ needed) (size : ℕ) where
+  abbrev asked : Answer
+  asked = decide (writeRest f size) (length (words f))
 
-    pub stop-12 : size < wordCount (c .sizes) → refuse 12 (wordCount (c .sizes)) ≡ asked
-    stop-12 l =
-        ap (refuse 12) (sym word-count-of)
-        ∙ sym (ask-no (leb (length (words (formula I))) size) _ [] _ (λ t. omega (arith, leb-iff (length (words (formula I))) size .0 t, word-count-of)))
+  pub stop-12 : size < needed → refuse 12 needed ≡ asked
+  stop-12 l =
+      ap (refuse 12) (sym count)
+      ∙ sym (ask-no (leb (length (words f)) size) _ [] _ (λ t. omega (arith, leb-iff (length (words f)) size .0 t, count)))
 
-    pub pass-12 : wordCount (c .sizes) ≤ size → accept (wordCount (c .sizes)) ≡ asked
-    unfolding decide
-    pass-12 l =
-        ap accept (sym word-count-of)
-        ∙ sym (ask-yes (leb (length (words (formula I))) size) _ [] _ (leb-iff (length (words (formula I))) size .1 (omega (arith, word-count-of))))
+  pub pass-12 : needed ≤ size → accept needed ≡ asked
+  unfolding decide
+  pass-12 l =
+      ap accept (sym count)
+      ∙ sym (ask-yes (leb (length (words f)) size) _ [] _ (leb-iff (length (words f)) size .1 (omega (arith, count))))
 
 -- ---- from the answer to all questions, without the clause count, to the writer's
-module _ (b : List ℕ) (m : ℕ) (f : List ℤ) (r : Answer) (e : r ≡ decide (writeQuestions b m (length f)) (length (words (formula (instance b m))))) where
+module _ (F : Instance → Formula) (b : List ℕ) (m : ℕ) (s : List ℤ) (r : Answer) (e : r ≡ decide (writeQuestions F b m (length s)) (length (words (F (instance b m))))) where
   pub refused : r .number ≢ 0
-      → (record { number = r .number; second = r .second; clauses = 0 } ≡ writeAnswer b m (length f)) × (f ≡ writeSlice b m f)
+      → (record { number = r .number; second = r .second; clauses = 0 } ≡ writeAnswer F b m (length s)) × (s ≡ writeSlice F b m s)
   unfolding writeAnswer writeSlice withClauses
   refused d =
       rw (← e) (
-        ap (λ (q : ℕ). record { number = r .number; second = r .second; clauses = q }) (sym (byNumber-refused (r .number) (length (clauses (instance b m))) 0 d)),
-        sym (lent-refused r _ f d),
+        ap (λ (q : ℕ). record { number = r .number; second = r .second; clauses = q }) (sym (byNumber-refused (r .number) (length (F (instance b m) .clauses)) 0 d)),
+        sym (lent-refused r _ s d),
       )
 
-  pub done : r .number ≡ 0 → (count : ℕ) → count ≡ length (clauses (instance b m)) → (g : List ℤ) → g ≡ filled (words (formula (instance b m))) f
-      → (record { number = r .number; second = r .second; clauses = count } ≡ writeAnswer b m (length f)) × (g ≡ writeSlice b m f)
+  pub done : r .number ≡ 0 → (count : ℕ) → count ≡ length (F (instance b m) .clauses) → (g : List ℤ) → g ≡ filled (words (F (instance b m))) s
+      → (record { number = r .number; second = r .second; clauses = count } ≡ writeAnswer F b m (length s)) × (g ≡ writeSlice F b m s)
   unfolding writeAnswer writeSlice withClauses
   done z count ec g eg =
       rw (← e) (
-        ap (λ (q : ℕ). record { number = r .number; second = r .second; clauses = q }) (ec ∙ sym (byNumber-accepted (r .number) (length (clauses (instance b m))) 0 z)),
-        eg ∙ sym (lent-accepted r _ f z),
+        ap (λ (q : ℕ). record { number = r .number; second = r .second; clauses = q }) (ec ∙ sym (byNumber-accepted (r .number) (length (F (instance b m) .clauses)) 0 z)),
+        eg ∙ sym (lent-accepted r _ s z),
       )

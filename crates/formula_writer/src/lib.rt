@@ -9,7 +9,7 @@ ghost use lib.ListN.{length, take};
 ghost use Rattle.lists.specs.Loop.{for, each};
 ghost use Rattle.lists.specs.Slice.{Wrote};
 ghost use Rattle.instance.specs.Ready.{Ready};
-ghost use Rattle.formula.specs.Formula.{line};
+ghost use Rattle.formula.specs.Formula.{formula, line};
 ghost use Rattle.formula.specs.Blocks.{heldIn, held, family};
 ghost use Rattle.calls.specs.Calls.{writeAnswer, writeSlice};
 
@@ -53,7 +53,7 @@ fn write_families(
 }
 
 // The seven families of a checked instance, to a slice with room for them.
-fn write_words(f: &mut [i32], c: Checked) -> usize
+pub fn write_words(f: &mut [i32], c: Checked) -> usize
     requires { ⌜ Ready (c .sizes) (c .starts) (c .goals) (c .near) ⌝ }
     requires { ⌜ length (each line (for 7 (family (held c)))) ≤ length (now f) ⌝ }
     ensures { λ r. ⌜ Wrote (each line (for 7 (family (held c)))) (now (f .entry)) (now (f .exit)) r ⌝ }
@@ -65,8 +65,8 @@ fn write_words(f: &mut [i32], c: Checked) -> usize
 
 // Questions 1 to 10 and 12. A refusal changes no word of the slice.
 pub fn write_formula(b: &[u8], m: usize, f: &mut [i32]) -> Written
-    ensures { λ r. ⌜ r ≡ writeAnswer (now (b .entry)) m (length (now (f .entry))) ⌝ }
-    ensures { λ _. ⌜ now (f .exit) ≡ writeSlice (now (b .entry)) m (now (f .entry)) ⌝ }
+    ensures { λ r. ⌜ r ≡ writeAnswer formula (now (b .entry)) m (length (now (f .entry))) ⌝ }
+    ensures { λ _. ⌜ now (f .exit) ≡ writeSlice formula (now (b .entry)) m (now (f .entry)) ⌝ }
 {
     let i = instance_check::check_instance(b, m);
     let answer = i.answer;

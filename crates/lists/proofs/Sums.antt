@@ -1,5 +1,5 @@
 -- Sums, and lists whose blocks have different lengths: pairs v < w, and the numbers other than one.
-use mathlib.Core.Path.{_≡_, refl, sym, _∙_, ap, ap₂}
+use mathlib.Core.Path.{_≡_, refl, sym, _∙_, ap, ap₂, subst}
 use mathlib.Core.Logic.{_↔_, ⊎-elim, by-cases}
 use mathlib.Core.List.{List, [], _∷_}
 use mathlib.Core.Bool.{Bool, true, false, not, _&&_, _||_}
@@ -157,6 +157,36 @@ count-below (suc n) r p l h =
     (λ q.
     let s : sum n (λ i. ind (p i)) ≡ n = count-below n n p (le-refl n) (λ i k. ((λ t. k), (λ o. h i (omega arith) .1 (omega arith)))) in
     omega (arith, s, ind-yes (p n) (h n (le-refl (suc n)) .1 (omega arith))))
+
+-- how many numbers pass: at most all, and more where more do
+pub count-most : (n : ℕ) (p : ℕ → Bool) → sum n (λ i. ind (p i)) ≤ n
+count-most zero p = omega arith
+count-most (suc n) p = omega (arith, count-most n p, go (p n))
+  where
+    go : (b : Bool) → ind b ≤ 1
+    go true = omega arith
+    go false = omega arith
+
+ind-le : (a b : Bool) → (T a → T b) → ind a ≤ ind b
+ind-le true true h = omega arith
+ind-le true false h = absurd (h tt)
+ind-le false b h = omega arith
+
+pub count-le : (n : ℕ) (p q : ℕ → Bool) → ((i : ℕ) → i < n → T (p i) → T (q i)) → sum n (λ i. ind (p i)) ≤ sum n (λ i. ind (q i))
+count-le zero p q h = omega arith
+count-le (suc n) p q h = omega (arith, count-le n p q (λ i l. h i (omega arith)), ind-le (p n) (q n) (h n (le-refl (suc n))))
+
+pub count-less : (n : ℕ) (p q : ℕ → Bool) → ((i : ℕ) → i < n → T (p i) → T (q i)) → (j : ℕ) → j < n → (T (p j) → ⊥) → T (q j)
+    → sum n (λ i. ind (p i)) < sum n (λ i. ind (q i))
+count-less zero p q h j l f t = absurd (not-suc-le-zero l)
+count-less (suc n) p q h j l f t =
+    ⊎-elim
+    (λ e.
+    let c = ind-no (p n) (λ x. f (subst (λ (i : ℕ). T (p i)) (sym e) x)) in
+    let d = ind-yes (q n) (subst (λ (i : ℕ). T (q i)) e t) in
+    omega (arith, count-le n p q (λ i k. h i (omega arith))))
+    (λ k. omega (arith, count-less n p q (λ i k. h i (omega arith)) j k f t, ind-le (p n) (q n) (h n (le-refl (suc n)))))
+    (eq-or-lt-of-le (le-of-suc-le-suc l))
 
 pub ind-and : (a b : Bool) → ind (a && b) ≡ ind a * ind b
 ind-and true true = refl

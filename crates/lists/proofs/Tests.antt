@@ -1,9 +1,9 @@
 -- Tests as propositions, and what holds of each number below n.
-use mathlib.Core.Path.{_≡_, refl, sym, ap₂, subst}
+use mathlib.Core.Path.{_≡_, refl, sym, _∙_, ap, ap₂, subst}
 use mathlib.Core.Logic.{_↔_, _⊎_, inl, inr, ⊎-elim}
 use mathlib.Core.Bool.{Bool, true, false, not, _&&_, _||_, cond}
-use Prim.Native.Nat.{ℕ, zero, suc, _≤_, _<_}
-use native.Mathlib.Nat.{not-suc-le-zero, le-refl, eq-or-lt-of-le, le-of-suc-le-suc}
+use Prim.Native.Nat.{ℕ, zero, suc, _+_, _≤_, _<_}
+use native.Mathlib.Nat.{not-suc-le-zero, le-refl, eq-or-lt-of-le, le-of-suc-le-suc, add-zero, add-suc}
 use native.Mathlib.Omega.{arith}
 use lib.Dec.{T, leb, ltb, eqb, leb→le, le→leb, ltb→lt, lt→ltb, eqb→eq, eqb-refl}
 use Rattle.lists.specs.Loop.{some, every, first}
@@ -92,3 +92,32 @@ first-iff (suc n) p h = go (first-iff n p) (some n p) refl
     go : (T (some n p) → (first n p < n) × T (p (first n p))) → (b : Bool) → some n p ≡ b → (cond b (first n p) n < suc n) × T (p (cond b (first n p) n))
     go rec true e = let r = rec (subst T (sym e) tt) in (omega (arith, r .0), r .1)
     go rec false e = (le-refl (suc n), ⊎-elim (λ t. absurd (subst T e t)) (λ t. t) (or-iff (some n p) (p n) .0 h))
+
+-- no lower number passes
+pub first-least : (n : ℕ) (p : ℕ → Bool) (i : ℕ) → i < n → T (p i) → first n p ≤ i
+first-least zero p i l t = absurd (not-suc-le-zero l)
+first-least (suc n) p i l t = go (some n p) refl (first-least n p i)
+  where
+    go : (b : Bool) → some n p ≡ b → (i < n → T (p i) → first n p ≤ i) → cond b (first n p) n ≤ i
+    go true e rec =
+        ⊎-elim
+        (λ q. let r = first-iff n p (subst T (sym e) tt) .0 in omega arith)
+        (λ k. rec k t)
+        (eq-or-lt-of-le (le-of-suc-le-suc l))
+    go false e rec =
+        ⊎-elim (λ q. omega arith) (λ k. absurd (subst T e (some-iff n p .1 (i, k, t)))) (eq-or-lt-of-le (le-of-suc-le-suc l))
+
+pub some-ext : (n : ℕ) (p q : ℕ → Bool) → ((i : ℕ) → i < n → p i ≡ q i) → some n p ≡ some n q
+some-ext zero p q h = refl
+some-ext (suc n) p q h = ap₂ _||_ (some-ext n p q (λ i l. h i (omega arith))) (h n (le-refl (suc n)))
+
+pub some-none : (n : ℕ) (p : ℕ → Bool) → ((i : ℕ) → i < n → p i ≡ false) → some n p ≡ false
+some-none zero p h = refl
+some-none (suc n) p h = ap₂ _||_ (some-none n p (λ i l. h i (omega arith))) (h n (le-refl (suc n)))
+
+-- numbers that do not pass may be left out at the end
+pub some-skip : (n d : ℕ) (p : ℕ → Bool) → ((i : ℕ) → n ≤ i → i < n + d → p i ≡ false) → some (n + d) p ≡ some n p
+some-skip n zero p h = ap (λ (x : ℕ). some x p) (add-zero n)
+some-skip n (suc d) p h =
+    rw add-suc
+    (ap₂ _||_ (some-skip n d p (λ i a b. h i a (omega arith))) (h (n + d) (omega arith) (omega arith)) ∙ or-false (some n p))

@@ -7,11 +7,12 @@
 --     any p l, all p l        the test p holds of some element, of every element of l
 --     first n p               the lowest number below n at which the test p holds
 --     sum n f                 f 0 + f 1 + .. + f (n - 1)
+--     greatest n f            the greatest of f 0, f 1, .., f (n - 1), and 0 where n is 0
 --     pairs n                 how many pairs v < w of numbers below n there are
 --     unlikeEarlier f a       f a is unlike f 0, .., f (a - 1)
 use mathlib.Core.List.{List, [], _∷_, _++_}
 use mathlib.Core.Bool.{Bool, true, false, not, _&&_, _||_, cond}
-use Prim.Native.Nat.{ℕ, zero, suc, _+_, _*_, _-_, _/_}
+use Prim.Native.Nat.{ℕ, zero, suc, _+_, _*_, _-_, _/_, max}
 use lib.Dec.{eqb}
 
 module _ {A : Type 0} where
@@ -55,6 +56,10 @@ first (suc n) p = cond (some n p) (first n p) n
 abbrev pub sum : ℕ → (ℕ → ℕ) → ℕ
 sum zero f = 0
 sum (suc n) f = sum n f + f n
+
+abbrev pub greatest : ℕ → (ℕ → ℕ) → ℕ
+greatest zero f = 0
+greatest (suc n) f = max (greatest n f) (f n)
 
 abbrev pub pairs : ℕ → ℕ
 pairs n = n * (n - 1) / 2

@@ -3,6 +3,7 @@ use answers::Answer;
 use answers::Written;
 ghost use mathlib.Core.Path.{_≡_};
 ghost use lib.ListN.{length};
+ghost use Rattle.formula.specs.Formula.{formula};
 ghost use Rattle.calls.specs.Calls.{writeAnswer, writeSlice, clauseAnswer, clauseSlice, checkAnswer, decodeAnswer, decodeSlice, encodeAnswer, encodeSlice, readAnswer, readSlice};
 
 #[no_mangle]
@@ -11,8 +12,8 @@ pub extern "C" fn runglaet_write_formula(
     horizon: u64,
     words: &mut [i32],
 ) -> Written
-    ensures { λ r. ⌜ r ≡ writeAnswer (now (instance .entry)) horizon (length (now (words .entry))) ⌝ }
-    ensures { λ _. ⌜ now (words .exit) ≡ writeSlice (now (instance .entry)) horizon (now (words .entry)) ⌝ }
+    ensures { λ r. ⌜ r ≡ writeAnswer formula (now (instance .entry)) horizon (length (now (words .entry))) ⌝ }
+    ensures { λ _. ⌜ now (words .exit) ≡ writeSlice formula (now (instance .entry)) horizon (now (words .entry)) ⌝ }
 {
     formula_writer::write_formula(instance, horizon as usize, words)
 }

@@ -1,0 +1,109 @@
+-- The floor call: it asks what an instance with horizon 0 is asked, then 30; what its answers say of every plan.
+use mathlib.Core.Path.{_≡_, refl, sym, _∙_, ap}
+use mathlib.Core.Logic.{⊎-elim}
+use mathlib.Core.List.{List, [], _∷_, _++_}
+use mathlib.Core.Bool.{true}
+use Prim.Native.Nat.{ℕ, zero, suc, _+_, _≤_, _<_}
+use native.Mathlib.Nat.{le-refl}
+use native.Mathlib.Omega.{arith}
+use lib.Dec.{T, ltb, eqb}
+use Rattle.lists.specs.Loop.{all, greatest}
+use Rattle.lists.proofs.Tests.{and-iff, not-iff, eqb-iff, ltb-iff}
+use Rattle.lists.proofs.Loops.{all-append}
+use Rattle.lists.proofs.Blocks.{place-lt}
+use Rattle.answers.specs.declared.Answer.{Answer}
+use Rattle.answers.specs.Answers.{Question, ask, refuse, decide, clear}
+use Rattle.answers.specs.Fault.{FirstFault}
+use Rattle.answers.proofs.Laws.{numbered, each-all, each-nil, clear-iff, ask-all, decide-iff, decide-count, decide-after, decide-each, decide-past}
+use Rattle.instance.specs.Instance.{instance, agents, goals, adjacent, Endpoints}
+use Rattle.instance.specs.Questions.{question10, bytesQuestions, instanceQuestions}
+use Rattle.instance.proofs.Instance.{endpoints, limits}
+use Rattle.distances.specs.Distance.{unreachable, startToGoal, floor}
+use Rattle.plan.specs.Passing.{Passes}
+use Rattle.plan.specs.Plan.{planRow}
+use Rattle.valuation.proofs.Pruned.{steps-most}
+use Rattle.calls.specs.Questions.{reachable, question30}
+use Rattle.calls.specs.Calls.{floorQuestions, floorAnswer}
+
+decide-skip : (qs rs : List Question) (c : ℕ) → decide (qs ++ [] ∷ rs) c ≡ decide (qs ++ rs) c
+unfolding decide
+decide-skip [] rs c = refl
+decide-skip ([] ∷ qs) rs c = decide-skip qs rs c
+decide-skip ((r ∷ later) ∷ qs) rs c = refl
+
+greatest-most : (n : ℕ) (f : ℕ → ℕ) (x : ℕ) → ((a : ℕ) → a < n → f a ≤ x) → greatest n f ≤ x
+greatest-most zero f x h = omega arith
+greatest-most (suc n) f x h = omega (arith, greatest-most n f x (λ a l. h a (omega arith)), h n (le-refl (suc n)))
+
+module _ (b : List ℕ) where
+  -- 0 is a horizon, so 10 is answered yes
+  pub floor-asks : decide (instanceQuestions b 0 ++ question30 b ∷ []) (floor (instance b 0)) ≡ floorAnswer b
+  unfolding floorAnswer instanceQuestions ask
+  floor-asks = decide-skip (bytesQuestions b) (question30 b ∷ []) (floor (instance b 0))
+
+  pub numbered-floor : T (all numbered (floorQuestions b))
+  numbered-floor =
+      simp (and-iff, each-all, ask-all)
+      ((λ f. tt), ((λ f. tt), ((λ f. tt), ((λ f. tt), ((λ f. tt), ((λ j l f. tt), ((λ j l f. tt), ((λ a l f. tt), ((λ a l f. tt), ((λ a l f. tt), tt))))))))))
+
+  -- an acceptance holds the floor
+  pub floor-count : floorAnswer b .number ≡ 0 → floorAnswer b .second ≡ floor (instance b 0)
+  unfolding floorAnswer
+  floor-count e =
+      ap (λ (x : Answer). x .second) (decide-count (floorQuestions b) _ (decide-iff (floorQuestions b) _ numbered-floor .0 e))
+
+  -- where 1 to 9 are answered yes, so are 1 to 10 at horizon 0
+  pub bytes-clear : T (all clear (bytesQuestions b)) → T (all clear (instanceQuestions b 0))
+  unfolding instanceQuestions ask
+  bytes-clear t = all-append clear (bytesQuestions b) (question10 0 ∷ []) .1 (t, tt)
+
+  -- ---- the graph, the starts and the goals are the same at every horizon
+  module _ (ok : T (all clear (bytesQuestions b))) (m : ℕ) where
+    same-endpoints : Endpoints (instance b 0) → Endpoints (instance b m)
+    unfolding instance
+    same-endpoints s = record { startsInside = s .startsInside; startsApart = s .startsApart; goalsInside = s .goalsInside }
+
+    steps-known : (p : List ℕ) → Passes (instance b m) p → (a : ℕ) → a < agents b → (startToGoal (instance b 0) a ≤ m) × (startToGoal (instance b 0) a < unreachable)
+    unfolding instance adjacent
+    steps-known p w a l =
+        let few = limits b 0 (bytes-clear ok) .n-most in
+        let (x, y) = steps-most (instance b m) (planRow (instance b m .sizes) p) (w .leads) (λ t a h r. w .inside _ (place-lt (suc m) (agents b) t a h r))
+            (same-endpoints (endpoints b 0 (bytes-clear ok))) (omega arith) a l in
+        (x, omega arith)
+
+    -- a plan that passes shows that the floor is accepted, and not above its makespan
+    pub floor-below : (p : List ℕ) → Passes (instance b m) p → (floorAnswer b .number ≡ 0) × (floorAnswer b .second ≤ m)
+    unfolding floorAnswer floor instance
+    floor-below p w =
+        let thirty : question30 b ≡ [] = each-nil (agents b) (reachable b) _ .1 (λ a l.
+        not-iff (eqb (startToGoal (instance b 0) a) unreachable) .1 (λ t. let e = eqb-iff (startToGoal (instance b 0) a) unreachable .0 t in let (x, y) = steps-known p w a l in omega arith)) in
+        let yes : T (all clear (floorQuestions b)) = all-append clear (bytesQuestions b) (question30 b ∷ []) .1 (ok, and-iff (clear (question30 b)) true .1 (clear-iff (question30 b) .1 thirty, tt)) in
+        let e : floorAnswer b .number ≡ 0 = decide-iff (floorQuestions b) _ numbered-floor .1 yes in
+        (e, rw (floor-count e) (greatest-most (agents b) _ m (λ a l. steps-known p w a l .0)))
+
+  -- ---- where 30 is answered, 1 to 9 were answered yes
+  pub past-bytes : floorAnswer b .number ≡ 30 → T (all clear (bytesQuestions b))
+  unfolding floorAnswer
+  past-bytes e =
+      ⊎-elim
+      (λ ok. ok)
+      (λ t. let l = ltb-iff (floorAnswer b .number) 10 .0 t in absurd (let f : ⊥ = omega arith in f))
+      (decide-past (λ r. ltb (r .number) 10) (bytesQuestions b) (question30 b ∷ []) _
+      (simp (and-iff, each-all, ask-all)
+      ((λ f. tt), ((λ f. tt), ((λ f. tt), ((λ f. tt), ((λ f. tt), ((λ j l f. tt), ((λ j l f. tt), ((λ a l f. tt), ((λ a l f. tt), tt)))))))))))
+
+  -- no plan passes at any horizon
+  pub no-plan : floorAnswer b .number ≡ 30 → (m : ℕ) (p : List ℕ) → Passes (instance b m) p → ⊥
+  no-plan e m p w = let z = floor-below (past-bytes e) m p w .0 in omega arith
+
+  -- the first agent that cannot reach its goal gives the place
+  pub first-cut : floorAnswer b .number ≡ 30 → (a : ℕ) × (a < agents b) × FirstFault (agents b) (reachable b) a × (floorAnswer b .second ≡ goals b + a)
+  unfolding floorAnswer
+  first-cut e =
+      let q = decide-after (bytesQuestions b) (question30 b ∷ []) (floor (instance b 0)) (past-bytes e) in
+      ⊎-elim
+      (λ (h, r).
+      let z : 30 ≡ 0 = sym e ∙ ap (λ (x : Answer). x .number) (q ∙ r ∙ decide-count [] (floor (instance b 0)) tt) in
+      absurd (let f : ⊥ = omega arith in f))
+      (λ (a, l, f, r). (a, l, f, ap (λ (x : Answer). x .second) (q ∙ r)))
+      (decide-each (agents b) (reachable b) (λ a. refuse 30 (goals b + a)) [] (floor (instance b 0)))

@@ -1,0 +1,70 @@
+-- What is claimed of the distances, the floor and the pruned formula.
+use mathlib.Core.Path.{_≡_}
+use mathlib.Core.Logic.{_↔_, _≢_}
+use mathlib.Core.List.{List}
+use Prim.Native.Nat.{ℕ, _+_, _≤_, _<_}
+use lib.ListN.{length}
+use lib.IntN.{ℤ}
+use Rattle.lists.specs.Loop.{greatest}
+use Rattle.instance.specs.declared.Sizes.{Sizes}
+use Rattle.instance.specs.Instance.{Instance, instance, agents, goals, startOf, goalOf}
+use Rattle.instance.specs.Questions.{instanceAnswer}
+use Rattle.distances.specs.Distance.{unreachable, distance, startToGoal}
+use Rattle.distances.specs.Walk.{Walk, Shortest, Unreachable}
+use Rattle.formula.specs.Formula.{formula, words}
+use Rattle.formula.specs.Pruned.{pruned, prunedClauses, prunedWords}
+use Rattle.plan.specs.Passing.{Passes}
+use Rattle.valuation.specs.Satisfying.{Valuation, Satisfies}
+use Rattle.calls.specs.Calls.{writeAnswer, checkAnswer, floorAnswer}
+
+-- for the instance bytes b and the horizon m
+module _ (b : List ℕ) (m : ℕ) where
+  abbrev I : Instance
+  I = instance b m
+
+  open Sizes (I .sizes) using (n)
+
+  pub record Distances : Type 0 where
+    -- a distance is the length of a shortest walk, and the mark stands exactly where there is no walk
+    pub shortest : (v w : ℕ) → v < n → w < n → distance I v w ≢ unreachable → Shortest I v w (distance I v w)
+    pub mark : (v w : ℕ) → v < n → w < n → (distance I v w ≡ unreachable) ↔ Unreachable I v w
+    -- it is as far there as back, and no distance is n or more
+    pub back : (v w : ℕ) → v < n → w < n → distance I v w ≡ distance I w v
+    pub most : (v w : ℕ) → v < n → w < n → distance I v w ≢ unreachable → distance I v w < n
+
+  pub record Pruned : Type 0 where
+    -- the pruned formula has the variables of the base formula, and exactly its satisfying valuations
+    pub variables : pruned I .variables ≡ formula I .variables
+    pub valuations : (entries : List ℤ) → Valuation (formula I .variables) entries → Satisfies (pruned I) entries ↔ Satisfies (formula I) entries
+    -- its counts are the lengths of its lists
+    pub clauseTotal : length (pruned I .clauses) ≡ prunedClauses I
+    pub wordTotal : length (words (pruned I)) ≡ prunedWords I
+    -- no pruned formula has more words than the largest formula, and two for each variable
+    pub mostWords : length (words (pruned I)) ≤ 7_692_880
+    -- the writer's counts
+    pub writer : (size : ℕ) → writeAnswer pruned b m size .number ≡ 0
+        → (writeAnswer pruned b m size .second ≡ prunedWords I) × (writeAnswer pruned b m size .clauses ≡ prunedClauses I)
+
+-- the goal of agent a cannot be reached from its start, but each lower agent's can, and the place is the offset of that goal
+pub record FirstUnreachable (b : List ℕ) (place a : ℕ) : Type 0 where
+  pub agent : a < agents b
+  pub cut : Unreachable (instance b 0) (startOf b a) (goalOf b a)
+  pub lower : (c : ℕ) → c < a → (d : ℕ) × Walk (instance b 0) d (startOf b c) (goalOf b c)
+  pub offset : place ≡ goals b + a
+
+pub record Claim : Type 0 where
+  -- for every accepted instance and horizon
+  pub distances : (b : List ℕ) (m : ℕ) → instanceAnswer b m .number ≡ 0 → Distances b m
+  pub pruned : (b : List ℕ) (m : ℕ) → instanceAnswer b m .number ≡ 0 → Pruned b m
+  -- the graph, and so each distance, is the same at every horizon
+  pub horizon : (b : List ℕ) (m : ℕ) → distance (instance b m) ≡ distance (instance b 0)
+  -- the count of the floor call is the greatest distance from a start to its goal
+  pub count : (b : List ℕ) → floorAnswer b .number ≡ 0 → floorAnswer b .second ≡ greatest (agents b) (startToGoal (instance b 0))
+  -- what 30 and its place say
+  pub thirty : (b : List ℕ) → floorAnswer b .number ≡ 30 → (a : ℕ) × FirstUnreachable b (floorAnswer b .second) a
+  -- no passing plan has a makespan below the floor
+  pub lowest : (b : List ℕ) (m : ℕ) (p : List ℕ) → checkAnswer b m p .number ≡ 0
+      → (floorAnswer b .number ≡ 0) × (floorAnswer b .second ≤ m)
+  -- where 30 is answered, no plan passes at any horizon, and none is accepted by the plan check
+  pub none : (b : List ℕ) → floorAnswer b .number ≡ 30 → (m : ℕ) (p : List ℕ) → Passes (instance b m) p → ⊥
+  pub refused : (b : List ℕ) → floorAnswer b .number ≡ 30 → (m : ℕ) (p : List ℕ) → checkAnswer b m p .number ≢ 0

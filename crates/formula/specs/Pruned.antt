@@ -1,0 +1,56 @@
+-- Family H, which stands after G, and the formula with it. H forbids each agent the vertices that it cannot reach in time, or from
+-- which it cannot reach its goal in time.
+use mathlib.Core.List.{List, [], _∷_, _++_}
+use mathlib.Core.Bool.{Bool, _||_}
+use Prim.Native.Nat.{ℕ, suc, _+_, _*_, _-_, min}
+use Rattle.lists.specs.Loop.{for, when, sum}
+use Rattle.instance.specs.declared.Sizes.{Sizes}
+use Rattle.instance.specs.Instance.{Instance}
+use Rattle.distances.specs.Distance.{further, distance}
+use Rattle.formula.specs.Variables.{variableCount, ¬X}
+use Rattle.formula.specs.Formula.{Clause, Formula, clauses}
+use Rattle.formula.specs.Counts.{clauseCount, wordCount}
+
+-- a vertex at distance x from the start and y from the goal is too far at time t: further than t from the start, or further than
+-- m - t from the goal
+abbrev pub tooFar : ℕ → ℕ → ℕ → ℕ → Bool
+tooFar m t x y = further t x || further (m - t) y
+
+module _ (s : Sizes) where
+  open Sizes s using (n, k, m)
+
+  -- of agent a at time t, where from v and to v are the distances of v from its start and from its goal
+  abbrev pub blockH : (ℕ → ℕ) → (ℕ → ℕ) → ℕ → ℕ → List Clause
+  blockH from to t a = for n λ v. when (tooFar m t (from v) (to v)) ((¬X s t a v ∷ []) ∷ [])
+
+  -- where from a and to a are those of agent a
+  unfoldable pub H : (ℕ → ℕ → ℕ) → (ℕ → ℕ → ℕ) → List Clause
+  H from to = for (suc m) λ t. for k λ a. blockH (from a) (to a) t a
+
+  -- how many clauses H has: of the times 0 to m, the first x and the last y are too early or too late for a vertex
+  unfoldable pub countH : (ℕ → ℕ → ℕ) → (ℕ → ℕ → ℕ) → ℕ
+  countH from to = sum k λ a. sum n λ v. min (suc m) (from a v + to a v)
+
+module _ (I : Instance) where
+  open Instance I using (sizes, start, goal)
+
+  -- the distance of v from the start of agent a, and from its goal
+  abbrev pub fromStart : ℕ → ℕ → ℕ
+  fromStart a v = distance I (start a) v
+
+  abbrev pub fromGoal : ℕ → ℕ → ℕ
+  fromGoal a v = distance I (goal a) v
+
+  abbrev pub familyH : List Clause
+  familyH = H sizes fromStart fromGoal
+
+  -- the pruned formula: the clauses of the base formula, then those of H
+  abbrev pub pruned : Formula
+  pruned = record { variables = variableCount sizes; clauses = clauses I ++ familyH }
+
+  -- its clauses and its words, as counts
+  unfoldable pub prunedClauses : ℕ
+  prunedClauses = clauseCount sizes + countH sizes fromStart fromGoal
+
+  unfoldable pub prunedWords : ℕ
+  prunedWords = wordCount sizes + 2 * countH sizes fromStart fromGoal
