@@ -2,7 +2,7 @@
 use mathlib.Core.Path.{_≡_, refl, sym, _∙_, ap, ap₂, subst}
 use mathlib.Core.Logic.{_≢_, ⊎-elim, by-cases}
 use mathlib.Core.List.{[], _∷_}
-use mathlib.Core.Bool.{Bool, true, false, cond, _&&_, _||_}
+use mathlib.Core.Bool.{Bool, true, false, not, cond, _&&_, _||_}
 use Prim.Native.Nat.{ℕ, zero, suc, _+_, _-_, _*_, _/_, _%_, _^_, _≤_, _<_, max}
 use native.Mathlib.Nat.{add-zero, add-suc, add-comm, one-mul, zero-mul, div-self, div-eq-of-lt, div-one, pow-suc, mul-div-cancel-left, mod-eq-of-lt, eq-or-lt-of-le, le-of-suc-le-suc, not-suc-le-zero}
 use native.Mathlib.Numerals.{one-add}
@@ -61,15 +61,19 @@ bit-pow-other w u n = go (decLt w u)
         let e : u + suc (w - suc u) ≡ w = omega arith in
         rw e at (bit-pow-below u (w - suc u))
 
+-- what holds of two bits
+two-bits : (P : ℕ → ℕ → Type 0) → P 0 0 → P 0 1 → P 1 0 → P 1 1 → (a b : ℕ) → a ≤ 1 → b ≤ 1 → P a b
+two-bits P p q r s zero zero h l = p
+two-bits P p q r s zero (suc zero) h l = q
+two-bits P p q r s (suc zero) zero h l = r
+two-bits P p q r s (suc zero) (suc zero) h l = s
+two-bits P p q r s zero (suc (suc b)) h l = absurd (let f : ⊥ = omega arith in f)
+two-bits P p q r s (suc zero) (suc (suc b)) h l = absurd (let f : ⊥ = omega arith in f)
+two-bits P p q r s (suc (suc a)) b h l = absurd (let f : ⊥ = omega arith in f)
+
 -- the same as tests
 one-or : (a b : ℕ) → a ≤ 1 → b ≤ 1 → eqb (max a b) 1 ≡ eqb a 1 || eqb b 1
-one-or zero zero h l = refl
-one-or zero (suc zero) h l = refl
-one-or (suc zero) zero h l = refl
-one-or (suc zero) (suc zero) h l = refl
-one-or zero (suc (suc b)) h l = absurd (let f : ⊥ = omega arith in f)
-one-or (suc zero) (suc (suc b)) h l = absurd (let f : ⊥ = omega arith in f)
-one-or (suc (suc a)) b h l = absurd (let f : ⊥ = omega arith in f)
+one-or = two-bits (λ a b. eqb (max a b) 1 ≡ eqb a 1 || eqb b 1) refl refl refl refl
 
 pub set-or : (a b w : ℕ) → set? (bitOr a b) w ≡ set? a w || set? b w
 set-or a b w = rw bit-or (one-or (bit a w) (bit b w) (bit-most a w) (bit-most b w))
@@ -238,3 +242,19 @@ other-bits n x full e h =
       fits = xor-lt n full x (omega arith) h;
       exchanged = λ w l. rw xor-shr (xor-bit (full / 2 ^ w) (x / 2 ^ w) (full-bit full n w e l));
     }
+
+-- ---- the bits that another word has not
+bit-xor : (a b w : ℕ) → bit (bitXor a b) w ≡ differ (bit a w) (bit b w)
+unfolding bit
+bit-xor a b w = rw (xor-shr, xor-step) (low _ _ (one (bit a w) (bit b w) (bit-most a w) (bit-most b w)))
+  where
+    low : (x d : ℕ) → d ≤ 1 → (x * 2 + d) % 2 ≡ d
+    low x d h = omega arith
+
+    one : (a b : ℕ) → a ≤ 1 → b ≤ 1 → differ a b ≤ 1
+    one = two-bits (λ a b. differ a b ≤ 1) (omega arith) (omega arith) (omega arith) (omega arith)
+
+pub set-without : (x y w : ℕ) → set? (bitXor (bitOr x y) y) w ≡ set? x w && not (set? y w)
+set-without x y w =
+    rw (bit-xor, bit-or)
+    (two-bits (λ a b. eqb (differ (max a b) b) 1 ≡ eqb a 1 && not (eqb b 1)) refl refl refl refl (bit x w) (bit y w) (bit-most x w) (bit-most y w))

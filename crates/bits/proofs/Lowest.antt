@@ -122,35 +122,37 @@ module _ {A : Type 0} (n x : ℕ) (f : ℕ → A) where
     abbrev low : ℕ
     low = trailingZeros 64 rest
 
-    past : from ≤ low
-    past =
+    pub low-past : from ≤ trailingZeros 64 rest
+    low-past =
         by-cases (decLt low from)
         (λ l. absurd (let z : ⊥ = omega (arith, tz-set 64 rest p (e .fits), e .below low l) in z))
         (λ l. omega arith)
 
-    here : bit x low ≡ 1
-    here = sym (e .above low past) ∙ tz-set 64 rest p (e .fits)
+    pub low-set : bit x (trailingZeros 64 rest) ≡ 1
+    low-set = sym (e .above low low-past) ∙ tz-set 64 rest p (e .fits)
 
     pub low-below : trailingZeros 64 rest < n
-    low-below = by-cases (decLt low n) (λ l. l) (λ l. absurd (let z : ⊥ = omega (arith, here, bit-beyond x n low h (omega arith)) in z))
+    low-below = by-cases (decLt low n) (λ l. l) (λ l. absurd (let z : ⊥ = omega (arith, low-set, bit-beyond x n low h (omega arith)) in z))
+
+    pub low-first : (u : ℕ) → from ≤ u → u < trailingZeros 64 rest → bit x u ≡ 0
+    low-first u a l = sym (e .above u a) ∙ tz-below 64 rest u l
 
     none : (u : ℕ) → from ≤ u → u < from + (low - from) → literal u ≡ []
-    none u a l =
-        ap (λ (b : ℕ). when (eqb b 1) (f u ∷ [])) (sym (e .above u a) ∙ tz-below 64 rest u (omega (arith, past)))
+    none u a l = ap (λ (b : ℕ). when (eqb b 1) (f u ∷ [])) (low-first u a (omega (arith, low-past)))
 
     pub near-next : {at : ℕ} {s l : List A} → Filling literal n s from at l → Filling literal n s (trailingZeros 64 rest + 1) (at + 1) (set l at (f (trailingZeros 64 rest)))
     near-next {at} {s} {l} w =
-        let k : from + (low - from) ≡ low = omega (arith, past) in
+        let k : from + (low - from) ≡ low = omega (arith, low-past) in
         filling-set
-        (subst (λ (i : ℕ). Filling literal n s i at l) k (filling-skip literal (low - from) w (omega (arith, low-below, past)) none)) low-below
-        (f low) (ap (λ (b : ℕ). when (eqb b 1) (f low ∷ [])) here)
+        (subst (λ (i : ℕ). Filling literal n s i at l) k (filling-skip literal (low - from) w (omega (arith, low-below, low-past)) none)) low-below
+        (f low) (ap (λ (b : ℕ). when (eqb b 1) (f low ∷ [])) low-set)
 
     pub left-next : Left x (bitAnd rest (rest - 1)) (trailingZeros 64 rest + 1)
     left-next =
         record {
           fits = omega (arith, and-le-l rest (rest - 1), e .fits);
           below = λ u l. clear-upto 64 rest u p (e .fits) (omega arith);
-          above = λ u l. clear-beyond 64 rest u p (e .fits) (omega arith) ∙ e .above u (omega (arith, past));
+          above = λ u l. clear-beyond 64 rest u p (e .fits) (omega arith) ∙ e .above u (omega (arith, low-past));
         }
 
   -- nothing is left
@@ -172,14 +174,14 @@ module _ {n x y : ℕ} (o : Others n x y) where
 
   module _ {gaps from : ℕ} (e : Left y gaps from) (p : 0 < gaps) where
     pub gap-past : from ≤ trailingZeros 64 gaps
-    gap-past = past n y (λ u. u) (o .fits) gaps from e p
+    gap-past = low-past n y (λ u. u) (o .fits) gaps from e p
 
     pub gap-below : trailingZeros 64 gaps < n
     gap-below = low-below n y (λ u. u) (o .fits) gaps from e p
 
     pub gap-unset : set? x (trailingZeros 64 gaps) ≡ false
     gap-unset =
-        let q : bit x (trailingZeros 64 gaps) ≡ 0 = omega (arith, o .exchanged (trailingZeros 64 gaps) gap-below, here n y (λ u. u) (o .fits) gaps from e p) in
+        let q : bit x (trailingZeros 64 gaps) ≡ 0 = omega (arith, o .exchanged (trailingZeros 64 gaps) gap-below, low-set n y (λ u. u) (o .fits) gaps from e p) in
         rw q
 
     pub gaps-next : Left y (bitAnd gaps (gaps - 1)) (trailingZeros 64 gaps + 1)

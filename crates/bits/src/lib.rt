@@ -1,6 +1,7 @@
-// Words of 64 bits: whether a bit is set, and a word with a bit set.
+// Words of 64 bits.
 ghost use mathlib.Core.Path.{_≡_};
-ghost use Prim.Native.Nat.{_+_, _^_, _≤_, _<_};
+ghost use mathlib.Core.Bool.{not, _&&_};
+ghost use Prim.Native.Nat.{ℕ, _+_, _^_, _≤_, _<_};
 ghost use lib.Bits.{bitOr};
 ghost use lib.Dec.{leb};
 ghost use Rattle.bits.specs.Bits.{set?, word, Others};
@@ -46,4 +47,11 @@ pub fn others(x: u64, n: usize) -> u64
     ensures { λ r. ⌜ Others n x r ⌝ }
 {
     lowest_bits(n) ^ x
+}
+
+// The bits of x that y has not.
+pub fn without(x: u64, y: u64) -> u64
+    ensures { λ r. ⌜ ((w : ℕ) → set? r w ≡ set? x w && not (set? y w)) ⌝ }
+{
+    (x | y) ^ y
 }

@@ -95,13 +95,13 @@ module _ (n : ℕ) (near : ℕ → ℕ → Bool) (v : ℕ) where
       ∙ below-done d h j w l
 
   -- ---- nothing beyond n is reached
-  module _ (inside : v < n) (beyond : (u w : ℕ) → n ≤ w → near u w ≡ false) where
+  module _ (inside : v < n) (beyond : (u w : ℕ) → u < n → n ≤ w → near u w ≡ false) where
     pub within-beyond : (d w : ℕ) → n ≤ w → within n near d v w ≡ false
     unfolding within
     within-beyond zero w l = ne-eqb v w (omega arith)
     within-beyond (suc d) w l =
         ap₂ _||_ (within-beyond d w l)
-        (some-none n _ (λ u i. ap (λ (b : Bool). within n near d v u && b) (beyond u w l) ∙ and-false (within n near d v u)))
+        (some-none n _ (λ u i. ap (λ (b : Bool). within n near d v u && b) (beyond u w i l) ∙ and-false (within n near d v u)))
 
     pub new-beyond : (d w : ℕ) → n ≤ w → new d w ≡ false
     new-beyond d w l = ap (λ (b : Bool). b && not (some d λ i. within n near i v w)) (within-beyond d w l)
