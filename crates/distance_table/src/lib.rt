@@ -1,6 +1,7 @@
 // The table of distances, filled breadth first from the words of neighbours: from each vertex a round for each distance, whose frontier,
 // the vertices at that distance, is a word.
 ghost use mathlib.Core.Path.{_≡_};
+ghost use mathlib.Core.List.{[]};
 ghost use mathlib.Core.Bool.{_&&_, cond};
 ghost use Prim.Native.Nat.{ℕ, _^_, _≤_, _<_};
 ghost use lib.ListN.{length, getD, replicate};
@@ -64,4 +65,12 @@ pub fn table_of(near: &[u64; 64], n: usize) -> [[u8; 64]; 64]
         table[v] = row_of(near, n, v);
     }
     table
+}
+
+// Row v of the table.
+pub fn row(table: &[[u8; 64]], v: usize) -> [u8; 64]
+    requires { ⌜ v < length (now table) ⌝ }
+    ensures { λ r. ⌜ r ≡ getD (now (table .entry)) v [] ⌝ }
+{
+    table[v]
 }
