@@ -67,10 +67,11 @@ pub fn table_of(near: &[u64; 64], n: usize) -> [[u8; 64]; 64]
     table
 }
 
-// Row v of the table.
-pub fn row(table: &[[u8; 64]], v: usize) -> [u8; 64]
-    requires { ⌜ v < length (now table) ⌝ }
-    ensures { λ r. ⌜ r ≡ getD (now (table .entry)) v [] ⌝ }
+// The row of agent a: of the vertex that it has in an array of starts or goals.
+pub fn row_for(table: &[[u8; 64]], vertices: &[u8; 16], a: usize) -> [u8; 64]
+    requires { ⌜ (a < 16) × (getD (now vertices) a 0 < length (now table)) ⌝ }
+    ensures { λ r. ⌜ r ≡ getD (now (table .entry)) (getD (now (vertices .entry)) a 0) [] ⌝ }
 {
+    let v = numbers::wide(vertices[a]);
     table[v]
 }

@@ -11,7 +11,7 @@ fn distance_of(table: &[[u8; 64]], starts: &[u8; 16], goals: &[u8; 16], a: usize
     requires { ⌜ (a < 16) × (length (now table) ≡ 64) × (getD (now starts) a 0 < 64) × (getD (now goals) a 0 < 64) ⌝ }
     ensures { λ r. ⌜ (r ≡ between (now (starts .entry)) (now (goals .entry)) (now (table .entry)) a) × (r < 256) ⌝ }
 {
-    let row = distance_table::row(table, numbers::wide(starts[a]));
+    let row = distance_table::row_for(table, starts, a);
     let goal = numbers::wide(goals[a]);
     numbers::wide(row[goal])
 }

@@ -7,13 +7,14 @@ use Prim.Native.Nat.{ℕ, zero, suc, _+_, _*_, _-_, _≤_, _<_, min}
 use native.Mathlib.Nat.{le-refl, mul-comm, mul-assoc}
 use native.Mathlib.Decide.{decLt}
 use native.Mathlib.Omega.{arith}
+use borrow.Author.Tests.{le-ltb}
 use lib.ListN.{length, length-append}
-use lib.Dec.{T, ltb, eqb}
+use lib.Dec.{ltb, eqb}
 use lib.IntN.{ℤ}
 use Rattle.lists.specs.Loop.{for, when, each, sum}
-use Rattle.lists.proofs.Tests.{or-iff, eqb-iff, ltb-iff}
-use Rattle.lists.proofs.Loops.{each-for, each-when, each-append}
-use Rattle.lists.proofs.Sums.{ind, ind-yes, ind-no, for-sum, sum-ext, sum-mul, sum-swap, when-count, sum-below}
+use Rattle.lists.proofs.Tests.{T-ext, or-iff, eqb-iff, ltb-iff}
+use Rattle.lists.proofs.Loops.{for-ext, each-for, each-when, each-append}
+use Rattle.lists.proofs.Sums.{ind, ind-yes, for-sum, sum-ext, sum-mul, sum-swap, when-count, sum-below}
 use Rattle.instance.specs.declared.Sizes.{Sizes}
 use Rattle.instance.specs.Instance.{Instance, Edges}
 use Rattle.instance.specs.Limits.{Limits}
@@ -25,11 +26,15 @@ use Rattle.formula.proofs.Counts.{clause-count, word-count}
 use Rattle.formula.proofs.Limits.{words-most, variables-most}
 
 -- ---- one vertex: the first x times are too early, the last y too late
-far-iff : (t x : ℕ) → t < unreachable → (T (further t x) → t < x) × (t < x → T (further t x))
-far-iff t x h = (
-  (λ f. ⊎-elim (λ e. let z = eqb-iff x unreachable .0 e in omega arith) (λ l. ltb-iff t x .0 l) (or-iff (eqb x unreachable) _ .0 f)),
-  (λ l. or-iff (eqb x unreachable) _ .1 (inr (ltb-iff t x .1 l))),
-)
+pub far-ltb : (t x : ℕ) → t < unreachable → further t x ≡ ltb t x
+far-ltb t x h =
+    T-ext (further t x) (ltb t x) (
+      (λ f. ⊎-elim (λ e. let z = eqb-iff x unreachable .0 e in ltb-iff t x .1 (omega arith)) (λ l. l) (or-iff (eqb x unreachable) _ .0 f)),
+      (λ l. or-iff (eqb x unreachable) _ .1 (inr l)),
+    )
+
+pub too-far-ltb : (m t x y : ℕ) → m < unreachable → t ≤ m → tooFar m t x y ≡ ltb t x || ltb (m - t) y
+too-far-ltb m t x y h l = ap₂ _||_ (far-ltb t x (omega arith)) (far-ltb (m - t) y (omega arith))
 
 -- time t, where s of the times before it are too early or too late, and i is 1 where t is and 0 where not; the times from z on are
 -- too late
@@ -43,13 +48,11 @@ module _ (x z t s i : ℕ) where
 module _ (m x y : ℕ) (h : m < unreachable) where
   far-yes : (t : ℕ) → t ≤ m → (t < x) ⊎ (m - t < y) → ind (tooFar m t x y) ≡ 1
   far-yes t l c =
-      ind-yes (tooFar m t x y)
-      (or-iff (further t x) _ .1 (⊎-elim (λ p. inl (far-iff t x (omega arith) .1 p)) (λ p. inr (far-iff (m - t) y (omega arith) .1 p)) c))
+      rw (too-far-ltb m t x y h l)
+      (ind-yes (ltb t x || ltb (m - t) y) (or-iff (ltb t x) _ .1 (⊎-elim (λ p. inl (ltb-iff t x .1 p)) (λ p. inr (ltb-iff (m - t) y .1 p)) c)))
 
   far-no : (t : ℕ) → t ≤ m → x ≤ t → y ≤ m - t → ind (tooFar m t x y) ≡ 0
-  far-no t l p q =
-      ind-no (tooFar m t x y)
-      (λ f. ⊎-elim (λ a. let z = far-iff t x (omega arith) .0 a in omega arith) (λ a. let z = far-iff (m - t) y (omega arith) .0 a in omega arith) (or-iff (further t x) _ .0 f))
+  far-no t l p q = rw (too-far-ltb m t x y h l) (rw (le-ltb t x p, le-ltb (m - t) y q) refl)
 
   -- of the first j times
   far-times : (j : ℕ) → j ≤ suc m → sum j (λ t. ind (tooFar m t x y)) + (min j (suc m - y) - x) ≡ j
@@ -124,7 +127,22 @@ module _ (I : Instance) (h : I .sizes .m < unreachable) where
       ∙ length-append (each line (clauses I)) _
       ∙ ap₂ _+_ (word-count I g) (words-H sizes (fromStart I) (fromGoal I) h)
 
--- at most two words more for each variable
+-- ---- distances that agree give the same family, and as many clauses
+module _ (s : Sizes) (from to from′ to′ : ℕ → ℕ → ℕ) where
+  open Sizes s using (n, k, m)
+
+  module _ (f : (a : ℕ) → a < k → (v : ℕ) → v < n → from a v ≡ from′ a v) (g : (a : ℕ) → a < k → (v : ℕ) → v < n → to a v ≡ to′ a v) where
+    pub H-ext : H s from to ≡ H s from′ to′
+    unfolding H
+    H-ext =
+        for-ext (suc m) _ _ (λ t l. for-ext k _ _ (λ a r. for-ext n _ _ (λ v q.
+        ap₂ (λ (x y : ℕ). when (tooFar m t x y) ((¬X s t a v ∷ []) ∷ [])) (f a r v q) (g a r v q))))
+
+    pub count-H-ext : countH s from to ≡ countH s from′ to′
+    unfolding countH
+    count-H-ext = sum-ext k _ _ (λ a r. sum-ext n _ _ (λ v q. ap₂ (λ (x y : ℕ). min (suc m) (x + y)) (f a r v q) (g a r v q)))
+
+-- ---- at most two words more for each variable
 pub count-H-most : (s : Sizes) (from to : ℕ → ℕ → ℕ) → countH s from to ≤ s .k * (s .n * suc (s .m))
 unfolding countH
 count-H-most s from to =
