@@ -7,8 +7,8 @@
  *
  * A pointer must be valid and aligned for as many elements as its length says; with length 0 it may be NULL. So a size
  * is asked: refusals 12, 15 and 16 give what is needed. No two slices of a call may overlap. Each call uses less than
- * 12 KiB of stack, but the reader, which uses less than 64 KiB. The calls share nothing, so several threads may call at
- * once.
+ * 12 KiB of stack, but the reader, the floor and the writer with family H, which use less than 64 KiB. The calls share
+ * nothing, so several threads may call at once.
  *
  * An instance is bytes: n vertices, k agents, e edges (two bytes, the low one first); the low ends of all edges, then
  * their high ends, sorted by low end and then by high end; the starts of all agents, then their goals. Vertices, agents
@@ -89,6 +89,21 @@ runglaet_answer runglaet_encode(const uint8_t *instance, size_t instance_len, ui
 #define RUNGLAET_TEXT_MAX 524288
 runglaet_answer runglaet_read_valuation(const uint8_t *instance, size_t instance_len, uint64_t horizon,
                                         const uint8_t *text, size_t text_len, int32_t *entries, size_t entries_len);
+
+/* How short a plan could be: the greatest distance from a start to its goal, in edges. No plan with a smaller makespan
+ * passes the check.
+ * Asks 1 to 9 and 30; no horizon is given. Accepted: `second` is that distance. Refusal 30, some goal cannot be reached
+ * from its start, so no plan passes at any horizon: the offset of the goal of the lowest such agent. */
+runglaet_answer runglaet_floor(const uint8_t *instance, size_t instance_len);
+
+/* The pruned formula: the words of runglaet_write_formula, and behind them family H: for each time t from 0 to m, agent
+ * and vertex, in this order, a clause of one literal, that the agent is not at the vertex at t, wherever the vertex is
+ * further than t edges from the agent's start or further than m - t from its goal. It has the same variables as the
+ * formula and exactly its satisfying valuations, so runglaet_decode serves for both.
+ * Asks and answers as runglaet_write_formula does; the words and clauses are those with family H. A clause's number
+ * (runglaet_clause, refusal 24) is one of the formula without it. */
+runglaet_written runglaet_write_pruned(const uint8_t *instance, size_t instance_len, uint64_t horizon,
+                                       int32_t *words, size_t words_len);
 
 #ifdef __cplusplus
 }

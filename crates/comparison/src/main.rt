@@ -1,5 +1,6 @@
-// Runs the six calls on cases made elsewhere, at most a million of them. A case: the kind of call (1 byte: 1 the formula writer,
-// 2 one clause, 3 the plan check, 4 the decoder, 5 the encoder, 6 the reader), the horizon and the clause number (8 bytes each), the
+// Runs the eight calls on cases made elsewhere, at most a million of them. A case: the kind of call (1 byte: 1 the formula writer,
+// 2 one clause, 3 the plan check, 4 the decoder, 5 the encoder, 6 the reader, 7 the floor, 8 the writer of the
+// pruned formula), the horizon and the clause number (8 bytes each), the
 // instance's length (2 bytes), the payload's length in bytes and the lent slice's length in elements (4 bytes each), low bytes first;
 // then the instance, then the payload: a plan, entries of 4 bytes, or a text. Each case prints a line: the answer's number, its second
 // number, the clauses, and a hash of the lent slice after the call; or "skip" where the slice is longer than the array here.
@@ -28,6 +29,8 @@ fn run_case(h: Head, b: &[u8], s: &[u8], words: &mut [i32], plan: &mut [u8]) -> 
         4 => plans::decode(h, b, s, &mut words[0..40000], plan),
         5 => plans::encode(h, b, s, &mut words[0..40000]),
         6 => plans::read_valuation(h, b, s, &mut words[0..40000]),
+        7 => plans::floor(b),
+        8 => words::write_pruned(h, b, words),
         _ => skipped(),
     }
 }

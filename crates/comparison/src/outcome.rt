@@ -1,5 +1,6 @@
 // What came of a case, and its line.
 use answers::Answer;
+use answers::Written;
 ghost use Prim.Native.Nat.{_≤_, _<_};
 ghost use lib.ListN.{length};
 
@@ -28,6 +29,16 @@ pub fn answered(r: Answer, hash: usize) -> Outcome {
         number: r.number,
         second: r.second,
         clauses: 0,
+        hash: hash,
+    }
+}
+
+pub fn wrote(r: Written, hash: usize) -> Outcome {
+    Outcome {
+        known: true,
+        number: r.number,
+        second: r.second,
+        clauses: r.clauses,
         hash: hash,
     }
 }

@@ -1,4 +1,4 @@
-// The calls on plans, valuations and solvers' texts.
+// The calls on plans, valuations and solvers' texts, and the floor.
 use crate::case::Head;
 use crate::case::read_entries;
 use crate::lent::fill_bytes;
@@ -51,4 +51,9 @@ pub fn read_valuation(h: Head, b: &[u8], text: &[u8], entries: &mut [i32]) -> Ou
     fill_words(z);
     let r = reader::read_valuation(b, h.m, text, z);
     answered(r, hash_words(z))
+}
+
+pub fn floor(b: &[u8]) -> Outcome {
+    let r = floor::floor_of(b);
+    answered(r, 1)
 }

@@ -1,10 +1,11 @@
-// The six calls for programs in other languages; include/runglaet.h declares them for C.
+// The eight calls for programs in other languages; include/runglaet.h declares them for C.
 use answers::Answer;
 use answers::Written;
 ghost use mathlib.Core.Path.{_≡_};
 ghost use lib.ListN.{length};
 ghost use Rattle.formula.specs.Formula.{formula};
-ghost use Rattle.calls.specs.Calls.{writeAnswer, writeSlice, clauseAnswer, clauseSlice, checkAnswer, decodeAnswer, decodeSlice, encodeAnswer, encodeSlice, readAnswer, readSlice};
+ghost use Rattle.formula.specs.Pruned.{pruned};
+ghost use Rattle.calls.specs.Calls.{writeAnswer, writeSlice, clauseAnswer, clauseSlice, checkAnswer, decodeAnswer, decodeSlice, encodeAnswer, encodeSlice, readAnswer, readSlice, floorAnswer};
 
 #[no_mangle]
 pub extern "C" fn runglaet_write_formula(
@@ -75,4 +76,23 @@ pub extern "C" fn runglaet_read_valuation(
     ensures { λ _. ⌜ now (entries .exit) ≡ readSlice (now (instance .entry)) horizon (now (text .entry)) (now (entries .entry)) ⌝ }
 {
     reader::read_valuation(instance, horizon as usize, text, entries)
+}
+
+#[no_mangle]
+pub extern "C" fn runglaet_floor(instance: &[u8]) -> Answer
+    ensures { λ r. ⌜ r ≡ floorAnswer (now (instance .entry)) ⌝ }
+{
+    floor::floor_of(instance)
+}
+
+#[no_mangle]
+pub extern "C" fn runglaet_write_pruned(
+    instance: &[u8],
+    horizon: u64,
+    words: &mut [i32],
+) -> Written
+    ensures { λ r. ⌜ r ≡ writeAnswer pruned (now (instance .entry)) horizon (length (now (words .entry))) ⌝ }
+    ensures { λ _. ⌜ now (words .exit) ≡ writeSlice pruned (now (instance .entry)) horizon (now (words .entry)) ⌝ }
+{
+    pruned_writer::write_pruned(instance, horizon as usize, words)
 }
