@@ -1,28 +1,57 @@
 #!/usr/bin/env bash
-# solve.sh DESCRIPTION HORIZON: from a description to a checked plan, by way of a SAT solver.
+# solve.sh DESCRIPTION [HORIZON]: from a description to a checked plan, by way of a SAT solver.
 #
-# SOLVER            the solver to use; otherwise the first one installed of those below
-# LIMIT             the seconds that the solver may take; otherwise as long as it needs
-# RUNGLAET_LIB      the static library, RUNGLAET_PROGRAM the formula program; otherwise the repository's own
-# KEEP              a folder for instance.bin, input.bin, formula.cnf and output.txt; otherwise they are removed
+# Without a horizon it begins at the floor, below which no plan passes, and climbs to 32 until there is a plan: a line a
+# horizon, which tells its outcome when the solver has ended. The solver gets the formula with family H, from the tool.
+# With a horizon it asks for a plan of that makespan alone, by the formula of the formula program. What comes back is
+# read, decoded and checked in the same way.
 #
-# Exit status: 0 a plan that passes; 1 refused by the library; 3 no plan of this makespan; 2 anything else, a signal too.
+# SOLVER            the solver to use; otherwise the first one installed, in the order of solver_commands.sh
+# LIMIT             the seconds that the solver may take at each horizon; otherwise as long as it needs
+# RUNGLAET_LIB      the static library; otherwise the repository's own
+# RUNGLAET_PROGRAM  the formula program; otherwise the repository's own; needed only where a horizon is given
+# KEEP              a folder for instance.bin, formula.cnf and output.txt, the last two of the last horizon, and where a
+#                   horizon is given also input.bin; otherwise they are removed
+#
+# Exit status: 0 a plan that passes; 1 refused by the library; 3 no plan of this makespan, or without a horizon of any up
+# to 32; 2 anything else, a signal too.
 #
 # A refusal is a line on standard output, any other failure one on standard error. The first forty characters of either
 # tell its kind; details come behind, and a path comes last. A line "note: ..." on standard error says that what the
 # solver printed was brought into the form that the library reads: minisat's result file, and cryptominisat's output
-# where a v line ends with a space.
+# where a v line ends with a space. No note is said twice in a run.
 set -u
-solvers="cadical kissat minisat picosat cryptominisat5"
+highest=32
 root=$(realpath "$(dirname "$(realpath "$0")")/..") || exit 2
+# shellcheck source=examples/solver_commands.sh
+. "$root/examples/solver_commands.sh" || exit 2
+
+# Whether a line on standard output has begun and lacks its outcome.
+begun=no
 
 stop() {
+    [ "$begun" = no ] || printf 'no verdict\n' 2>/dev/null
     printf 'solve.sh: %s\n' "$*" >&2
     exit 2
 }
 
+put() {
+    printf '%s' "$1" 2>/dev/null || stop "standard output takes no more, so the result is not shown"
+}
+
 say() {
-    printf '%s\n' "$*" 2>/dev/null || stop "standard output takes no more, so the result is not shown"
+    put "$*"$'\n'
+}
+
+# begin WORDS: the beginning of a line. end OUTCOME: its end, where one has begun.
+begin() {
+    put "$*: "
+    begun=yes
+}
+end() {
+    [ "$begun" = yes ] || return 0
+    begun=no
+    say "$*"
 }
 
 # quietly COMMAND...: without the shell's own words about a command that was killed.
@@ -34,11 +63,11 @@ quietly() {
 # ends the solver, once it runs.
 trap '' PIPE XFSZ
 exec 4>&2
-solving=no
 # shellcheck disable=SC2317  # A trap calls it.
 interrupted() {
-    # The job's number as the shell has it: a signal may come before a variable could take it.
-    [ "$solving" = no ] || kill "${!:-}" 2>/dev/null
+    # The job as the shell has it: a signal may come before a variable could take its number. There is one at most.
+    # shellcheck disable=SC2046
+    kill $(jobs -pr) 2>/dev/null
     # While the script waits, the shell's words go nowhere; this line does not.
     exec 2>&4
     stop "this run was ended by a signal before its result: $1"
@@ -50,9 +79,8 @@ done
 { true 9>&1; } 2>/dev/null || stop "standard output is closed, so no result could be shown"
 
 # What was given.
-[ $# -eq 2 ] || stop "two words are needed, a description and a horizon; given: $#"
+[ $# -eq 1 ] || [ $# -eq 2 ] || stop "a description is needed, and a horizon may follow; words given: $#"
 description=$1
-horizon=$2
 limit=()
 if [ -n "${LIMIT:-}" ]; then
     [[ $LIMIT =~ ^[1-9][0-9]{0,8}$ ]] || stop "LIMIT must be a whole number of seconds, 1 or more: $LIMIT"
@@ -70,13 +98,15 @@ fi
 
 # What is needed. The scripts that build it say themselves what went wrong.
 shuttles=$("$root/tools/shuttles/build.sh") || exit 2
-if [ -z "${RUNGLAET_PROGRAM:-}" ]; then
-    RUNGLAET_PROGRAM=$("$root/tools/formula_program/build.sh") || exit 2
+if [ $# -eq 2 ]; then
+    if [ -z "${RUNGLAET_PROGRAM:-}" ]; then
+        RUNGLAET_PROGRAM=$("$root/tools/formula_program/build.sh") || exit 2
+    fi
+    if [ ! -f "$RUNGLAET_PROGRAM" ] || [ ! -x "$RUNGLAET_PROGRAM" ]; then
+        stop "there is no program that can be run at the path given: $RUNGLAET_PROGRAM"
+    fi
+    RUNGLAET_PROGRAM=$(realpath "$RUNGLAET_PROGRAM")
 fi
-if [ ! -f "$RUNGLAET_PROGRAM" ] || [ ! -x "$RUNGLAET_PROGRAM" ]; then
-    stop "there is no program that can be run at the path given: $RUNGLAET_PROGRAM"
-fi
-RUNGLAET_PROGRAM=$(realpath "$RUNGLAET_PROGRAM")
 
 # Where the files go.
 if [ -n "${KEEP:-}" ]; then
@@ -90,8 +120,11 @@ instance=$folder/instance.bin
 input=$folder/input.bin
 formula=$folder/formula.cnf
 output=$folder/output.txt
-(true >"$instance" && true >"$input" && true >"$formula" && true >"$output") 2>/dev/null ||
-    stop "the files of this run cannot be written into their folder: $folder"
+files=("$instance" "$formula" "$output")
+[ $# -eq 1 ] || files+=("$input")
+for file in "${files[@]}"; do
+    { true >"$file"; } 2>/dev/null || stop "the files of this run cannot be written into their folder: $folder"
+done
 
 # room: there is still room for files of this run; where there is none, what was written last may be cut short.
 room() {
@@ -99,70 +132,100 @@ room() {
     rm -f "$folder/room"
 }
 
-# A description from a pipe can be read only once.
-if [ -p "$description" ]; then
-    cat -- "$description" >"$folder/description.txt" || exit 2
-    description=$folder/description.txt
-fi
+# judged STATUS ANSWER: goes on where the tool has done its work. It said itself what went wrong, unless it was killed.
+judged() {
+    case "$1 $2" in
+    "0 "*) ;;
+    "1 refused "*)
+        say "$2"
+        exit 1
+        ;;
+    "2 "?*)
+        printf '%s\n' "$2" >&2
+        exit 2
+        ;;
+    *) no_answer "$1" ;;
+    esac
+}
 
-# The instance, and with the horizon before it what the formula program reads. The tool says itself what went wrong.
-room
-"$shuttles" instance "$description" >"$instance" || exit 2
-status=0
-refusal=$("$shuttles" input "$description" "$horizon" 2>&1 >"$input") || status=$?
-case $status in
-0) room ;;
-1)
-    say "$refusal"
-    exit 1
-    ;;
-*)
-    printf '%s\n' "$refusal" >&2
-    exit 2
-    ;;
-esac
+no_answer() {
+    stop "the tool ended without an answer and without a reason: status $1: $shuttles"
+}
 
-# The formula. The program refuses nothing that the library accepts, but it is asked all the same.
-quietly "$RUNGLAET_PROGRAM" <"$input" >"$formula" || status=$?
-room
-[ "$status" -le 1 ] || stop "the formula program failed, so there is no formula: status $status: $RUNGLAET_PROGRAM"
-first='' second='' variables='' clauses=''
-read -r first second variables clauses <"$formula"
-case "$status $first $second" in
-"0 p cnf") ;;
-[01]" c refused")
-    say "$("$shuttles" refusal "$variables" "$clauses" "$description" "$horizon")"
-    exit 1
-    ;;
-*) stop "the formula program gave neither a formula nor a refusal: $RUNGLAET_PROGRAM" ;;
-esac
+# write FILE WORD...: what the tool prints for these words, into the file.
+write() {
+    local status=0 answer
+    answer=$(quietly "$shuttles" "${@:2}" 2>&1 >"$1") || status=$?
+    [ "$status" -eq 1 ] || room
+    judged "$status" "$answer"
+}
 
-# Some solvers take a formula that was cut short: it is whole when every clause of the header has a line that ends in 0.
+# find_floor: sets `floor`.
+find_floor() {
+    local status=0 answer
+    answer=$(quietly "$shuttles" floor "$description" 2>&1) || status=$?
+    judged "$status" "$answer"
+    [[ $answer =~ ^makespan\ at\ least\ ([0-9]{1,9})$ ]] || no_answer "$status"
+    floor=${BASH_REMATCH[1]}
+}
+
+# base_formula: from the program. It refuses nothing that the library accepts, but it is asked all the same.
+base_formula() {
+    local status=0 first='' second='' number='' place=''
+    write "$input" input "$description" "$horizon"
+    quietly "$RUNGLAET_PROGRAM" <"$input" >"$formula" || status=$?
+    room
+    [ "$status" -le 1 ] || stop "the formula program failed, so there is no formula: status $status: $RUNGLAET_PROGRAM"
+    read -r first second number place <"$formula"
+    case "$status $first $second" in
+    "0 p cnf") ;;
+    [01]" c refused")
+        say "$("$shuttles" refusal "$number" "$place" "$description" "$horizon")"
+        exit 1
+        ;;
+    *) stop "the formula program gave neither a formula nor a refusal: $RUNGLAET_PROGRAM" ;;
+    esac
+}
+
+# pruned_formula: with family H, from the tool.
+pruned_formula() {
+    write "$formula" pruned "$description" "$horizon"
+}
+
+# whole CLAUSES LINES: some solvers take a formula that was cut short. It is whole when every clause of the header has a
+# line that ends in 0.
 whole() {
-    [[ $clauses =~ ^[1-9][0-9]{0,8}$ ]] &&
-        [ "$(wc -l <"$formula")" -eq $((clauses + 1)) ] &&
-        [ "$(tail -n +2 "$formula" | LC_ALL=C grep -c ' 0$')" -eq "$clauses" ] &&
+    [[ $1 =~ ^[1-9][0-9]{0,8}$ ]] &&
+        [ "$2" -eq $(($1 + 1)) ] &&
+        [ "$(tail -n +2 "$formula" | LC_ALL=C grep -c ' 0$')" -eq "$1" ] &&
         [ "$(tail -c 1 "$formula" | wc -l)" -eq 1 ]
 }
-whole || stop "the formula is not whole, so no solver was asked: $clauses clauses in its header, $(wc -l <"$formula") lines in all: $RUNGLAET_PROGRAM"
-say "$(basename -- "$description"), horizon $horizon: $variables variables, $clauses clauses, $SOLVER"
 
-# The solver, beside this script, which can so be ended. Its exit status is 10 for satisfiable and 20 for unsatisfiable.
-case $SOLVER in
-cadical | kissat) command=("$SOLVER" -q "$formula") printed=$output ;;
-minisat) command=(minisat -verb=0 "$formula" "$output") printed=/dev/null ;;
-picosat) command=(picosat "$formula") printed=$output ;;
-cryptominisat5) command=(cryptominisat5 --verb 0 "$formula") printed=$output ;;
-esac
-solved=0
-SECONDS=0
-solving=yes
-(exec "${limit[@]}" "${command[@]}" >"$printed" 4>&-) &
-{ wait "$!"; } 2>/dev/null || solved=$?
-solving=no
-room
+# measure MAKER: sets `sizes`, from the header of a formula that is whole.
+measure() {
+    local variables='' clauses='' lines
+    read -r _ _ variables clauses <"$formula"
+    lines=$(wc -l <"$formula")
+    whole "$clauses" "$lines" ||
+        stop "the formula is not whole, so no solver was asked: $clauses clauses in its header, $lines lines in all: $1"
+    sizes="$variables variables, $clauses clauses"
+}
 
-# Why the solver ended without a verdict, and what to do.
+# run_solver: sets `solved`, its exit status. It runs beside this script, which can so be ended.
+run_solver() {
+    local command printed
+    solver_command "$SOLVER" "$formula" "$output"
+    # Nothing that an earlier run printed may be read as this one's.
+    true >"$output"
+    solved=0
+    SECONDS=0
+    (exec "${limit[@]}" "${command[@]}" >"$printed" 4>&-) &
+    { wait "$!"; } 2>/dev/null || solved=$?
+    room
+    [ "$solved" -eq 10 ] || [ "$solved" -eq 20 ] || no_verdict
+}
+
+# no_verdict: why the solver ended without a verdict, and what to do.
 no_verdict() {
     local signal='' another="try another SOLVER: $SOLVER"
     [ "$solved" -le 128 ] || signal=$(kill -l $((solved - 128)) 2>/dev/null)
@@ -179,16 +242,75 @@ no_verdict() {
     fi
     stop "the solver ended with a status that is no verdict, $solved; $another"
 }
-[ "$solved" -eq 10 ] || [ "$solved" -eq 20 ] || no_verdict
 
-# The plan that its valuation names, checked and shown. What the solver printed is the library's to accept or to refuse,
-# whichever verdict its exit status gives.
-answer=$("$shuttles" decode "$description" "$horizon" <"$output") || status=$?
-case "$solved $status" in
-"10 0" | "10 1" | "20 1" | "20 3")
+# read_back: the plan that the solver's valuation names, decoded and checked; sets `answer` and its `status`: 0 a plan,
+# 1 a refusal, 3 no plan. What the solver printed is the library's to accept or to refuse, whichever verdict its exit
+# status gives.
+notes=$'\n'
+read_back() {
+    local note='' outcome
+    status=0
+    answer=$(quietly "$shuttles" decode "$description" "$horizon" 2>&1 <"$output") || status=$?
+    # There is one note at most, and it comes first.
+    if [[ $answer == "note: "* ]]; then
+        note=${answer%%$'\n'*}
+        answer=${answer#"$note"}
+        answer=${answer#$'\n'}
+    fi
+    case "$solved $status $answer" in
+    "10 0 "?*) outcome="a plan" ;;
+    "20 3 "?*) outcome="no plan" ;;
+    [12]"0 1 refused "*) outcome="its output is refused" ;;
+    *) outcome="no verdict" ;;
+    esac
+    end "$outcome"
+    if [[ -n $note && $notes != *$'\n'"$note"$'\n'* ]]; then
+        printf '%s\n' "$note" >&2
+        notes+=$note$'\n'
+    fi
+    [ "$outcome" = "no verdict" ] || return 0
+    case $status in
+    0 | 3) stop "the solver's exit status and its output do not agree, $solved and \"${answer##*$'\n'}\": $SOLVER" ;;
+    *) judged "$status" "$answer" ;;
+    esac
+}
+
+# A description from a pipe can be read only once.
+if [ -p "$description" ]; then
+    cat -- "$description" >"$folder/description.txt" || exit 2
+    description=$folder/description.txt
+fi
+name=$(basename -- "$description")
+room
+write "$instance" instance "$description"
+
+# One horizon.
+if [ $# -eq 2 ]; then
+    horizon=$2
+    base_formula
+    measure "$RUNGLAET_PROGRAM"
+    say "$name, horizon $horizon: $sizes, $SOLVER"
+    run_solver
+    read_back
     say "$answer"
     exit "$status"
-    ;;
-*" "[03]) stop "the solver's exit status and its output do not agree, $solved and \"${answer##*$'\n'}\": $SOLVER" ;;
-*) exit 2 ;;
-esac
+fi
+
+# From the floor on.
+find_floor
+if [ "$floor" -gt "$highest" ]; then
+    say "no plan of makespan 0 to $highest: the floor is $floor, the greatest distance from a start to its goal"
+    exit 3
+fi
+for ((horizon = floor; horizon <= highest; horizon++)); do
+    pruned_formula
+    measure "$shuttles"
+    begin "$name, horizon $horizon: $sizes, $SOLVER"
+    run_solver
+    read_back
+    [ "$status" -ne 3 ] || continue
+    say "$answer"
+    exit "$status"
+done
+say "no plan of makespan 0 to $highest"
+exit 3

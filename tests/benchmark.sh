@@ -43,9 +43,15 @@ if [ -n "$before" ]; then
     for side in now before; do
         if [ "$side" = now ]; then library=$RUNGLAET_LIB; else library=$before; fi
         objcopy --set-section-alignment '.text*=4096' "$library" "$folder/$side.a"
-        # An earlier library may lack the reader: a stand-in lets the program link, and its rows are left out.
-        if ! nm --defined-only "$library" | grep ' T runglaet_read_valuation$' >/dev/null; then
-            gcc -std=c11 -O2 -Iinclude -c tests/interface/absent.c -o "$folder/absent.o"
+        # An earlier library may lack some calls: stand-ins let the program link, and their rows are left out.
+        lacks=()
+        for call in read_valuation floor write_pruned; do
+            if ! nm --defined-only "$library" | grep " T runglaet_$call\$" >/dev/null; then
+                lacks+=("-DLACKS_$call")
+            fi
+        done
+        if [ ${#lacks[@]} -gt 0 ]; then
+            gcc -std=c11 -O2 -Iinclude "${lacks[@]}" -c tests/interface/absent.c -o "$folder/absent.o"
             ar rs "$folder/$side.a" "$folder/absent.o"
         fi
         RUNGLAET_LIB=$folder/$side.a cargo build --quiet --release --offline --bin benchmark \

@@ -1,16 +1,18 @@
 #!/usr/bin/env bash
-# Solvers from Debian's packages on formulas that the formula program printed; outside the gate.
+# Solvers from Debian's packages on formulas that the formula program and the tool printed; outside the gate.
 #
 # Solves every example of the table in examples/README.md and the cases below with each solver installed, and compares
-# with the answer known beforehand. A plan must pass the plan check, and its own valuation must decode to it again. What
-# cadical and picosat print is read as it is, and kissat is held to that where it is installed. Of minisat's output, and
-# of cryptominisat's where a v line ends with a space, a note says that it was brought into the form that is read. Nothing
-# else is said on standard error.
+# with the answer known beforehand: at single horizons by the base formula and by the formula with family H, which must
+# get the same verdict, and without a horizon, from the floor on. A plan must pass the plan check, and its own valuation
+# must decode to it again. What cadical and picosat print is read as it is, and kissat is held to that where it is
+# installed. Of minisat's output, and of cryptominisat's where a v line ends with a space, a note says that it was brought
+# into the form that is read. Nothing else is said on standard error.
 # INSTALL=yes installs the solvers first (as root). RUNGLAET_LIB and RUNGLAET_PROGRAM as in examples/solve.sh.
 # Status 77: no solver is installed, and the table alone was read.
 set -u
-solvers="cadical kissat minisat picosat cryptominisat5"
 root=$(cd "$(dirname "$0")/.." && pwd)
+# shellcheck source=examples/solver_commands.sh
+. "$root/examples/solver_commands.sh" || exit 2
 folder=$(mktemp -d)
 trap 'rm -rf "$folder"' EXIT
 # Seconds that a solver may take for a case; the slowest takes one or two.
@@ -25,7 +27,6 @@ fail() {
 # Descriptions for this test only.
 cp "$root"/examples/*.txt "$folder"
 printf '%s\n' 'vertices 1' 'agent 0 0' >"$folder/stay.txt"
-printf '%s\n' 'vertices 4' 'edge 0 1' 'edge 2 3' 'agent 0 3' >"$folder/apart.txt"
 printf '%s\n' 'vertices 4' 'edge 0 1' 'edge 1 2' 'edge 2 3' 'edge 0 3' \
     'agent 0 1' 'agent 1 2' 'agent 2 3' >"$folder/ring.txt"
 {
@@ -41,24 +42,27 @@ table() {
         inside && !/^[-| ]*$/' "$root/examples/README.md"
 }
 
-# table_cases: example, horizon and answer for each line of the table, in "$folder/cases".
+# table_cases: for each line of the table, example, horizon and answer in "$folder/cases", and in "$folder/climbs" example,
+# floor (or "unreachable") and first horizon (or "none").
 # "h and above": no plan at any horizon below h, one at h, at h + 1 and at the highest. "none": none at some, up to it.
 table_cases() {
-    local line example horizon first
+    local line example horizon floor first
+    local number='0|[1-9][0-9]?'
     # shellcheck disable=SC2016  # The backquotes are the table's.
-    local pattern='^\| `([A-Za-z0-9_-]+)\.txt` \| [^|]+ \| (none|(0|[1-9][0-9]?) and above) \|$'
+    local pattern='^\| `([A-Za-z0-9_-]+)\.txt` \| [^|]+ \| ('$number'|unreachable) \| (none|('$number') and above) \|$'
     while IFS= read -r line; do
-        if ! [[ $line =~ $pattern ]] || [ "${BASH_REMATCH[3]:-0}" -gt 32 ]; then
+        if ! [[ $line =~ $pattern ]] || [ "${BASH_REMATCH[4]:-0}" -gt 32 ]; then
             fail "examples/README.md: this line of the table cannot be read: $line"
             continue
         fi
-        example=${BASH_REMATCH[1]} first=${BASH_REMATCH[3]}
+        example=${BASH_REMATCH[1]} floor=${BASH_REMATCH[2]} first=${BASH_REMATCH[4]}
         echo "$example" >>"$folder/named"
+        echo "$example $floor ${first:-none}" >>"$folder/climbs"
         if [ ! -f "$root/examples/$example.txt" ]; then
             fail "examples/README.md: the table names $example.txt, which is not there"
             continue
         fi
-        if [ "${BASH_REMATCH[2]}" = none ]; then
+        if [ -z "$first" ]; then
             for horizon in 0 1 2 5 12 32; do echo "$example $horizon UNSAT"; done
         else
             for ((horizon = 0; horizon < first; horizon++)); do echo "$example $horizon UNSAT"; done
@@ -69,6 +73,7 @@ table_cases() {
 
 : >"$folder/named"
 : >"$folder/cases"
+: >"$folder/climbs"
 table_cases
 [ -s "$folder/named" ] || fail "examples/README.md: no table with the column 'Has a plan at horizon'"
 for file in "$root"/examples/*.txt; do
@@ -83,9 +88,6 @@ grep -v '^ *#' >>"$folder/cases" <<'END'
 # The start is the goal.
 stay 0 SAT
 stay 32 SAT
-# No path leads from the start to the goal.
-apart 1 UNSAT
-apart 32 UNSAT
 # Four vertices in a ring, three agents move on by one: only one can move in a step, so three steps.
 ring 1 UNSAT
 ring 2 UNSAT
@@ -95,6 +97,7 @@ complete 0 UNSAT
 complete 1 SAT
 complete 32 SAT
 END
+printf '%s\n' 'stay 0 0' 'ring 1 3' 'complete 1 1' >>"$folder/climbs"
 
 if [ "${INSTALL:-no}" = yes ]; then
     export DEBIAN_FRONTEND=noninteractive
@@ -125,7 +128,18 @@ fi
 shuttles=$("$root/tools/shuttles/build.sh") || exit 1
 if [ -n "${RUNGLAET_PROGRAM:-}" ]; then
     RUNGLAET_PROGRAM=$(realpath -e "$RUNGLAET_PROGRAM") || exit 1
+else
+    RUNGLAET_PROGRAM=$("$root/tools/formula_program/build.sh") || exit 1
 fi
+export RUNGLAET_PROGRAM
+
+# In the formula program's place: reads the byte m and the instance as it does, and prints the formula with family H.
+cat >"$folder/with-h" <<END
+#!/bin/sh
+cat >"$folder/given" && tail -c +2 "$folder/given" >"$folder/given.bin" &&
+    exec "$shuttles" pruned "$folder/given.bin" \$(od -A n -t u1 -N 1 "$folder/given")
+END
+chmod +x "$folder/with-h"
 
 # own_form SOLVER OUTPUT: the solver whose form the output has, or nothing. Cryptominisat ends every v line but its last
 # with a space; one line alone is read as it is.
@@ -136,60 +150,134 @@ own_form() {
     esac
 }
 
-# noted FORM ERRORS: of what was said, a fault unless it is the note for this form, or nothing where there is no form.
+# noted FORM ERRORS [MOST]: of what was said, a fault unless it is the note for this form, or nothing where there is no
+# form. Of a climb there may be more notes than one, all different.
 noted() {
     if [ -z "$1" ]; then
         [ ! -s "$2" ] || echo "not read as printed"
-    elif [ "$(wc -l <"$2")" -ne 1 ] || ! grep -q "^note: the text is in $1's form and was brought into" "$2"; then
+    elif [ ! -s "$2" ] || [ "$(wc -l <"$2")" -gt "${3:-1}" ] || [ -n "$(sort "$2" | uniq -d)" ] ||
+        grep -qv "^note: the text is in $1's form and was brought into" "$2"; then
         echo "not the note for $1's form alone"
     fi
 }
 
+# solve FOLDER EXAMPLE [HORIZON]: runs solve.sh with the solver; sets `run`, `status`, `took`, `last` and `form`.
+solve() {
+    local begin
+    run=$1
+    rm -rf "$run"
+    mkdir "$run"
+    begin=$(date +%s%N)
+    status=0
+    SOLVER=$solver LIMIT=$limit KEEP=$run "$root/examples/solve.sh" "$folder/$2.txt" "${@:3}" \
+        </dev/null >"$run/shown" 2>"$run/errors" || status=$?
+    took=$((($(date +%s%N) - begin) / 1000000))
+    last=$(tail -n 1 "$run/shown")
+    form=$(own_form "$solver" "$run/output.txt")
+    ran=$((ran + 1))
+}
+
+# plan_fault HORIZON: what is wrong with the plan of the run, if something is.
+plan_fault() {
+    local instance=$run/instance.bin
+    [[ $last == "plan passes: makespan $1, cost "* ]] || echo "wrong last line"
+    "$shuttles" decode --numbers "$instance" "$1" <"$run/output.txt" >"$run/plan" 2>"$run/said" || echo "does not decode"
+    noted "$form" "$run/said"
+    [ "$("$shuttles" check "$instance" "$1" - <"$run/plan")" = "$last" ] || echo "does not pass"
+    "$shuttles" encode "$instance" "$1" - <"$run/plan" >"$run/valuation" || echo "does not encode"
+    "$shuttles" decode --numbers "$instance" "$1" <"$run/valuation" 2>"$run/said" |
+        cmp -s - "$run/plan" || echo "decodes to another plan"
+    noted '' "$run/said"
+}
+
+# told WHAT FAULT: a line for the run that was made.
+told() {
+    echo "$solver $1 ($took ms)${2:+ FAILED: ${2//$'\n'/, }: $last $(head -c 300 "$run/errors")}"
+    [ -z "$2" ] || failed=$((failed + 1))
+}
+
+# at_horizon FORMULA EXAMPLE HORIZON EXPECTED: base or with-h.
+at_horizon() {
+    local answer fault
+    solve "$folder/$1.run" "$2" "$3"
+    case $status in
+    0) answer=SAT ;;
+    3) answer=UNSAT ;;
+    *) answer="status $status" ;;
+    esac
+    fault=$(noted "$form" "$run/errors")
+    if [ "$answer" != "$4" ]; then
+        fault="expected $4"
+    elif [ -n "$fault" ]; then
+        :
+    elif [ "$answer" = UNSAT ]; then
+        [ "$last" = "no plan of makespan $3" ] || fault="wrong last line"
+    else
+        plans=$((plans + 1))
+        fault=$(plan_fault "$3")
+    fi
+    told "$1 $2 $3: $answer" "$fault"
+    if [ -n "$form" ]; then brought=$((brought + 1)); fi
+}
+
+# extends: a fault unless the formula with family H is the base formula with clauses of one negative literal behind it.
+extends() {
+    local base=$folder/base.run/formula.cnf pruned=$folder/with-h.run/formula.cnf lines
+    lines=$(wc -l <"$base")
+    [ "$(head -n 1 "$base" | cut -d ' ' -f 1-3)" = "$(head -n 1 "$pruned" | cut -d ' ' -f 1-3)" ] || echo "other variables"
+    tail -n +2 "$base" | cmp -s - <(head -n "$lines" "$pruned" | tail -n +2) || echo "other clauses before family H"
+    ! tail -n +$((lines + 1)) "$pruned" | LC_ALL=C grep -qvxE -e '-[1-9][0-9]* 0' || echo "other clauses in family H"
+}
+
+# climb EXAMPLE FLOOR FIRST: without a horizon; each horizon from the floor to the first with a plan, or to 32.
+climb() {
+    local fault='' expected top=$3 own=''
+    solve "$folder/run" "$1"
+    [ "$3" != none ] || top=32
+    # What each line tells: the horizon and its outcome.
+    sed -n "s/^$1\.txt, horizon \([0-9]*\): .* clauses, $solver: \(.*\)\$/\1 \2/p" "$run/shown" >"$run/outcomes"
+    if [ "$2" = unreachable ]; then
+        expected=1
+        [[ $last == "refused 30: "* ]] && [ "$(wc -l <"$run/shown")" -eq 1 ] || fault="not refused 30 alone"
+        [ ! -s "$run/errors" ] || fault="something said on standard error"
+    else
+        case $3 in none) expected=3 ;; *) expected=0 ;; esac
+        for ((horizon = $2; horizon <= top; horizon++)); do
+            if [ "$horizon" = "$3" ]; then echo "$horizon a plan"; else echo "$horizon no plan"; fi
+        done | cmp -s - "$run/outcomes" || fault="not these horizons: $(tr '\n' ',' <"$run/outcomes")"
+        case $solver in minisat) own=minisat ;; cryptominisat5) own=$form ;; esac
+        fault=$fault$(noted "$own" "$run/errors" 2)
+        if [ "$3" = none ]; then
+            [ "$last" = "no plan of makespan 0 to 32" ] || fault="wrong last line"
+        elif [ -z "$fault" ]; then
+            plans=$((plans + 1))
+            fault=$(plan_fault "$3")
+        fi
+    fi
+    [ "$status" -eq "$expected" ] || fault="status $status, not $expected"
+    told "climb $1: $(wc -l <"$run/outcomes") horizons from $2, $3" "$fault"
+}
+
 ran=0
 plans=0
+compared=0
+# The formulas are the same for every solver, so they are compared for one.
+one=${installed# }
+one=${one%% *}
 for solver in $installed; do
     brought=0
     while read -r example horizon expected; do
-        ran=$((ran + 1))
-        run=$folder/run
-        rm -rf "$run"
-        mkdir "$run"
-        begin=$(date +%s%N)
-        status=0
-        SOLVER=$solver LIMIT=$limit KEEP=$run "$root/examples/solve.sh" "$folder/$example.txt" "$horizon" \
-            </dev/null >"$run/shown" 2>"$run/errors" || status=$?
-        took=$((($(date +%s%N) - begin) / 1000000))
-        last=$(tail -n 1 "$run/shown")
-        case $status in
-        0) answer=SAT ;;
-        3) answer=UNSAT ;;
-        *) answer="status $status" ;;
-        esac
-        form=$(own_form "$solver" "$run/output.txt")
-        [ -z "$form" ] || brought=$((brought + 1))
-        fault=$(noted "$form" "$run/errors")
-        if [ "$answer" != "$expected" ]; then
-            fault="expected $expected"
-        elif [ -n "$fault" ]; then
-            :
-        elif [ "$answer" = UNSAT ]; then
-            [ "$last" = "no plan of makespan $horizon" ] || fault="wrong last line"
-        else
-            plans=$((plans + 1))
-            instance=$run/instance.bin
-            [[ $last == "plan passes: makespan $horizon, cost "* ]] || fault="wrong last line"
-            "$shuttles" decode --numbers "$instance" "$horizon" <"$run/output.txt" >"$run/plan" 2>"$run/errors" ||
-                fault="does not decode"
-            fault=$fault$(noted "$form" "$run/errors")
-            [ "$("$shuttles" check "$instance" "$horizon" - <"$run/plan")" = "$last" ] || fault="does not pass"
-            "$shuttles" encode "$instance" "$horizon" - <"$run/plan" >"$run/valuation" || fault="does not encode"
-            "$shuttles" decode --numbers "$instance" "$horizon" <"$run/valuation" 2>"$run/errors" |
-                cmp -s - "$run/plan" || fault="decodes to another plan"
-            fault=$fault$(noted '' "$run/errors")
+        at_horizon base "$example" "$horizon" "$expected"
+        RUNGLAET_PROGRAM=$folder/with-h at_horizon with-h "$example" "$horizon" "$expected"
+        if [ "$solver" = "$one" ]; then
+            compared=$((compared + 1))
+            fault=$(extends)
+            [ -z "$fault" ] || fail "$example $horizon: ${fault//$'\n'/, }"
         fi
-        echo "$solver $example $horizon: $answer ($took ms)${fault:+ FAILED: $fault: $last $(head -c 300 "$run/errors")}"
-        [ -z "$fault" ] || failed=$((failed + 1))
     done <"$folder/cases"
+    while read -r example floor first; do
+        climb "$example" "$floor" "$first"
+    done <"$folder/climbs"
     case $solver in
     minisat | cryptominisat5)
         echo "$solver: $brought outputs brought into the form that is read"
@@ -197,5 +285,5 @@ for solver in $installed; do
         ;;
     esac
 done
-echo "solvers:$installed; $ran cases, $plans plans, $failed failed"
+echo "solvers:$installed; $ran runs, $plans plans, $compared pairs of formulas, $failed failed"
 [ "$failed" -eq 0 ]

@@ -81,11 +81,15 @@ mkdir folder
 # Errors of the tool: files.
 expect Usage 2 "$shuttles"
 expect Usage 2 "$shuttles" check path.txt
+expect Usage 2 "$shuttles" floor
+expect Usage 2 "$shuttles" floor path.txt 2
+expect Usage 2 "$shuttles" pruned path.txt
 expect Usage 2 "$shuttles" refusal 8 9 path.txt 2 3
 expect Word 2 "$shuttles" instance $'Fl\344che.txt'
 expect Word 2 "$shuttles" check path.txt $'\377'
 expect NoFile 2 "$shuttles" instance absent.txt
 expect NoFile 2 "$shuttles" check folder/absent 2 0 1
+expect NoFile 2 "$shuttles" floor absent.txt
 expect Folder 2 "$shuttles" instance folder
 expect Folder 2 "$shuttles" decode / 2
 expect Unreadable 2 "$shuttles" show /proc/self/mem 0
@@ -94,7 +98,10 @@ expect Input 2 of_folder "$shuttles" decode path.txt 2
 expect Input 2 of_folder "$shuttles" check pair.txt 1 -
 expect Output 2 full "$shuttles" help
 expect Output 2 full "$shuttles" check path.txt 33
+expect Output 2 full "$shuttles" floor path.txt
+expect Output 2 full "$shuttles" pruned path.txt 2
 expect Output 2 gone "$shuttles" instance path.txt
+expect Output 2 gone "$shuttles" pruned path.txt 32
 
 # Errors of the tool: descriptions.
 printf 'vertices 2\n\0' >nul.txt
@@ -143,56 +150,72 @@ expect RefusalWord 2 "$shuttles" refusal 8 -1
 
 # Refusals, with the place in plain terms.
 # told TERMS: the place was told like this.
-told() { result "$(grep -aqF -- ": $1 (place " said || cat said)" "$1"; }
+told() { result "$(grep -aqF -- ": $1 (place " lines || echo "not told: $(cat lines)")" "$1"; }
 # refuse NUMBER TERMS COMMAND...: refused so, with the place told like this.
 refuse() {
     expect "refusal $1" 1 "${@:3}"
     told "$2"
 }
+# aside NUMBER TERMS COMMAND...: likewise, and standard output stays empty.
+aside() {
+    refuse "$@"
+    result "$(head -c 100 said)" "nothing on standard output: ${*:3}"
+}
+# unfit NUMBER TERMS FILE: no call takes this instance, with a horizon or without.
+unfit() {
+    refuse "$1" "$2" "$shuttles" check "$3" 1
+    refuse "$1" "$2" "$shuttles" encode "$3" x
+    refuse "$1" "$2" "$shuttles" floor "$3"
+    aside "$1" "$2" "$shuttles" input "$3" 1
+    aside "$1" "$2" "$shuttles" pruned "$3" 33
+}
 # bytes OCTAL...: a file of instance bytes.
 bytes() { printf '%b' "$(printf '\\0%s' "$@")" >bytes.bin; }
 bytes 2 1
-refuse 1 '2 bytes given, the sizes take 4' "$shuttles" check bytes.bin 1
+unfit 1 '2 bytes given, the sizes take 4' bytes.bin
 bytes 2 1 0
-refuse 1 '3 bytes given, the sizes take 4' "$shuttles" input bytes.bin 1
+unfit 1 '3 bytes given, the sizes take 4' bytes.bin
 description r.txt 'agent 0 0'
-refuse 2 'the description has 0 vertices' "$shuttles" check r.txt 1
+unfit 2 'the description has 0 vertices' r.txt
 bytes 101 1 0 0
-refuse 2 'the instance bytes (the file is no text) say 65 vertices' "$shuttles" check bytes.bin x
+unfit 2 'the instance bytes (the file is no text) say 65 vertices' bytes.bin
 description r.txt 'vertices 2'
-refuse 3 'the description has 0 agents and 2 vertices' "$shuttles" input r.txt 1
+unfit 3 'the description has 0 agents and 2 vertices' r.txt
 bytes 2 3 0 0
-refuse 3 'the instance bytes (the file is no text) say 3 agents and 2 vertices' "$shuttles" check bytes.bin 1
+unfit 3 'the instance bytes (the file is no text) say 3 agents and 2 vertices' bytes.bin
 description r.txt 'vertices 2' 'agent 0 1' 'edge 0 1' 'edge 0 1'
-refuse 4 'the description has 2 edges, and 2 vertices make 1 pair' "$shuttles" check r.txt 1
+unfit 4 'the description has 2 edges, and 2 vertices make 1 pair' r.txt
 bytes 3 1 0 10
-refuse 4 'the instance bytes (the file is no text) say 2048 edges, and 3 vertices make 3 pairs' "$shuttles" check bytes.bin 1
+unfit 4 'the instance bytes (the file is no text) say 2048 edges, and 3 vertices make 3 pairs' bytes.bin
 bytes 2 1 1 0 0 1 0
-refuse 5 '7 bytes given, 1 edge and 1 agent need 8' "$shuttles" check bytes.bin 1
+unfit 5 '7 bytes given, 1 edge and 1 agent need 8' bytes.bin
 bytes 2 1 1 0 0 1 0 1 1
-refuse 5 '9 bytes given, 1 edge and 1 agent need 8' "$shuttles" encode bytes.bin 1
+unfit 5 '9 bytes given, 1 edge and 1 agent need 8' bytes.bin
 description r.txt 'vertices 3' 'agent 0 1' 'edge 2 2'
-refuse 6 'edge 2-2 (line 3), both ends are one vertex' "$shuttles" check r.txt 1
+unfit 6 'edge 2-2 (line 3), both ends are one vertex' r.txt
 description r.txt 'grid 1 3' 'agent 0 1' 'edge 9 2'
-refuse 6 'edge 2-9 (line 3), the map has only vertices 0 to 2' "$shuttles" check r.txt 1
+unfit 6 'edge 2-9 (line 3), the map has only vertices 0 to 2' r.txt
 bytes 2 1 1 0 1 0 0 1
-refuse 6 'edge 1-0, the higher end comes first' "$shuttles" check bytes.bin 1
+unfit 6 'edge 1-0, the higher end comes first' bytes.bin
 description r.txt 'grid 1 3' 'agent 0 1' 'edge 2 1'
-refuse 7 'edge 1-2 (line 3) is there already (line 1)' "$shuttles" check r.txt 1
+unfit 7 'edge 1-2 (line 3) is there already (line 1)' r.txt
 bytes 3 1 2 0 1 0 2 1 0 1
-refuse 7 'edge 0-1 comes after edge 1-2' "$shuttles" check bytes.bin 1
+unfit 7 'edge 0-1 comes after edge 1-2' bytes.bin
 description r.txt 'vertices 2' 'agent 0 0' '# the other' 'agent 0 1'
-refuse 8 'agent 1 (line 4) starts at vertex 0, as agent 0 (line 2) does' "$shuttles" check r.txt 1
+unfit 8 'agent 1 (line 4) starts at vertex 0, as agent 0 (line 2) does' r.txt
 description r.txt 'vertices 2' 'agent 5 0' 'agent 0 1'
-refuse 8 'agent 0 (line 2) starts at vertex 5, the map has only vertices 0 to 1' "$shuttles" check r.txt 1
+unfit 8 'agent 0 (line 2) starts at vertex 5, the map has only vertices 0 to 1' r.txt
 description r.txt 'vertices 2' 'agent 0 1' 'agent 1 1'
-refuse 9 'agent 1 (line 3) has its goal at vertex 1, as agent 0 (line 2) does' "$shuttles" check r.txt 1
+unfit 9 'agent 1 (line 3) has its goal at vertex 1, as agent 0 (line 2) does' r.txt
 bytes 1 1 0 0 0 1
-refuse 9 'agent 0 has its goal at vertex 1, the map has only vertex 0' "$shuttles" check bytes.bin 1
+unfit 9 'agent 0 has its goal at vertex 1, the map has only vertex 0' bytes.bin
 for horizon in 33 256 -1 02 +2 x '' 99999999999999999999; do
     refuse 10 "\"$horizon\" was given" "$shuttles" check path.txt "$horizon" 0 1
 done
-refuse 10 '"256" was given' "$shuttles" input path.txt 256
+for horizon in 33 256 02 ''; do
+    aside 10 "\"$horizon\" was given" "$shuttles" input path.txt "$horizon"
+    aside 10 "\"$horizon\" was given" "$shuttles" pruned path.txt "$horizon"
+done
 refuse 10 '"-1" was given' "$shuttles" encode path.txt -1 0 1
 refuse 10 '"02" was given' fed 's UNSATISFIABLE\n' "$shuttles" decode path.txt 02
 refuse 13 '3 vertices given, 2 agents at times 0 to 1 need 4' "$shuttles" check path.txt 1  0 1  0
@@ -203,6 +226,15 @@ refuse 18 'agent 1 (line 5) at time 0: at vertex 2, its start is vertex 1' "$shu
 refuse 18 'agent 0 (line 3) at time 0: at vertex 1, its start is vertex 0' "$shuttles" check pair.txt 1  1  1
 refuse 19 'agent 0 (line 4) at time 1: from vertex 0 to vertex 2' "$shuttles" check path.txt 1  0 1  2 1
 refuse 19 'agent 1 (line 5) at time 2: from vertex 2 to vertex 0' "$shuttles" check path.txt 2  0 1  0 2  0 0
+# The floor, which has no horizon: goals that no path leads to, the lowest agent's first.
+nowhere='so there is no plan of any makespan'
+description r.txt 'vertices 4' 'edge 0 1' '# apart' 'edge 2 3' 'agent 1 0' 'agent 0 3'
+refuse 30 "agent 1 (line 6) from vertex 0 to vertex 3, $nowhere" "$shuttles" floor r.txt
+description r.txt 'grid 1 3' 'agent 2 3' 'vertices 1' 'agent 3 1'
+refuse 30 "agent 0 (line 2) from vertex 2 to vertex 3, $nowhere" "$shuttles" floor r.txt
+bytes 2 1 0 0 0 1
+refuse 30 "agent 0 from vertex 0 to vertex 1, $nowhere" "$shuttles" floor bytes.bin
+refuse 30 "agent 0 (line 6) from vertex 0 to vertex 3, $nowhere" "$shuttles" floor "$root/examples/apart.txt"
 # The occupant of the vertex entered stays, goes to the vertex that the agent had, or goes to another.
 entered='agent 0 (line 4) at time 1: from vertex 0 to vertex 1,'
 for call in check encode; do
@@ -341,6 +373,28 @@ costs 3 3 pair.txt 0 0 0 1
 costs 1 3 pair.txt 0 1 1 1
 costs 3 4 home.txt 0 1 1 0 0
 costs 0 0 home.txt 0
+# floors FLOOR DESCRIPTION: that is its floor.
+floors() {
+    result "$([ "$("$shuttles" floor "$2" 2>&1) $?" = "makespan at least $1 0" ] || echo said otherwise)" "floor $1: $2"
+}
+description line32.txt 'grid 1 33' 'agent 0 32'
+description line33.txt 'grid 1 34' 'agent 0 33'
+description line63.txt 'grid 1 64' 'agent 5 4' 'agent 63 0' 'agent 0 5'
+floors 0 home.txt
+floors 1 pair.txt
+floors 1 path.txt
+floors 2 four.txt
+floors 32 line32.txt
+floors 33 line33.txt
+floors 63 line63.txt
+# The formula with family H: the pair's, and what the formula program prints for the path, with more behind it.
+"$shuttles" pruned pair.txt 1 >with-h
+printf '%s\n' 'p cnf 4 10' '1 0' '4 0' '1 2 0' '3 4 0' '-1 -2 0' '-3 -4 0' '-1 3 4 0' '-2 4 3 0' '-2 0' '-3 0' >wanted
+result "$(diff with-h wanted)" 'the formula of the pair with family H'
+"$shuttles" pruned path.txt 2 >with-h
+"$shuttles" input path.txt 2 | "$program" >base
+h=$(printf -- '-%s 0\n' 2 3 4 6 9 10 13 15 16 17)
+result "$(diff with-h <(sed 's/^p cnf 18 61$/p cnf 18 71/' base; echo "$h"))" 'the formula of the path with family H'
 # Refusals that the library does not give for what the tool asks of it.
 for number in 11 12 14 15 16 23; do
     expect "refusal $number" 0 "$shuttles" refusal "$number" 24
@@ -369,6 +423,16 @@ for subject in '0 pair.txt 1' '5 pair.txt 1' '18446744073709551615 pair.txt 1' '
     expect 'refusal 29' 0 "$shuttles" refusal 29 $subject
     told 'the formula has no such variable'
 done
+for subject in '' 'pair.txt' 'home.txt'; do
+    # 6 is the pair's start; both instances have 8 bytes.
+    # shellcheck disable=SC2086  # Words of the command.
+    expect 'refusal 30' 0 "$shuttles" refusal 30 6 $subject
+    told 'the place is a byte of the instance'
+done
+expect 'refusal 30' 0 "$shuttles" refusal 30 8 pair.txt
+told 'the place is a byte of the instance'
+expect 'refusal 30' 0 "$shuttles" refusal 30 7 pair.txt 1
+told "agent 0 (line 3) from vertex 0 to vertex 1, $nowhere"
 for number in 20 25 26; do
     expect "refusal $number" 0 "$shuttles" refusal "$number" 2
     told 'the place is a byte of the plan'
@@ -409,31 +473,87 @@ note=cryptominisat solves 0 "$printed" "$passes" env SOLVER=cryptominisat5 "$sol
 solves 0 "${printed/ \\n/\\n}" "$passes" env SOLVER=cryptominisat5 "$solve" pair.txt 1
 solves 3 'echo s UNSATISFIABLE; exit 20' 'no plan of makespan 1' env SOLVER=cryptominisat5 "$solve" pair.txt 1
 
+# Without a horizon: from the floor on. That of the pair is 1, where the plan is.
+note=minisat solves 0 "$plan" "$passes" "$solve" pair.txt
+note=minisat solves 0 "$plan" "$passes" env LIMIT=9 KEEP=kept "$solve" pair.txt
+note=minisat solves 0 "$plan" "$passes" "$solve" <(cat pair.txt)
+note=minisat solves 0 "$plan" "$passes" env RUNGLAET_PROGRAM=absent "$solve" pair.txt
+note=cryptominisat solves 0 "$printed" "$passes" env SOLVER=cryptominisat5 "$solve" pair.txt
+# shows STATUS NOTES FAKE TEXT COMMAND...: the command ends with this status, standard output has just this text, and
+# standard error as many notes and nothing else.
+shows() {
+    local got=0 fault=''
+    with "$3" "${@:5}" >said 2>errors || got=$?
+    [ "$got" -eq "$1" ] || fault="status $got: $(cat said errors)"
+    printf '%s\n' "$4" | cmp -s - said || fault="said otherwise: $(cat said errors)"
+    [ "$(grep -c '^note: ' errors) $(wc -l <errors)" = "$2 $2" ] || fault="not $2 notes alone: $(cat errors)"
+    result "$fault" "${*:5}"
+}
+# after FAKE: a solver that finds no plan for the path at horizon 1, where its formula has 12 variables, and then does so.
+after() { printf 'read -r _ _ n _ <$2; [ $n != 12 ] || { echo s UNSATISFIABLE >$3; exit 20; }; %s' "$1"; }
+at1='path.txt, horizon 1: 12 variables, 46 clauses, minisat: '
+at2='path.txt, horizon 2: 18 variables, 71 clauses, minisat: '
+rows=$'t=0: agent0@0 agent1@1\nt=1: agent0@0 agent1@2\nt=2: agent0@1 agent1@2\nplan passes: makespan 2, cost 3'
+path_plan='printf "SAT\n1 -2 -3 -4 5 -6 7 -8 -9 -10 -11 12 -13 14 -15 -16 -17 18 0\n" >$3; exit 10'
+shows 0 1 "$(after "$path_plan")" "${at1}no plan"$'\n'"${at2}a plan"$'\n'"$rows" env KEEP=last "$solve" path.txt
+result "$(cd last && diff <(printf '%s\n' *) <(printf '%s\n' formula.cnf instance.bin output.txt))" 'what KEEP keeps'
+result "$("$shuttles" pruned path.txt 2 | cmp - last/formula.cnf 2>&1)" 'the formula of the last horizon is kept'
+result "$(head -n 1 last/output.txt | diff - <(echo SAT))" 'the output of the last horizon is kept'
+# A note is said once for each change that it tells of.
+shows 0 2 "$(after "$path_plan" | sed 's/s UNSATISFIABLE/UNSAT/')" "${at1}no plan"$'\n'"${at2}a plan"$'\n'"$rows" "$solve" path.txt
+# No plan up to 32; the pair's formula at m has 2(m+1) variables and 4m+6 clauses.
+none=$(for m in {1..32}; do echo "pair.txt, horizon $m: $((2 * m + 2)) variables, $((4 * m + 6)) clauses, minisat: no plan"; done)
+none+=$'\nno plan of makespan 0 to 32'
+shows 3 1 'echo UNSAT >$3; exit 20' "$none" "$solve" pair.txt
+shows 3 0 'echo s UNSATISFIABLE >$3; exit 20' "$none" "$solve" pair.txt
+# A floor of 0, of 32 and above; above it no solver is asked.
+shows 0 1 'printf "SAT\n1 -2 0\n" >$3; exit 10' $'home.txt, horizon 0: 2 variables, 5 clauses, minisat: a plan\nt=0: agent0@0\nplan passes: makespan 0, cost 0' "$solve" home.txt
+clauses=$("$shuttles" pruned line32.txt 32 | sed -n '1s/.* //p')
+shows 3 1 'echo UNSAT >$3; exit 20' "line32.txt, horizon 32: 1089 variables, $clauses clauses, minisat: no plan"$'\nno plan of makespan 0 to 32' "$solve" line32.txt
+for floor in 33 63; do
+    shows 3 0 "touch $folder/asked" "no plan of makespan 0 to 32: the floor is $floor, the greatest distance from a start to its goal" "$solve" "line$floor.txt"
+done
+# A goal that no path leads to, and an instance that is refused: at once.
+description r.txt 'vertices 4' 'edge 0 1' 'edge 2 3' 'agent 0 3'
+refuse 30 "agent 0 (line 4) from vertex 0 to vertex 3, $nowhere" with "touch $folder/asked" "$solve" r.txt
+description r.txt 'vertices 2' 'agent 0 1' 'agent 1 1'
+refuse 9 'agent 1 (line 3) has its goal at vertex 1, as agent 0 (line 2) does' with "touch $folder/asked" "$solve" r.txt
+result "$(ls asked 2>/dev/null)" 'no solver is asked where the floor tells'
+
 expect solve-words 2 with "$plan" "$solve"
 expect solve-words 2 with "$plan" "$solve" pair.txt 1 2
-expect solve-limit 2 with "$plan" env LIMIT=x "$solve" pair.txt 1
+expect solve-limit 2 with "$plan" env LIMIT=x "$solve" pair.txt
 expect solve-limit 2 with "$plan" env LIMIT=0 "$solve" pair.txt 1
 expect solve-unknown-solver 2 with "$plan" env SOLVER=glucose "$solve" pair.txt 1
-expect solve-unknown-solver 2 with "$plan" env SOLVER='cadical kissat' "$solve" pair.txt 1
+expect solve-unknown-solver 2 with "$plan" env SOLVER='cadical kissat' "$solve" pair.txt
 expect solve-absent-solver 2 with "$plan" env SOLVER=kissat "$solve" pair.txt 1
-expect solve-absent-solver 2 with "$plan" env SOLVER=picosat "$solve" pair.txt 1
+expect solve-absent-solver 2 with "$plan" env SOLVER=picosat "$solve" pair.txt
 expect solve-no-solver 2 env PATH="$folder/bare" "$solve" pair.txt 1
-expect solve-no-solver 2 env PATH="$folder/bare" SOLVER= "$solve" path.txt 2
+expect solve-no-solver 2 env PATH="$folder/bare" SOLVER= "$solve" path.txt
 expect solve-program 2 with "$plan" env RUNGLAET_PROGRAM=absent "$solve" pair.txt 1
 expect solve-program 2 with "$plan" env RUNGLAET_PROGRAM=folder "$solve" pair.txt 1
 expect solve-program 2 with "$plan" env RUNGLAET_PROGRAM=pair.txt "$solve" pair.txt 1
 expect solve-keep 2 with "$plan" env KEEP=pair.txt "$solve" pair.txt 1
-expect solve-keep 2 with "$plan" env KEEP=/proc/folder "$solve" pair.txt 1
+expect solve-keep 2 with "$plan" env KEEP=/proc/folder "$solve" pair.txt
 expect solve-temporary 2 with "$plan" env TMPDIR=absent "$solve" pair.txt 1
-expect solve-temporary 2 with "$plan" env TMPDIR=/proc "$solve" pair.txt 1
+expect solve-temporary 2 with "$plan" env TMPDIR=/proc "$solve" pair.txt
 mkdir -p taken/formula.cnf
 expect solve-files 2 with "$plan" env KEEP=taken "$solve" pair.txt 1
+expect solve-files 2 with "$plan" env KEEP=taken "$solve" pair.txt
 expect solve-files 2 with "$plan" env KEEP=/proc "$solve" pair.txt 1
-expect solve-output 2 full with "$plan" "$solve" pair.txt 1
+for horizon in '' 1; do
+    # shellcheck disable=SC2086  # A word, or none.
+    for way in full gone; do expect solve-output 2 "$way" with "$plan" "$solve" pair.txt $horizon; done
+    # shellcheck disable=SC2086
+    expect solve-closed 2 closed with "$plan" "$solve" pair.txt $horizon
+done
 expect solve-output 2 full with "$plan" "$solve" pair.txt 33
-expect solve-output 2 gone with "$plan" "$solve" pair.txt 1
-expect solve-closed 2 closed with "$plan" "$solve" pair.txt 1
+expect solve-output 2 full with "$plan" "$solve" line33.txt
+expect solve-output 2 full with "$plan" "$solve" "$root/examples/apart.txt"
 expect solve-closed 2 closed with "$plan" "$solve" absent.txt 1
+# The reader goes, and takes no more of a line that has begun.
+going() { with "sleep 0.3; $plan" "$solve" pair.txt | head -c 9 >/dev/null; return "${PIPESTATUS[0]}"; }
+expect solve-output 2 going
 
 # solve.sh and what the tool says.
 expect NoFile 2 with "$plan" "$solve" absent.txt 1
@@ -442,13 +562,19 @@ expect NotText 2 with "$plan" "$solve" nul.txt 1
 expect ByteOrderMark 2 with "$plan" "$solve" mark8.txt 1
 expect CarriageReturn 2 with "$plan" "$solve" mac.txt 1
 expect Keyword 2 with "$plan" "$solve" d1.txt 1
+expect NoFile 2 with "$plan" "$solve" absent.txt
+expect Keyword 2 with "$plan" "$solve" d1.txt
 description r.txt 'vertices 2' 'agent 0 1' 'agent 1 1'
 refuse 9 'agent 1 (line 3) has its goal at vertex 1, as agent 0 (line 2) does' with "$plan" "$solve" r.txt 99
 for horizon in 33 256 -1 02 x 99999999999999999999; do
     refuse 10 "\"$horizon\" was given" with "$plan" "$solve" pair.txt "$horizon"
 done
-# solver NUMBER TERMS FAKE: what the solver printed is refused so.
-solver() { refuse "$1" "$2" with "$3" "$solve" pair.txt 1; }
+# solver NUMBER TERMS FAKE: what the solver printed is refused so, at a horizon and on the climb.
+solver() {
+    refuse "$1" "$2" with "$3" "$solve" pair.txt 1
+    refuse "$1" "$2" with "$3" "$solve" pair.txt
+    result "$(head -n 1 said | grep -v '^pair.txt, horizon 1: .*, minisat: its output is refused$')" "the line: $1: $3"
+}
 solver 27 'the text is empty' 'exit 10'
 solver 27 'the text is empty' 'exit 20'
 solver 27 'line 1: its verdict is cut short: "s SAT"' 'echo s SAT >$3; exit 10'
@@ -458,6 +584,11 @@ note=minisat solver 28 'line 1: the solver gave up, so there may be a plan or no
 note=minisat solver 28 'line 1: the solver gave up, so there may be a plan or none: "s UNKNOWN"' 'echo INDET >$3; exit 20'
 note=minisat solver 29 'variable 3, for agent 0 (line 3) at vertex 0 at time 1, is missing' 'printf "SAT\n1 -2 0\n" >$3; exit 10'
 note=minisat solver 24 'clause 0 of family A (each agent begins at its start), for agent 0 (line 3) at vertex 0 at time 0' 'printf "SAT\n-1 -2 -3 -4 0\n" >$3; exit 10'
+
+# At a later horizon; what was printed at an earlier one is not read again.
+refuse 27 'the text is empty' with "$(after 'exit 20')" "$solve" path.txt
+refuse 27 'line 1: its verdict is cut short: "s SAT"' with "$(after 'echo s SAT >$3; exit 10')" "$solve" path.txt
+result "$(head -n 2 said | diff - <(printf '%s\n' "${at1}no plan" "${at2}its output is refused"))" 'the lines of a later horizon'
 
 # solve.sh and the formula program.
 # prints SCRIPT: a program in the formula program's place, which can call it as "$program".
@@ -481,8 +612,53 @@ prints 'echo p cnf 4 x' solve-not-whole 2
 prints 'echo c refused 8 6; exit 1' 'refusal 8' 1
 prints 'echo c refused 9 7; exit 1' 'refusal 9' 1
 
+# solve.sh and the tool, in a copy that has no formula program and whose tool does something else for one word.
+mkdir other
+(cd "$root" && tar -c --exclude target tools examples) | tar -x -C other
+printf '#!/bin/sh\necho "%s"\n' "$folder/tool" >other/tools/shuttles/build.sh
+printf '#!/bin/sh\nexit 2\n' >other/tools/formula_program/build.sh
+# tool WORD SCRIPT: the tool, which can be called as "$shuttles", but for this word.
+tool() {
+    printf '#!/bin/sh\nshuttles=%q\n[ "$1" = %s ] || exec "$shuttles" "$@"\n%s\n' "$shuttles" "$1" "$2" >tool
+    chmod +x tool
+}
+# prints_other WORD SCRIPT KIND STATUS: on the climb, with such a tool.
+prints_other() {
+    tool "$1" "$2"
+    expect "$3" "$4" with "$plan" other/examples/solve.sh pair.txt
+}
+tool none ''
+note=minisat solves 0 "$plan" "$passes" other/examples/solve.sh pair.txt
+for word in instance floor pruned decode; do
+    prints_other "$word" 'kill -9 $$' solve-no-answer 2
+    prints_other "$word" 'exit 1' solve-no-answer 2
+    prints_other "$word" 'exit 2' solve-no-answer 2
+done
+result "$(grep -v ', minisat: no verdict$' said)" 'the line is ended where the tool gave no answer'
+prints_other floor 'exit 0' solve-no-answer 2
+prints_other floor 'echo makespan at least x' solve-no-answer 2
+prints_other pruned 'exec "$shuttles" pruned "$2" 33' 'refusal 10' 1
+prints_other pruned 'exec "$shuttles" pruned absent "$3"' NoFile 2
+prints_other decode 'exec "$shuttles" decode absent "$3"' NoFile 2
+for cut in 'head -n 5' 'head -c -1' 'head -c 30' 'sed 3d' true; do
+    prints_other pruned "\"\$shuttles\" \"\$@\" | $cut" solve-not-whole 2
+done
+tool decode 'kill -9 $$'
+expect solve-no-answer 2 with "$plan" env RUNGLAET_PROGRAM="$program" other/examples/solve.sh pair.txt 1
+
 # solve.sh and the solver's end.
-ends() { expect "$1" 2 with "$2" env LIMIT="${3:-}" "$solve" pair.txt 1; }
+# ends KIND FAKE [LIMIT [LATER]]: at a horizon, at the first horizon of a climb, and at its second, where the path's solver
+# does as LATER says. All lines are ended.
+ends() {
+    local words
+    for words in 'pair.txt 1' pair.txt; do
+        # shellcheck disable=SC2086  # Words of the command.
+        expect "$1" 2 with "$2" env LIMIT="${3:-}" "$solve" $words
+    done
+    result "$(grep -v '^pair.txt, horizon 1: .*, minisat: no verdict$' said)" "the line: $1: $2"
+    expect "$1" 2 with "$(after "${4:-$2}")" env LIMIT="${3:-}" "$solve" path.txt
+    result "$(diff said <(printf '%s\n' "${at1}no plan" "${at2}no verdict"))" "the lines: $1: $2"
+}
 ends solve-time 'exec sleep 9' 1
 ends solve-time 'kill -XCPU $$'
 ends solve-killed 'kill -KILL $$'
@@ -499,27 +675,31 @@ ends solve-status 'exit 1'
 ends solve-status 'exit 255'
 ends solve-status 'exit 124'
 note=minisat ends solve-disagreement 'echo UNSAT >$3; exit 10'
-note=minisat ends solve-disagreement 'printf "SAT\n1 -2 -3 4 0\n" >$3; exit 20'
+note=minisat ends solve-disagreement "${plan/exit 10/exit 20}" '' "${path_plan/exit 10/exit 20}"
 ends solve-disagreement 'echo s UNSATISFIABLE >$3; exit 10'
-# A signal ends the solver too: it has said who it is, and is gone soon after.
+# A signal ends the solver too: each has said who it is, and is gone soon after.
 for signal in TERM HUP; do
     rm -f solver
-    ends solve-signal "echo \$\$ >$folder/solver; kill -$signal \$PPID; exec sleep 9"
-    fault='the solver never ran'
-    if [ -s solver ]; then
+    ends solve-signal "echo \$\$ >>$folder/solver; kill -$signal \$PPID; exec sleep 9"
+    fault='not every solver ran'
+    if [ "$(wc -l <solver)" -eq 3 ]; then
+        mapfile -t ran <solver
+        # It succeeds where one of them is there.
         for _ in {1..40}; do
-            kill -0 "$(cat solver)" 2>/dev/null || break
+            kill -0 "${ran[@]}" 2>/dev/null || break
             sleep 0.05
         done
-        kill -0 "$(cat solver)" 2>/dev/null && fault='it outlived its run' || fault=''
+        kill -0 "${ran[@]}" 2>/dev/null && fault='one outlived its run' || fault=''
     fi
-    result "$fault" "the solver of a run ended by $signal"
+    result "$fault" "the solvers of runs ended by $signal"
 done
 
 # solve.sh where files can't grow, as on a full disk.
 small() { (ulimit -f "$1" && "${@:2}"); }
 expect solve-room 2 small 1 with "$plan" "$solve" pair.txt 1
 expect solve-room 2 small 7 with "$plan" "$solve" path.txt 2
+expect solve-room 2 small 7 with "$plan" "$solve" path.txt
+expect Output 2 small 9 with "$plan" "$solve" "$root/examples/grid4.txt"
 
 # tools/shuttles/build.sh. The tool that is built needs no cargo; a copy of the sources has nothing built.
 solves 0 '' "$shuttles" "$root/tools/shuttles/build.sh"
@@ -532,6 +712,7 @@ builds build-no-rt '' "$build"
 builds build-no-rt '' copy/examples/solve.sh pair.txt 1
 builds build-no-cargo "$library" "$build"
 builds build-no-cargo "$library" copy/examples/solve.sh pair.txt 1
+builds build-no-cargo "$library" copy/examples/solve.sh pair.txt
 printf '#!/bin/sh\necho no proof\nexit 1\n' | tee extra/rt >extra/cargo
 chmod +x extra/rt extra/cargo
 builds build-rt-failed '' "$build"
@@ -602,7 +783,7 @@ for source in errors refusals notes solve build program; do
     result "$(cut -c 1-40 "$source" | sort -u | grep -vxF -f seen)" "never said here, of $source"
 done
 
-# README's table has the tool's words.
+# README's table has the tool's words, each refusal's once.
 sed -n 's/^| \([0-9]*\) | \(.*\) | .* |$/refused \1: \2: /p' "$root/README.md" | grep -v '^refused 0:' >table
 [ -s table ] || echo nothing >table
 while read -r line; do
@@ -612,6 +793,7 @@ while read -r line; do
     [[ $said == "$line"* ]] && fault='' || fault="$said"
     result "$fault" "README: $line"
 done <table
+result "$(diff <(cut -d : -f 1 refusals | sort) <(cut -d : -f 1 table | sort))" "README: the refusals of its table"
 
 echo "words: $(wc -l <kinds) lines of $(cut -f 1 pairs | uniq | wc -l) kinds, $passed passed, $failed failed"
 [ "$failed" -eq 0 ]

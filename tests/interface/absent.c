@@ -1,9 +1,27 @@
 /* Stands in for the calls that an earlier library has not, so that the benchmark's program links with it too: a copy of
- * that library gets this file's object. No call gives the number that it answers. */
+ * that library gets this file's object, made with LACKS_ and the name of each call that is missing. No call gives the
+ * number that they answer. */
 #include "runglaet.h"
 
+#ifdef LACKS_read_valuation
 runglaet_answer runglaet_read_valuation(const uint8_t *instance, size_t instance_len, uint64_t horizon,
                                         const uint8_t *text, size_t text_len, int32_t *entries, size_t entries_len) {
     (void)instance, (void)instance_len, (void)horizon, (void)text, (void)text_len, (void)entries, (void)entries_len;
     return (runglaet_answer){UINT32_MAX, 0};
 }
+#endif
+
+#ifdef LACKS_floor
+runglaet_answer runglaet_floor(const uint8_t *instance, size_t instance_len) {
+    (void)instance, (void)instance_len;
+    return (runglaet_answer){UINT32_MAX, 0};
+}
+#endif
+
+#ifdef LACKS_write_pruned
+runglaet_written runglaet_write_pruned(const uint8_t *instance, size_t instance_len, uint64_t horizon, int32_t *words,
+                                       size_t words_len) {
+    (void)instance, (void)instance_len, (void)horizon, (void)words, (void)words_len;
+    return (runglaet_written){UINT32_MAX, 0, 0};
+}
+#endif

@@ -1,5 +1,5 @@
-/* Each call once or more on the examples of document 01, the plan check's cost and the reader on examples of their own,
- * and all with null pointers, from C. */
+/* Each call once or more on the examples of document 01, the plan check's cost, the reader, the floor and the pruned
+ * writer on examples of their own, and all with null pointers, from C. */
 #include "runglaet.h"
 
 #include <stdio.h>
@@ -17,6 +17,10 @@ static void expect(const char *what, int holds) {
 
 static int says(runglaet_answer answer, uint32_t number, uint64_t second) {
     return answer.number == number && answer.second == second;
+}
+
+static int wrote(runglaet_written answer, uint32_t number, uint64_t second, uint64_t clauses) {
+    return answer.number == number && answer.second == second && answer.clauses == clauses;
 }
 
 static const uint8_t pair[8] = {2, 1, 1, 0, 0, 1, 0, 1};
@@ -67,6 +71,11 @@ static void null_pointers(void) {
            says(runglaet_read_valuation(pair, sizeof pair, 1, text, sizeof text - 1, NULL, 0), 16, 4));
     expect("reader, neither: 16, place 4", says(runglaet_read_valuation(pair, sizeof pair, 1, NULL, 0, NULL, 0), 16, 4));
     expect("reader, nothing: 1, place 0", says(runglaet_read_valuation(NULL, 0, 1, NULL, 0, NULL, 0), 1, 0));
+
+    expect("floor, no instance: 1, place 0", says(runglaet_floor(NULL, 0), 1, 0));
+    expect("pruned, no instance: 1, place 0", wrote(runglaet_write_pruned(NULL, 0, 1, words, 24), 1, 0, 0));
+    expect("pruned, no words: 12, place 28", wrote(runglaet_write_pruned(pair, sizeof pair, 1, NULL, 0), 12, 28, 0));
+    expect("pruned, neither: 1, place 0", wrote(runglaet_write_pruned(NULL, 0, 1, NULL, 0), 1, 0, 0));
 
     expect("the words as they were", memcmp(words, before, sizeof words) == 0);
     expect("the plan's bytes as they were", plan[0] == 200 && plan[1] == 201);
@@ -146,6 +155,63 @@ static void time_until_rest(void) {
     expect("one and then the other: cost 3", says(runglaet_check_plan(other, sizeof other, 2, turns, 6), 0, 3));
 }
 
+#define BYTES(...) (const uint8_t[]){__VA_ARGS__}
+#define FLOOR(what, number, second, ...) \
+    expect("floor, " what, says(runglaet_floor(BYTES(__VA_ARGS__), sizeof BYTES(__VA_ARGS__)), number, second))
+
+/* The greatest distance from a start to its goal; 30 where one is unreachable. */
+static void floors(void) {
+    FLOOR("pair: 1", 0, 1, 2, 1, 1, 0, 0, 1, 0, 1);
+    FLOOR("pair, it stays: 0", 0, 0, 2, 1, 1, 0, 0, 1, 0, 0);
+    FLOOR("pair, back: 1", 0, 1, 2, 1, 1, 0, 0, 1, 1, 0);
+    FLOOR("path, 0 to 2: 2", 0, 2, 3, 1, 2, 0, 0, 1, 1, 2, 0, 2);
+    FLOOR("path, 1 to 1 and 0 to 2: 2", 0, 2, 3, 2, 2, 0, 0, 1, 1, 2, 1, 0, 1, 2);
+    FLOOR("path, 0 to 1 and 1 to 2: 1", 0, 1, 3, 2, 2, 0, 0, 1, 1, 2, 0, 1, 1, 2);
+    FLOOR("no edge, 0 to 1: 30, place 5", 30, 5, 2, 1, 0, 0, 0, 1);
+    /* The edges 0-1 and 2-3. */
+    FLOOR("two parts, agent 1: 30, place 11", 30, 11, 4, 2, 2, 0, 0, 2, 1, 3, 0, 2, 1, 0);
+    FLOOR("two parts, both: 30, place 10", 30, 10, 4, 2, 2, 0, 0, 2, 1, 3, 0, 2, 2, 0);
+    FLOOR("edge 0-1 twice: 7, place 5", 7, 5, 3, 1, 2, 0, 0, 0, 1, 1, 0, 2);
+    FLOOR("three bytes: 1, place 3", 1, 3, 2, 1, 1);
+
+    /* A path of 64 vertices from end to end, longer than any horizon; without its last edge 30. */
+    uint8_t instance[4 + 2 * 63 + 2] = {64, 1, 63, 0};
+    for (int j = 0; j < 63; j++) instance[4 + j] = (uint8_t)j, instance[4 + 63 + j] = (uint8_t)(j + 1);
+    instance[4 + 2 * 63] = 0, instance[4 + 2 * 63 + 1] = 63;
+    expect("floor, path of 64: 63", says(runglaet_floor(instance, sizeof instance), 0, 63));
+    uint8_t cut[4 + 2 * 62 + 2] = {64, 1, 62, 0};
+    for (int j = 0; j < 62; j++) cut[4 + j] = (uint8_t)j, cut[4 + 62 + j] = (uint8_t)(j + 1);
+    cut[4 + 2 * 62] = 0, cut[4 + 2 * 62 + 1] = 63;
+    expect("floor, path of 63 and a vertex: 30, place 129", says(runglaet_floor(cut, sizeof cut), 30, 129));
+}
+
+/* The pair's formula at m 1, and then -2 and -3: at time 0 not at 1, at time 1 not at 0. */
+static void pruned_writer(const int32_t *formula) {
+    static const int32_t family_h[4] = {-2, 0, -3, 0};
+    int32_t words[30], before[30];
+    for (int i = 0; i < 30; i++) words[i] = before[i] = 1000 + i;
+    expect("pruned, 27 words: 12, place 28", wrote(runglaet_write_pruned(pair, sizeof pair, 1, words, 27), 12, 28, 0));
+    expect("pruned, 24 words: 12, place 28", wrote(runglaet_write_pruned(pair, sizeof pair, 1, words, 24), 12, 28, 0));
+    expect("pruned, m 33: 10, place 0", wrote(runglaet_write_pruned(pair, sizeof pair, 33, words, 30), 10, 0, 0));
+    expect("pruned, refusals change nothing", memcmp(words, before, sizeof words) == 0);
+    expect("pruned: 28 words, 10 clauses", wrote(runglaet_write_pruned(pair, sizeof pair, 1, words, 30), 0, 28, 10));
+    expect("pruned: the formula first", memcmp(words, formula, 24 * sizeof *words) == 0);
+    expect("pruned: then family H", memcmp(words + 24, family_h, sizeof family_h) == 0);
+    expect("pruned: nothing beyond", words[28] == 1028 && words[29] == 1029);
+
+    /* m 0 is below the floor: at 0 and at 1 it cannot be. One clause by number knows nothing of it. */
+    static const int32_t nowhere[14] = {1, 0, 2, 0, 1, 2, 0, -1, -2, 0, -1, 0, -2, 0};
+    expect("pruned, m 0: 14 words, 6 clauses", wrote(runglaet_write_pruned(pair, sizeof pair, 0, words, 30), 0, 14, 6));
+    expect("pruned, m 0: the words", memcmp(words, nowhere, sizeof nowhere) == 0);
+    expect("clause 4 at m 0 gets 11", says(runglaet_clause(pair, sizeof pair, 0, 4, words, 30), 11, 4));
+
+    /* The path's middle is too far from both ends at m 0, and that is one clause. */
+    static const uint8_t path[10] = {3, 1, 2, 0, 0, 1, 1, 2, 0, 2};
+    static const int32_t all[6] = {-1, 0, -2, 0, -3, 0};
+    expect("pruned, path, m 0: 23 words, 9 clauses", wrote(runglaet_write_pruned(path, 10, 0, words, 30), 0, 23, 9));
+    expect("pruned, path, m 0: family H", memcmp(words + 17, all, sizeof all) == 0);
+}
+
 int main(void) {
     static const int32_t formula[24] = {1,  0,  4, 0,  1,  2, 0,  3, 4, 0,  -1, -2,
                                         0, -3, -4, 0, -1,  3, 4,  0, -2, 4,  3,  0};
@@ -209,6 +275,8 @@ int main(void) {
 
     time_until_rest();
     reader();
+    floors();
+    pruned_writer(formula);
     null_pointers();
     printf("c_check: %d answers, %d wrong\n", asked, failures);
     return failures != 0;

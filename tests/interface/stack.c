@@ -1,7 +1,8 @@
 /* How much stack each call uses: the calls run on a painted stack, and what is no longer painted was used.
  *
  * The inputs are the largest ones: 64 vertices, all 2016 edges, 16 agents, horizon 32. Each call is made with inputs
- * that it accepts and with some that it refuses late, and its answers are compared with those of document 01. */
+ * that it accepts and with some that it refuses late, and its answers are compared with those of documents 01 and 02.
+ * For the floor and the pruned writer there are also the longest path, and the same in two parts. */
 #define _POSIX_C_SOURCE 200809L
 #include "runglaet.h"
 
@@ -12,8 +13,8 @@
 #include <sys/wait.h>
 #include <unistd.h>
 
-/* What the header promises is enough for any call but the reader, and for the reader. */
-enum { PROMISED = 12288, READER_PROMISED = 65536 };
+/* What the header promises is enough for any call but the reader, the floor and the pruned writer, and for these. */
+enum { PROMISED = 12288, MORE_PROMISED = 65536 };
 
 enum { N = 64, K = 16, E = N * (N - 1) / 2, M = 32, ROWS = M + 1 };
 enum { PLAN = ROWS * K, VARIABLES = PLAN * N };
@@ -25,11 +26,21 @@ enum {
     CLAUSES = A + B + C + D + EE + F + G,
     WORDS = 2 * K + 2 * K + C * (N + 1) + 3 * D + 3 * EE + M * K * (3 * N + 2 * E) + 3 * G,
     /* The lowest clause that SWAPS below falsifies: of family G with t M-1, a K-2, b K-1, and v the goal of a. */
-    SWAPPED = CLAUSES - G + (((M - 1) * K + K - 2) * (K - 1) + K - 2) * N + N - 1 - (K - 2)
+    SWAPPED = CLAUSES - G + (((M - 1) * K + K - 2) * (K - 1) + K - 2) * N + N - 1 - (K - 2),
+    /* Family H: all vertices are one step from each other, so that only time 0 and time M rule some out. */
+    H = 2 * K * (N - 1),
+    /* The path 0-1-..-63: as many clauses, but shorter ones in family F. From a to 63-a is further than M for every
+     * agent, so that family H rules out all. */
+    PATH_E = N - 1, PATH_H = VARIABLES, PATH_WORDS = WORDS - 2 * M * K * (E - PATH_E) + 2 * PATH_H
 };
 
 static uint8_t instance[4 + 2 * E + 2 * K], decoded[PLAN];
-static int32_t words[WORDS], encoded[VARIABLES];
+static int32_t words[WORDS + 2 * H], encoded[VARIABLES];
+
+/* The path, and the same without its middle edge. */
+enum { PATH, CUT };
+static uint8_t paths[2][4 + 2 * PATH_E + 2 * K];
+static const size_t path_lengths[2] = {4 + 2 * PATH_E + 2 * K, 4 + 2 * (PATH_E - 1) + 2 * K};
 
 /* Two plans and their valuations. PASSES: every vertex is one step from every other, so all agents go to their goals in
  * the first step and wait there. SWAPS: the last two go to each other's goal and exchange places in the last step. */
@@ -80,6 +91,24 @@ static void fill_texts(void) {
     }
 }
 
+static void fill_path(int which) {
+    int e = PATH_E - (which == CUT), j = 4;
+    uint8_t *path = paths[which];
+    path[0] = N;
+    path[1] = K;
+    path[2] = (uint8_t)e;
+    for (int low = 0; low < N - 1; low++) {
+        if (which == CUT && low == N / 2 - 1) continue;
+        path[j] = (uint8_t)low;
+        path[j + e] = (uint8_t)(low + 1);
+        j++;
+    }
+    for (int a = 0; a < K; a++) {
+        path[4 + 2 * e + a] = (uint8_t)a;
+        path[4 + 2 * e + K + a] = (uint8_t)(N - 1 - a);
+    }
+}
+
 static void fill(void) {
     instance[0] = N;
     instance[1] = K;
@@ -104,7 +133,7 @@ static void fill(void) {
         for (int i = 0; i < VARIABLES; i++) valuations[p][i] = plans[p][i / N] == i % N ? i + 1 : -(i + 1);
 }
 
-typedef enum { WRITER, CLAUSE, CHECK, DECODER, ENCODER, READER } call;
+typedef enum { WRITER, CLAUSE, CHECK, DECODER, ENCODER, READER, FLOOR, PRUNED, PATH_FLOOR, PATH_PRUNED } call;
 
 /* One call: which one, with which horizon, plan, text or clause number and length of its last slice, and the answer that
  * it must give. */
@@ -137,6 +166,11 @@ static runglaet_written make(const run *r) {
         answer = runglaet_read_valuation(instance, sizeof instance, r->horizon, (const uint8_t *)texts[r->chosen],
                                          lengths[r->chosen], encoded, r->length);
         break;
+    case FLOOR: answer = runglaet_floor(instance, sizeof instance); break;
+    case PRUNED: return runglaet_write_pruned(instance, sizeof instance, r->horizon, words, r->length);
+    case PATH_FLOOR: answer = runglaet_floor(paths[r->chosen], path_lengths[r->chosen]); break;
+    case PATH_PRUNED:
+        return runglaet_write_pruned(paths[r->chosen], path_lengths[r->chosen], r->horizon, words, r->length);
     }
     return (runglaet_written){answer.number, answer.second, 0};
 }
@@ -180,7 +214,11 @@ static size_t used(const run *r, unsigned char paint) {
         pthread_create(&thread, &attributes, measure, &m) != 0 || pthread_join(thread, NULL) != 0)
         stop("no thread with a stack of its own");
     pthread_attr_destroy(&attributes);
-    uint64_t clauses = r->which == WRITER && r->number == 0 ? CLAUSES : 0;
+    uint64_t clauses = r->which == WRITER        ? CLAUSES
+                       : r->which == PRUNED      ? CLAUSES + H
+                       : r->which == PATH_PRUNED ? CLAUSES + PATH_H
+                                                 : 0;
+    if (r->number != 0) clauses = 0;
     if (m.answer.number != r->number || m.answer.second != r->second || m.answer.clauses != clauses) {
         printf("stack: %s: wrong answer, %u %llu\n", r->what, (unsigned)m.answer.number,
                (unsigned long long)m.answer.second);
@@ -217,6 +255,8 @@ static size_t measured(const run *r) {
 
 int main(void) {
     fill();
+    fill_path(PATH);
+    fill_path(CUT);
     fill_texts();
     const run runs[] = {
         {WRITER, "writer, accepted", M, 0, WORDS, 0, WORDS},
@@ -247,14 +287,27 @@ int main(void) {
         {READER, "reader, last variable missing", M, LACKS, VARIABLES, 29, VARIABLES},
         {READER, "reader, longest text", M, LONGEST, VARIABLES, 0, VARIABLES},
         {READER, "reader, text too long", M, LONGER, VARIABLES, 27, RUNGLAET_TEXT_MAX},
+        {FLOOR, "floor, accepted", 0, 0, 0, 0, 1},
+        {PATH_FLOOR, "floor, longest path", 0, PATH, 0, 0, N - 1},
+        {PATH_FLOOR, "floor, goal unreachable", 0, CUT, 0, 30, 4 + 2 * (PATH_E - 1) + K},
+        {PRUNED, "pruned writer, accepted", M, 0, WORDS + 2 * H, 0, WORDS + 2 * H},
+        {PRUNED, "pruned writer, slice too short", M, 0, WORDS + 2 * H - 1, 12, WORDS + 2 * H},
+        {PRUNED, "pruned writer, horizon 33", M + 1, 0, WORDS, 10, 0},
+        {PATH_PRUNED, "pruned writer, longest path", M, PATH, WORDS, 0, PATH_WORDS},
     };
-    size_t most = 0, reader = 0;
+    size_t most[3] = {0, 0, 0};
     for (size_t i = 0; i < sizeof runs / sizeof *runs; i++) {
-        size_t bytes = measured(&runs[i]), *counted = runs[i].which == READER ? &reader : &most;
+        size_t bytes = measured(&runs[i]), *counted = &most[(runs[i].which >= READER) + (runs[i].which >= FLOOR)];
         if (bytes > *counted) *counted = bytes;
     }
-    printf("stack: at most %zu bytes, promised are %d%s\n", most, PROMISED, most > PROMISED ? ": TOO MANY" : "");
-    printf("stack: reader at most %zu bytes, promised are %d%s\n", reader, READER_PROMISED,
-           reader > READER_PROMISED ? ": TOO MANY" : "");
-    return most > PROMISED || reader > READER_PROMISED;
+    static const char *const calls[3] = {"", "reader ", "floor and pruned writer "};
+    static const size_t promised[3] = {PROMISED, MORE_PROMISED, MORE_PROMISED};
+    int failed = 0;
+    for (int i = 0; i < 3; i++) {
+        int more = most[i] >= promised[i];
+        printf("stack: %sat most %zu bytes, promised are less than %zu%s\n", calls[i], most[i], promised[i],
+               more ? ": TOO MANY" : "");
+        failed |= more;
+    }
+    return failed;
 }

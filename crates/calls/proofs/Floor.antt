@@ -7,7 +7,7 @@ use Prim.Native.Nat.{ℕ, zero, suc, _+_, _≤_, _<_}
 use native.Mathlib.Nat.{le-refl}
 use native.Mathlib.Omega.{arith}
 use lib.Dec.{T, ltb, eqb}
-use Rattle.lists.specs.Loop.{all, greatest}
+use Rattle.lists.specs.Loop.{all}
 use Rattle.lists.proofs.Tests.{and-iff, not-iff, eqb-iff, ltb-iff}
 use Rattle.lists.proofs.Loops.{all-append}
 use Rattle.lists.proofs.Blocks.{place-lt}
@@ -19,6 +19,7 @@ use Rattle.instance.specs.Instance.{instance, agents, goals, adjacent, Endpoint
 use Rattle.instance.specs.Questions.{question10, bytesQuestions, instanceQuestions}
 use Rattle.instance.proofs.Instance.{endpoints, limits}
 use Rattle.distances.specs.Distance.{unreachable, startToGoal, floor}
+use Rattle.distances.proofs.Within.{floor-most}
 use Rattle.plan.specs.Passing.{Passes}
 use Rattle.plan.specs.Plan.{planRow}
 use Rattle.valuation.proofs.Pruned.{steps-most}
@@ -30,10 +31,6 @@ unfolding decide
 decide-skip [] rs c = refl
 decide-skip ([] ∷ qs) rs c = decide-skip qs rs c
 decide-skip ((r ∷ later) ∷ qs) rs c = refl
-
-greatest-most : (n : ℕ) (f : ℕ → ℕ) (x : ℕ) → ((a : ℕ) → a < n → f a ≤ x) → greatest n f ≤ x
-greatest-most zero f x h = omega arith
-greatest-most (suc n) f x h = omega (arith, greatest-most n f x (λ a l. h a (omega arith)), h n (le-refl (suc n)))
 
 module _ (b : List ℕ) where
   -- 0 is a horizon, so 10 is answered yes
@@ -79,7 +76,7 @@ module _ (b : List ℕ) where
         not-iff (eqb (startToGoal (instance b 0) a) unreachable) .1 (λ t. let e = eqb-iff (startToGoal (instance b 0) a) unreachable .0 t in let (x, y) = steps-known p w a l in omega arith)) in
         let yes : T (all clear (floorQuestions b)) = all-append clear (bytesQuestions b) (question30 b ∷ []) .1 (ok, and-iff (clear (question30 b)) true .1 (clear-iff (question30 b) .1 thirty, tt)) in
         let e : floorAnswer b .number ≡ 0 = decide-iff (floorQuestions b) _ numbered-floor .1 yes in
-        (e, rw (floor-count e) (greatest-most (agents b) _ m (λ a l. steps-known p w a l .0)))
+        (e, rw (floor-count e) (floor-most (instance b 0) m (λ a l. steps-known p w a l .0)))
 
   -- ---- where 30 is answered, 1 to 9 were answered yes
   pub past-bytes : floorAnswer b .number ≡ 30 → T (all clear (bytesQuestions b))

@@ -1,4 +1,5 @@
--- What is within a number of edges: a walk that leads anywhere leads there by fewer edges than there are vertices.
+-- What is within a number of edges: a walk that leads anywhere leads there by fewer edges than there are vertices. What a distance is
+-- then, and when it is further than a number.
 use mathlib.Core.Path.{_≡_, refl, sym, subst}
 use mathlib.Core.Logic.{_↔_, _≢_, _⊎_, inl, inr, ⊎-elim, by-cases}
 use mathlib.Core.Bool.{Bool, true, false, not, _&&_, _||_, cond}
@@ -7,10 +8,11 @@ use native.Mathlib.Nat.{le-refl, not-suc-le-zero, eq-or-lt-of-le, le-of-suc-le-s
 use native.Mathlib.Decide.{ℕ-discrete, decLt}
 use native.Mathlib.Omega.{arith}
 use lib.Dec.{T, ltb, eqb}
-use Rattle.lists.specs.Loop.{some, first, sum}
+use Rattle.lists.specs.Loop.{some, first, sum, greatest}
 use Rattle.lists.proofs.Tests.{and-iff, or-iff, not-iff, eqb-iff, ltb-iff, some-iff, first-iff, first-least}
 use Rattle.lists.proofs.Sums.{ind, ind-yes, ind-no, count-most, count-le, count-less}
-use Rattle.distances.specs.Distance.{unreachable, further, within, below, distanceIn}
+use Rattle.instance.specs.Instance.{Instance}
+use Rattle.distances.specs.Distance.{unreachable, further, within, below, distanceIn, startToGoal, floor}
 
 module _ (n : ℕ) (near : ℕ → ℕ → Bool) where
   pub within-step : (d v u w : ℕ) → u < n → T (within n near d v u) → T (near u w) → T (within n near (suc d) v w)
@@ -165,3 +167,12 @@ module _ (n : ℕ) (near : ℕ → ℕ → Bool) where
           inr (ltb-iff t (distanceIn n near v w) .1
           (by-cases (decLt t (distanceIn n near v w)) (λ o. o) (λ o. absurd (f (within-mono (distanceIn n near v w) t v w (omega arith) p)))))))),
     )
+
+-- ---- the floor is no more than what no distance from a start to its goal exceeds
+greatest-most : (n : ℕ) (f : ℕ → ℕ) (x : ℕ) → ((a : ℕ) → a < n → f a ≤ x) → greatest n f ≤ x
+greatest-most zero f x h = omega arith
+greatest-most (suc n) f x h = omega (arith, greatest-most n f x (λ a l. h a (omega arith)), h n (le-refl (suc n)))
+
+pub floor-most : (I : Instance) (x : ℕ) → ((a : ℕ) → a < I .sizes .k → startToGoal I a ≤ x) → floor I ≤ x
+unfolding floor
+floor-most I x h = greatest-most (I .sizes .k) (startToGoal I) x h

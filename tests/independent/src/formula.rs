@@ -1,23 +1,30 @@
-//! The formula writer and one clause by number.
+//! The formula writers and one clause by number.
 
+use crate::distances::family_h;
 use crate::instance::Instance;
 use crate::{answer, refuse, Answer, Written};
 
 /// Writes the whole formula. Family F looks the neighbours of each vertex up
 /// once in the edge arrays.
 pub fn write_formula(instance: &[u8], horizon: u64, words: &mut [i32]) -> Written {
-    write(instance, horizon, words, write_f)
+    written(write(instance, horizon, words, write_f))
 }
 
 /// The same formula, but family F searches the edge arrays anew for each clause.
 pub fn write_formula_searching(instance: &[u8], horizon: u64, words: &mut [i32]) -> Written {
-    write(instance, horizon, words, write_f_searching)
+    written(write(instance, horizon, words, write_f_searching))
+}
+
+/// Writes the whole formula and family H after it.
+pub fn write_pruned(instance: &[u8], horizon: u64, words: &mut [i32]) -> Written {
+    written(write_with_h(instance, horizon, words))
 }
 
 type WriteF = fn(&Instance, &mut [i32]);
 
-fn write(bytes: &[u8], horizon: u64, words: &mut [i32], write_f: WriteF) -> Written {
-    match fill(bytes, horizon, words, write_f) {
+/// Turns the word count and the clause count, or a refusal, into the answer.
+fn written(result: Result<(usize, usize), Answer>) -> Written {
+    match result {
         Ok((count, clauses)) => Written {
             number: 0,
             second: count as u64,
@@ -31,19 +38,41 @@ fn write(bytes: &[u8], horizon: u64, words: &mut [i32], write_f: WriteF) -> Writ
     }
 }
 
-/// Gives the word count and the clause count.
-fn fill(
+fn write(
     bytes: &[u8],
     horizon: u64,
     words: &mut [i32],
     write_f: WriteF,
 ) -> Result<(usize, usize), Answer> {
     let instance = Instance::read(bytes, horizon)?;
-    let counts = instance.word_counts();
-    let needed = counts.iter().sum();
+    let needed = instance.word_counts().iter().sum();
     if words.len() < needed {
         return refuse(12, needed);
     }
+    fill(&instance, words, write_f);
+    Ok((needed, instance.clause_counts().iter().sum()))
+}
+
+fn write_with_h(bytes: &[u8], horizon: u64, words: &mut [i32]) -> Result<(usize, usize), Answer> {
+    let instance = Instance::read(bytes, horizon)?;
+    let literals = family_h(&instance);
+    let first: usize = instance.word_counts().iter().sum();
+    let needed = first + 2 * literals.len();
+    if words.len() < needed {
+        return refuse(12, needed);
+    }
+    fill(&instance, words, write_f);
+    for (clause, &literal) in words[first..].chunks_exact_mut(2).zip(&literals) {
+        clause[0] = literal;
+        clause[1] = 0;
+    }
+    let clauses: usize = instance.clause_counts().iter().sum();
+    Ok((needed, clauses + literals.len()))
+}
+
+/// Fills families A to G, for which there are words enough.
+fn fill(instance: &Instance, words: &mut [i32], write_f: WriteF) {
+    let counts = instance.word_counts();
     let (part_a, rest) = words.split_at_mut(counts[0]);
     let (part_b, rest) = rest.split_at_mut(counts[1]);
     let (part_c, rest) = rest.split_at_mut(counts[2]);
@@ -51,14 +80,13 @@ fn fill(
     let (part_e, rest) = rest.split_at_mut(counts[4]);
     let (part_f, rest) = rest.split_at_mut(counts[5]);
     let part_g = &mut rest[..counts[6]];
-    write_ends(&instance, part_a, 0, instance.starts);
-    write_ends(&instance, part_b, instance.m, instance.goals);
-    write_c(&instance, part_c);
-    write_d(&instance, part_d);
-    write_e(&instance, part_e);
-    write_f(&instance, part_f);
-    write_g(&instance, part_g);
-    Ok((needed, instance.clause_counts().iter().sum()))
+    write_ends(instance, part_a, 0, instance.starts);
+    write_ends(instance, part_b, instance.m, instance.goals);
+    write_c(instance, part_c);
+    write_d(instance, part_d);
+    write_e(instance, part_e);
+    write_f(instance, part_f);
+    write_g(instance, part_g);
 }
 
 /// Families A and B: the agents' vertices at time t.

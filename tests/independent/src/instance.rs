@@ -71,6 +71,11 @@ impl<'a> Instance<'a> {
         self.low.len()
     }
 
+    /// Where agent a's goal stands in the instance bytes.
+    pub fn goal_offset(&self, a: usize) -> usize {
+        4 + 2 * self.edge_count() + self.k + a
+    }
+
     /// Bytes of a plan.
     pub fn plan_length(&self) -> usize {
         (self.m + 1) * self.k

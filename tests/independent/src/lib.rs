@@ -1,13 +1,16 @@
 //! A second, independent program for shuttle formulas, valuations and plans.
 //!
-//! The six calls and `check_instance` work on raw bytes and never panic.
+//! The eight calls and `check_instance` work on raw bytes and never panic.
 //! `plain` generates the clauses slowly, `questions` asks one question at a
 //! time, `sample`, `parts` and `output` make test inputs, `costs` has plans with
-//! known costs and `text` prints a formula as DIMACS CNF.
+//! known costs, `floors` maps with known floors and families H, and `text`
+//! prints a formula as DIMACS CNF.
 
 #![forbid(unsafe_code)]
 
 pub mod costs;
+mod distances;
+pub mod floors;
 mod formula;
 mod instance;
 pub mod output;
@@ -23,7 +26,8 @@ mod valuation;
 #[cfg(test)]
 mod tests;
 
-pub use formula::{clause, write_formula, write_formula_searching};
+pub use distances::floor;
+pub use formula::{clause, write_formula, write_formula_searching, write_pruned};
 pub use instance::check_instance;
 pub use plan::check_plan;
 pub use reader::{read_valuation, LONGEST_TEXT};
@@ -37,7 +41,7 @@ pub struct Answer {
     pub second: u64,
 }
 
-/// The writer's answer; `clauses` is 0 at a refusal.
+/// The writers' answer; `clauses` is 0 at a refusal.
 #[derive(Debug, Clone, Copy, PartialEq, Eq)]
 pub struct Written {
     pub number: u32,

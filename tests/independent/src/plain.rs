@@ -1,6 +1,6 @@
 //! The clause table as nested loops, slow on purpose, and the literal meaning
-//! of satisfaction, of passing and of the cost. Shares no code with the six
-//! calls.
+//! of satisfaction, of passing, of the cost and of distances. Shares no code
+//! with the eight calls.
 //! Instances and plans given here must be of the right form.
 
 #![allow(clippy::needless_range_loop)]
@@ -106,6 +106,72 @@ pub fn clauses(instance: &[u8], horizon: u64) -> Vec<Vec<i32>> {
         }
     }
     all
+}
+
+/// The clauses of family H, which the pruned writer puts after G.
+pub fn family_h(instance: &[u8], horizon: u64) -> Vec<Vec<i32>> {
+    let parts = parts(instance);
+    let (n, k, m) = (parts.n, parts.k, horizon as usize);
+    let distances = distances(instance);
+    let further = |v: usize, w: usize, steps: usize| match distances[v][w] {
+        Some(distance) => distance > steps,
+        None => true,
+    };
+    let mut all = Vec::new();
+    for t in 0..=m {
+        for a in 0..k {
+            for v in 0..n {
+                if further(parts.starts[a], v, t) || further(v, parts.goals[a], m - t) {
+                    all.push(vec![-((1 + (t * k + a) * n + v) as i32)]);
+                }
+            }
+        }
+    }
+    all
+}
+
+/// From every vertex to every vertex, in edges; none where it is unreachable.
+pub type Distances = Vec<Vec<Option<usize>>>;
+
+/// The distances of an accepted instance.
+pub fn distances(instance: &[u8]) -> Distances {
+    let parts = parts(instance);
+    distances_over(parts.n, |v, w| parts.adjacent(v, w))
+}
+
+/// The distances where these lead on, from the first to the second. Ways may
+/// pass through vertex 0, then through 1 too, and so on.
+pub fn distances_over(n: usize, leads: impl Fn(usize, usize) -> bool) -> Distances {
+    let first = |v: usize, w: usize| match v == w {
+        true => Some(0),
+        false => leads(v, w).then_some(1),
+    };
+    let row = |v: usize| (0..n).map(|w| first(v, w)).collect();
+    let mut distances: Distances = (0..n).map(row).collect();
+    for through in 0..n {
+        for v in 0..n {
+            for w in 0..n {
+                if let (Some(x), Some(y)) = (distances[v][through], distances[through][w]) {
+                    if distances[v][w].is_none_or(|z| x + y < z) {
+                        distances[v][w] = Some(x + y);
+                    }
+                }
+            }
+        }
+    }
+    distances
+}
+
+/// The greatest distance from a start to its goal; none where some goal is
+/// unreachable.
+pub fn floor(instance: &[u8]) -> Option<usize> {
+    let parts = parts(instance);
+    let distances = distances(instance);
+    let mut floor = 0;
+    for a in 0..parts.k {
+        floor = floor.max(distances[parts.starts[a]][parts.goals[a]]?);
+    }
+    Some(floor)
 }
 
 /// The formula's words: each clause and a 0.

@@ -1,5 +1,5 @@
 //! Each question by itself, whatever the others answer. Shares no code with
-//! the six calls.
+//! the eight calls.
 
 use crate::plain;
 use std::collections::BTreeMap;
@@ -16,17 +16,20 @@ pub struct Handed<'a> {
     pub text: &'a [u8],
     /// Elements of the lent slice.
     pub lent: usize,
+    /// Is family H written too?
+    pub pruned: bool,
 }
 
 /// The number that a no gives, and its place.
 pub type Item = (u32, u64);
 
 /// All numbers, 0 for accepted included, are below this one.
-pub const NUMBERS: usize = 30;
+pub const NUMBERS: usize = 31;
 
 /// The numbers that each call can give beside 0, in the order asked: the writer,
-/// one clause, the plan check, the decoder, the encoder and the reader.
-pub const ASKED: [&[u32]; 6] = [
+/// one clause, the plan check, the decoder, the encoder, the reader, the floor
+/// and the pruned writer.
+pub const ASKED: [&[u32]; 8] = [
     &[1, 2, 3, 4, 5, 6, 7, 8, 9, 10, 12],
     &[1, 2, 3, 4, 5, 6, 7, 8, 9, 10, 11, 12],
     &[
@@ -37,6 +40,8 @@ pub const ASKED: [&[u32]; 6] = [
         1, 2, 3, 4, 5, 6, 7, 8, 9, 10, 13, 16, 17, 18, 19, 20, 25, 26, 21, 22,
     ],
     &[1, 2, 3, 4, 5, 6, 7, 8, 9, 10, 16, 27, 28, 29],
+    &[1, 2, 3, 4, 5, 6, 7, 8, 9, 30],
+    &[1, 2, 3, 4, 5, 6, 7, 8, 9, 10, 12],
 ];
 
 /// The question whose no gives this number: 20, 25 and 26 are of one.
@@ -77,6 +82,7 @@ fn all_places(number: u32, handed: &Handed) -> Option<Vec<u128>> {
         entries,
         text,
         lent,
+        pruned,
     } = handed;
     let item = |bytes: &[u8], at: u128| {
         let byte = bytes.get(usize::try_from(at).ok()?)?;
@@ -91,6 +97,7 @@ fn all_places(number: u32, handed: &Handed) -> Option<Vec<u128>> {
     let edge = |j: u128| Some((byte(4 + j)?, byte(4 + e()? + j)?));
     let start = |a: u128| byte(4 + 2 * e()? + a);
     let goal = |a: u128| byte(4 + 2 * e()? + k()? + a);
+    let edges = || Some((0..e()?).filter_map(edge).collect::<Vec<_>>());
     let plan_length = || Some((m + 1) * k()?);
     let variables = || Some(n()? * plan_length()?);
 
@@ -127,6 +134,14 @@ fn all_places(number: u32, handed: &Handed) -> Option<Vec<u128>> {
         12 => {
             let counts = clause_counts(n()?, k()?, m);
             let needed = match clause {
+                None if pruned => {
+                    let edges = edges()?;
+                    let mut count = 0;
+                    for a in 0..k()? {
+                        count += ruled_out(n()?, m, &edges, start(a)?, goal(a)?);
+                    }
+                    word_count(n()?, k()?, e()?, m) + 2 * count
+                }
                 None => word_count(n()?, k()?, e()?, m),
                 // No clause of this number: none fits a slice that the shortest, of one literal, does not fit.
                 Some(number) if u128::from(number) >= counts.iter().sum() => 2,
@@ -245,9 +260,51 @@ fn all_places(number: u32, handed: &Handed) -> Option<Vec<u128>> {
             let once = |variable: &u128| times.get(variable) == Some(&1);
             (1..=variables()?).filter(|x| !once(x)).collect()
         }
+        30 => {
+            let edges = edges()?;
+            let reached = |a: u128| Some(distances(&edges, start(a)?).contains_key(&goal(a)?));
+            let agents = (0..k()?).filter(|&a| reached(a) == Some(false));
+            let from = 4 + 2 * e()? + k()?;
+            agents.map(|a| from + a).collect()
+        }
         _ => panic!("there is no number {number}"),
     };
     Some(places)
+}
+
+/// The distances from a vertex to those that can be reached: each round over the
+/// edges finds those one further.
+fn distances(edges: &[(u128, u128)], from: u128) -> BTreeMap<u128, u128> {
+    let mut found = BTreeMap::from([(from, 0)]);
+    let mut further = 0;
+    loop {
+        let before = found.clone();
+        further += 1;
+        for &(low, high) in edges {
+            for (v, w) in [(low, high), (high, low)] {
+                if before.contains_key(&v) && !before.contains_key(&w) {
+                    found.insert(w, further);
+                }
+            }
+        }
+        if found.len() == before.len() {
+            return found;
+        }
+    }
+}
+
+/// How many clauses of family H an agent has. It may be at a vertex from the
+/// time when it can first be there to the last from which it still comes to its
+/// goal.
+fn ruled_out(n: u128, m: u128, edges: &[(u128, u128)], start: u128, goal: u128) -> u128 {
+    let (from_start, from_goal) = (distances(edges, start), distances(edges, goal));
+    let open = |v: u128| {
+        let (Some(first), Some(rest)) = (from_start.get(&v), from_goal.get(&v)) else {
+            return 0;
+        };
+        (m + 1).saturating_sub(first + rest)
+    };
+    (0..n).map(|v| m + 1 - open(v)).sum()
 }
 
 /// Only an accepted instance has clauses.

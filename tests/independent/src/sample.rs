@@ -131,6 +131,78 @@ impl Generator {
         next
     }
 
+    /// The edges of some map of `n` vertices, in stored order: one in which the
+    /// ways are long, one in several parts, one with many ways, any other.
+    pub fn map(&mut self, n: usize) -> Vec<(u8, u8)> {
+        let size = n as u8;
+        let mut edges: Vec<(u8, u8)> = match self.below(9) {
+            0 | 1 => path_edges(size),
+            2 => path_edges(size)
+                .into_iter()
+                .chain([(0, size - 1)])
+                .collect(),
+            // A tree, in which later vertices hang on one of the three before.
+            3 => (1..size)
+                .map(|w| (w - 1 - self.below(w.min(3).into()) as u8, w))
+                .collect(),
+            4 => (0..size - 1).map(|v| (v, size - 1)).collect(),
+            5 => {
+                let side = (1..=8).rfind(|side| side * side <= n).unwrap_or(1);
+                grid_edges(side as u8)
+            }
+            6 => all_edges(n),
+            // A few edges for each vertex, or fewer.
+            7 => self.edges(n, 150 / n),
+            _ => self.edges(n, 300 / n),
+        };
+        if self.chance(30) {
+            // Some are closed.
+            for _ in 0..1 + self.below(3) {
+                if !edges.is_empty() {
+                    edges.remove(self.below(edges.len()));
+                }
+            }
+        }
+        if self.chance(60) {
+            // Other numbers for the vertices.
+            let names = self.vertices(n, n);
+            for (low, high) in &mut edges {
+                let (v, w) = (names[usize::from(*low)], names[usize::from(*high)]);
+                (*low, *high) = (v.min(w), v.max(w));
+            }
+        }
+        edges.retain(|(low, high)| low < high);
+        edges.sort_unstable();
+        edges.dedup();
+        edges
+    }
+
+    /// An accepted instance on some map; most goals can be reached.
+    pub fn mapped(&mut self, n: usize, k: usize) -> Vec<u8> {
+        let edges = self.map(n);
+        let starts = self.vertices(n, k);
+        let mut goals = self.vertices(n, k);
+        match self.below(6) {
+            0 => goals.clone_from(&starts),
+            // Each goal is moved to where one can go from its start, if no other goal is
+            // there: anywhere, or as far as can be.
+            kind @ 1..=4 => {
+                for a in 0..k {
+                    let mut free = reached(&edges, starts[a]);
+                    free.retain(|v| !goals.contains(v));
+                    if let Some(&furthest) = free.last() {
+                        goals[a] = match kind {
+                            1 => furthest,
+                            _ => free[self.below(free.len())],
+                        };
+                    }
+                }
+            }
+            _ => {}
+        }
+        instance_bytes(n, &edges, &starts, &goals)
+    }
+
     /// Gives one byte another value and tells which; none in an empty slice.
     pub fn damage(&mut self, bytes: &mut [u8]) -> Option<usize> {
         if bytes.is_empty() {
@@ -162,6 +234,43 @@ pub fn all_edges(n: usize) -> Vec<(u8, u8)> {
     (0..n as u8)
         .flat_map(|v| (v + 1..n as u8).map(move |w| (v, w)))
         .collect()
+}
+
+/// The path 0-1-2-.. of `n` vertices.
+pub fn path_edges(n: u8) -> Vec<(u8, u8)> {
+    (1..n).map(|w| (w - 1, w)).collect()
+}
+
+/// A grid of `side` times `side` vertices, row by row.
+pub fn grid_edges(side: u8) -> Vec<(u8, u8)> {
+    let n = side * side;
+    let mut edges = Vec::new();
+    for v in 0..n {
+        if v % side + 1 < side {
+            edges.push((v, v + 1));
+        }
+        if v + side < n {
+            edges.push((v, v + side));
+        }
+    }
+    edges
+}
+
+/// The vertices to which edges lead from this one, itself first, the furthest last.
+fn reached(edges: &[(u8, u8)], from: u8) -> Vec<u8> {
+    let mut reached = vec![from];
+    let mut at = 0;
+    while at < reached.len() {
+        for &(low, high) in edges {
+            for (v, w) in [(low, high), (high, low)] {
+                if v == reached[at] && !reached.contains(&w) {
+                    reached.push(w);
+                }
+            }
+        }
+        at += 1;
+    }
+    reached
 }
 
 /// The instance bytes; nothing is checked.

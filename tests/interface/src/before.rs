@@ -13,12 +13,8 @@ use std::process::{exit, Command, Stdio};
 use std::time::Duration;
 
 /// The most that a call may take of its time with the earlier library. A call that is not here has no target; each
-/// landing sets its own, and S-3 has none.
+/// landing sets its own, and S-4 has none.
 const TARGETS: [(&str, &str, f64); 0] = [];
-
-/// The calls whose count this landing changes: where one of them accepts, the counts are not compared.
-const COUNT_CHANGED: [&str; 1] = ["plan check"];
-const ACCEPTED: &str = "Answer { number: 0, ";
 
 /// Each program runs so often for a call, and samples it for so long at least.
 const TURNS: usize = 20;
@@ -36,7 +32,7 @@ const NO_CALL: &str = "no such call";
 type Print = fn(&Row);
 
 /// The calls, in the order of the table.
-const CALLS: [(&str, Print); 7] = [
+const CALLS: [(&str, Print); 9] = [
     ("writer", writer),
     ("instance check", instance_check),
     ("plan check", plan_check),
@@ -44,6 +40,8 @@ const CALLS: [(&str, Print); 7] = [
     ("encoder", encoder),
     ("reader", reader),
     ("one clause F", clause),
+    ("floor", floor),
+    ("pruned writer", pruned_writer),
 ];
 
 /// The input that a call gets, and whether it is timed.
@@ -142,6 +140,25 @@ fn clause(row: &Row) {
     }
 }
 
+fn floor(row: &Row) {
+    let instance = &row.input.instance[..];
+    if library::floor(instance).number == ABSENT {
+        return println!("{NO_CALL}");
+    }
+    row.print::<u8, _>(Vec::new(), |_| library::floor(black_box(instance)));
+}
+
+fn pruned_writer(row: &Row) {
+    let (instance, m) = (&row.input.instance[..], row.input.m);
+    let needed = library::write_pruned(instance, m, &mut []);
+    if needed.number == ABSENT {
+        return println!("{NO_CALL}");
+    }
+    row.print(vec![1; needed.second as usize], |words| {
+        library::write_pruned(black_box(instance), m, words)
+    });
+}
+
 /// The lines that a program prints for a call. It is copied first: where the pages of a file lie in memory may change a
 /// time by some hundredths, and stays the same from run to run.
 fn seen(program: &Path, asked: &str, call: &str, instance: &str) -> Vec<String> {
@@ -169,24 +186,12 @@ fn rows() -> impl Iterator<Item = Names> {
         .flat_map(move |(call, _)| names.map(|name| (call, name)))
 }
 
-/// What must agree of a line that a program prints: all of it, or that the call accepts.
-fn compared(call: &str, line: String) -> String {
-    if COUNT_CHANGED.contains(&call) && line.starts_with(ACCEPTED) {
-        ACCEPTED.to_string()
-    } else {
-        line
-    }
-}
-
 /// Ends the benchmark if the program with the earlier library gives another answer or leaves other words. Gives the rows
 /// of the calls that the earlier library has.
 pub fn agree(now: &Path, before: &Path) -> Vec<Names> {
     let mut had = Vec::new();
     for (call, instance) in rows() {
-        let [now, before] = [now, before].map(|program| {
-            let lines = seen(program, ANSWER, call, instance).into_iter();
-            lines.map(|line| compared(call, line)).collect::<Vec<_>>()
-        });
+        let [now, before] = [now, before].map(|program| seen(program, ANSWER, call, instance));
         if before == [NO_CALL] {
             continue;
         }
@@ -208,11 +213,8 @@ pub fn compare(now: &Path, before: &Path, had: &[Names]) {
     let absent: String = absent
         .map(|call| format!("; it has no {}", call.0))
         .collect();
-    let changed = COUNT_CHANGED
-        .map(|call| format!(", but for the {call}'s count, which this landing changes"));
     println!(
-        "\nThe earlier library gave the same answers and words{}{absent}. The best of {TURNS} turns:\n",
-        changed.concat()
+        "\nThe earlier library gave the same answers and words{absent}. The best of {TURNS} turns:\n"
     );
     println!(
         "{:<14} {:<8} {:>9} {:>9} {:>6} {:>6}",

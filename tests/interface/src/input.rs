@@ -3,24 +3,15 @@
 pub use independent::parts::{malform, Parts};
 
 use independent::parts::enter_occupied;
-use independent::sample::Generator;
+use independent::sample::{grid_edges, Generator};
 
 /// A grid of `side` times `side` vertices, with `k` agents that walk `m` valid steps.
 pub fn grid_walk(g: &mut Generator, side: u8, k: usize, m: usize) -> (Vec<u8>, Vec<u8>) {
     let n = side * side;
-    let mut edges = Vec::new();
-    for v in 0..n {
-        if v % side + 1 < side {
-            edges.push((v, v + 1));
-        }
-        if v + side < n {
-            edges.push((v, v + side));
-        }
-    }
     let starts = g.vertices(usize::from(n), k);
     let mut parts = Parts {
         n: usize::from(n),
-        edges,
+        edges: grid_edges(side),
         goals: starts.clone(),
         starts,
     };

@@ -1,6 +1,6 @@
-//! The six calls of include/runglaet.h, safe to call from Rust.
+//! The eight calls of include/runglaet.h, safe to call from Rust.
 
-/// The answer of every call but the writer.
+/// The answer of every call but the writers.
 #[repr(C)]
 #[derive(Debug, Clone, Copy, PartialEq, Eq)]
 pub struct Answer {
@@ -10,7 +10,7 @@ pub struct Answer {
     pub second: u64,
 }
 
-/// The writer's answer.
+/// The writers' answer.
 #[repr(C)]
 #[derive(Debug, Clone, Copy, PartialEq, Eq)]
 pub struct Written {
@@ -75,6 +75,16 @@ extern "C" {
         entries: *mut i32,
         entries_len: usize,
     ) -> Answer;
+
+    fn runglaet_floor(instance: *const u8, instance_len: usize) -> Answer;
+
+    fn runglaet_write_pruned(
+        instance: *const u8,
+        instance_len: usize,
+        horizon: u64,
+        words: *mut i32,
+        words_len: usize,
+    ) -> Written;
 }
 
 /// The bytes of a solver's text that are read; a longer one is refused.
@@ -164,6 +174,24 @@ pub fn read_valuation(instance: &[u8], horizon: u64, text: &[u8], entries: &mut 
             text.len(),
             entries.as_mut_ptr(),
             entries.len(),
+        )
+    }
+}
+
+/// The least horizon at which a plan could be: the count is the greatest distance from a start to its goal, in edges.
+pub fn floor(instance: &[u8]) -> Answer {
+    unsafe { runglaet_floor(instance.as_ptr(), instance.len()) }
+}
+
+/// Writes the formula and after it family H, what the distances rule out; the count is all their words.
+pub fn write_pruned(instance: &[u8], horizon: u64, words: &mut [i32]) -> Written {
+    unsafe {
+        runglaet_write_pruned(
+            instance.as_ptr(),
+            instance.len(),
+            horizon,
+            words.as_mut_ptr(),
+            words.len(),
         )
     }
 }

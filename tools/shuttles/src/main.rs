@@ -2,6 +2,7 @@
 
 mod clause;
 mod description;
+mod dimacs;
 mod errors;
 mod horizon;
 mod map;
@@ -23,7 +24,9 @@ use std::process::ExitCode;
 
 const USAGE: &str = "\
 shuttles instance DESCRIPTION                  instance bytes of a description, to standard output
+shuttles floor INSTANCE                        how short a plan could be: no plan of a smaller makespan passes
 shuttles input INSTANCE M                      what the formula program reads: the byte M, then the instance bytes
+shuttles pruned INSTANCE M                     the formula with family H as DIMACS text, to standard output
 shuttles decode INSTANCE M < OUTPUT            the plan that a solver's output names, checked and shown
 shuttles encode INSTANCE M PLAN...             the valuation of a plan, written as a solver writes it
 shuttles check INSTANCE M PLAN...              checks a plan of makespan M
@@ -35,6 +38,8 @@ A PLAN is numbers, row by row: the vertex of each agent at time 0, then at time 
 PLAN - reads the numbers from standard input. `decode --numbers` writes a plan in this form.
 The cost of a plan is the sum of its agents' times until rest: from then on the agent stays where it is. Waiting on the
 way counts.
+Family H forbids each agent, at each time, the vertices further from its start than the steps so far and those further
+from its goal than the steps left. The formula with it has the same satisfying valuations, so the same plans.
 OUTPUT is the text of the SAT competitions, as cadical and picosat print it. Minisat's result file is brought into that
 form first, and so is what cryptominisat prints where a v line ends with a space or it gave up; a note on standard error
 says so.
@@ -72,7 +77,9 @@ fn main() -> ExitCode {
 fn run(words: &[&str]) -> Outcome {
     match *words {
         ["instance", description] => make_instance(description),
+        ["floor", instance] => floor(instance),
         ["input", instance, horizon] => input(instance, horizon),
+        ["pruned", instance, horizon] => pruned(instance, horizon),
         ["decode", "--numbers", instance, horizon] => decode(instance, horizon, true),
         ["decode", instance, horizon] => decode(instance, horizon, false),
         ["encode", instance, horizon, ref plan @ ..] => encode(instance, horizon, plan),
@@ -106,17 +113,48 @@ fn make_instance(path: &str) -> Outcome {
     Ok((map::read_description(path)?.bytes, DONE))
 }
 
+fn floor(instance: &str) -> Outcome {
+    let map = map::read(instance)?;
+    let answer = runglaet::floor(&map.bytes);
+    if answer.number != 0 {
+        let map = Some(&map);
+        return refused(
+            answer,
+            Subject {
+                map,
+                ..Subject::default()
+            },
+        );
+    }
+    said(format!("makespan at least {}\n", answer.second), DONE)
+}
+
 fn input(instance: &str, horizon: &str) -> Outcome {
     let (map, horizon) = (map::read(instance)?, Horizon::read(horizon));
     let answer = instance_answer(&map, &horizon);
     if answer.number != 0 {
-        // Standard output is for bytes alone.
-        complain(&refusals::describe(answer, about(&map, &horizon)));
-        return Ok((Vec::new(), REFUSED));
+        return refused_aside(answer, about(&map, &horizon));
     }
     let mut bytes = vec![horizon.value as u8];
     bytes.extend(map.bytes);
     Ok((bytes, DONE))
+}
+
+fn pruned(instance: &str, horizon: &str) -> Outcome {
+    let (map, horizon) = (map::read(instance)?, Horizon::read(horizon));
+    // An empty slice is too small for every formula, so a 12 tells the words needed.
+    let mut words = Vec::new();
+    let mut answer = runglaet::write_pruned(&map.bytes, horizon.value, &mut words);
+    if answer.number == refusals::TOO_SMALL {
+        words = vec![0; answer.second as usize];
+        answer = runglaet::write_pruned(&map.bytes, horizon.value, &mut words);
+    }
+    let (number, second) = (answer.number, answer.second);
+    if number != 0 {
+        return refused_aside(Answer { number, second }, about(&map, &horizon));
+    }
+    let text = dimacs::text(map.variables(&horizon), answer.clauses, &words);
+    Ok((text, DONE))
 }
 
 fn decode(instance: &str, horizon: &str, numbers: bool) -> Outcome {
@@ -231,6 +269,12 @@ fn refused(answer: Answer, subject: Subject) -> Outcome {
         format!("{}\n", refusals::describe(answer, subject)),
         REFUSED,
     )
+}
+
+/// Where standard output is for bytes or a formula alone.
+fn refused_aside(answer: Answer, subject: Subject) -> Outcome {
+    complain(&refusals::describe(answer, subject));
+    Ok((Vec::new(), REFUSED))
 }
 
 fn said(text: String, status: u8) -> Outcome {

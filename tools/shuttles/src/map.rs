@@ -146,7 +146,11 @@ mod tests {
 
     #[test]
     fn byte_order_marks() {
-        for bytes in [&b"\xef\xbb\xbfvertices 2"[..], b"\xff\xfev\0", b"\xfe\xff\0v"] {
+        for bytes in [
+            &b"\xef\xbb\xbfvertices 2"[..],
+            b"\xff\xfev\0",
+            b"\xfe\xff\0v",
+        ] {
             assert_eq!(marked(bytes).unwrap_err().kind, Kind::ByteOrderMark);
         }
         assert_eq!(marked(b"\x02\x01\x01\x00"), Ok(()));

@@ -168,6 +168,15 @@ fn endpoint(
     Some(format!("{} {does} at vertex {v}, {fault}", map.agent(a)))
 }
 
+pub fn unreachable(subject: Subject, place: usize) -> Option<String> {
+    let map = subject.map?;
+    let a = place.checked_sub(map.goal_offset())?;
+    let (agent, start, goal) = (map.agent(a), map.start(a)?, map.goal(a)?);
+    Some(format!(
+        "{agent} from vertex {start} to vertex {goal}, so there is no plan of any makespan"
+    ))
+}
+
 // The horizon, and what is too short or too long
 
 pub fn horizon(subject: Subject, _: usize) -> Option<String> {

@@ -38,7 +38,11 @@ pub const REFUSALS: &[(u32, &str, &str, Terms)] = &[
     (27, "the solver's text is not of the form that is read", "the first byte of a wrong line, the text's length, or 524288", places::text_form),
     (28, "the solver's verdict is not SATISFIABLE", "the first byte of the s line", places::verdict),
     (29, "a variable is missing from the solver's text, or is there more than once", "a variable", places::variable_given),
+    (30, "an agent's goal cannot be reached from its start by any path", "a byte of the instance", places::unreachable),
 ];
+
+/// The refusal of a slice for words that is too small, which tells how many are needed.
+pub const TOO_SMALL: u32 = 12;
 
 /// The refusal of a verdict, which may say that there is no plan.
 pub const VERDICT: u32 = 28;
@@ -110,6 +114,21 @@ mod tests {
             ("vertices 1\nagent 0 1", "9: agent 0 (line 2) has its goal at vertex 1, the map has only vertex 0 (place 5)"),
         ] {
             assert_eq!(refused(&description::map(text).unwrap(), "1", &[]), expected);
+        }
+    }
+
+    #[rustfmt::skip] // a line a refusal
+    #[test]
+    fn floors() {
+        for (text, expected) in [
+            ("vertices 2\nagent 0 1\nagent 1 1", "refused 9: an agent's goal is not on the map, or is an earlier agent's too: agent 1 (line 3) has its goal at vertex 1, as agent 0 (line 2) does (place 7)"),
+            ("vertices 2\nagent 0 1", "refused 30: an agent's goal cannot be reached from its start by any path: agent 0 (line 2) from vertex 0 to vertex 1, so there is no plan of any makespan (place 5)"),
+            ("grid 1 3\nvertices 1\nagent 0 1\nagent 3 2\nagent 2 3", "refused 30: an agent's goal cannot be reached from its start by any path: agent 1 (line 4) from vertex 3 to vertex 2, so there is no plan of any makespan (place 12)"),
+        ] {
+            let map = description::map(text).unwrap();
+            let answer = runglaet::floor(&map.bytes);
+            let subject = Subject { map: Some(&map), ..Subject::default() };
+            assert_eq!(describe(answer, subject), expected);
         }
     }
 
@@ -222,6 +241,7 @@ mod tests {
             (27, 45, "refused 27: the solver's text is not of the form that is read: the place is the first byte of a wrong line, the text's length, or 524288 (place 45)"),
             (28, 0, "refused 28: the solver's verdict is not SATISFIABLE: the place is the first byte of the s line (place 0)"),
             (29, 3, "refused 29: a variable is missing from the solver's text, or is there more than once: the place is a variable (place 3)"),
+            (30, 9, "refused 30: an agent's goal cannot be reached from its start by any path: the place is a byte of the instance (place 9)"),
             (36, 5, "refused 36: this tool has no words for refusals of this number (place 5)"),
         ] {
             assert_eq!(describe(Answer { number, second }, Subject::default()), expected);

@@ -2,19 +2,23 @@
 //!
 //! `cases gate DIR` writes DIR/stdin and DIR/stdout, the stored set.
 //! `cases random SEED COUNT DIR` does the same for longer runs, and so do
-//! `small`, `clauses`, `plans`, `valuations` and `texts`, which take all of some
-//! small set. Each prints a line "kind number times" for each answer that occurs.
+//! `small`, `clauses`, `plans`, `valuations`, `texts` and `floors`, which take all
+//! of some small set. Each prints a line "kind number times" for each answer that
+//! occurs.
 
 #![forbid(unsafe_code)]
 
 use independent::costs::{self, Told};
+use independent::floors;
 use independent::output::{damaged, output, padded, some_output, some_text, some_valuation};
 use independent::output::{worked, SHORT_LINES};
 use independent::parts::{enter_occupied, Parts};
 use independent::questions::{failing, question, Handed, Item, ASKED, NUMBERS};
-use independent::sample::{all_edges, instance_bytes, largest_instance, refused_twice, Generator};
+use independent::sample::{all_edges, instance_bytes, largest_instance, path_edges, refused_twice};
+use independent::sample::{grid_edges, Generator};
 use independent::LONGEST_TEXT;
-use independent::{check_plan, clause, decode, encode, plain, read_valuation, write_formula};
+use independent::{check_plan, clause, decode, encode, floor, plain, read_valuation};
+use independent::{write_formula, write_pruned};
 use std::collections::BTreeSet;
 use std::fmt::Write;
 use std::{env, fs, process, slice};
@@ -25,6 +29,8 @@ const PLAN: u8 = 3;
 const DECODER: u8 = 4;
 const ENCODER: u8 = 5;
 const READER: u8 = 6;
+const FLOOR: u8 = 7;
+const PRUNED: u8 = 8;
 
 /// What the program's arrays hold.
 const WORDS: usize = 65_536;
@@ -87,6 +93,9 @@ impl Given {
     fn words(&self) -> usize {
         write_formula(&self.instance, self.m, &mut []).second as usize
     }
+    fn pruned_words(&self) -> usize {
+        write_pruned(&self.instance, self.m, &mut []).second as usize
+    }
     fn clauses(&self) -> u64 {
         clause(&self.instance, self.m, u64::MAX, &mut []).second
     }
@@ -100,12 +109,14 @@ struct Cases {
     random: Generator,
     input: Vec<u8>,
     output: String,
-    times: [[usize; NUMBERS]; 7],
+    times: [[usize; NUMBERS]; 9],
     /// Kinds, with the numbers of two items that failed at once in a case that
     /// says so. Items that go step by step are of one step.
     twice: BTreeSet<(u8, u32, u32)>,
     /// What the accepted plans tell from their costs.
     told: Told,
+    /// What floors and families H tell from wrong ones.
+    told_floors: floors::Told,
 }
 
 impl Cases {
@@ -119,8 +130,10 @@ impl Cases {
         lent: usize,
     ) -> Option<Item> {
         assert!(given.instance.len() + payload.len() <= INPUT);
+        // The floor call gets no horizon.
+        let m = if kind == FLOOR { 0 } else { given.m };
         self.input.push(kind);
-        self.input.extend(given.m.to_le_bytes());
+        self.input.extend(m.to_le_bytes());
         self.input.extend(number.to_le_bytes());
         self.input
             .extend((given.instance.len() as u16).to_le_bytes());
@@ -129,8 +142,8 @@ impl Cases {
         self.input.extend(&given.instance);
         self.input.extend(payload);
         let room = match kind {
-            WRITER | CLAUSE => lent <= WORDS,
-            PLAN => true,
+            WRITER | CLAUSE | PRUNED => lent <= WORDS,
+            PLAN | FLOOR => true,
             DECODER => lent <= PLAN_BYTES && payload.len() / 4 <= ENTRIES,
             _ => lent <= ENTRIES,
         };
@@ -138,7 +151,7 @@ impl Cases {
             self.output.push_str("skip\n");
             return None;
         }
-        let (b, m) = (&given.instance[..], given.m);
+        let b = &given.instance[..];
         let mut words = lent_words(if kind == DECODER { 0 } else { lent });
         let mut clauses = 0;
         let mut hashed = None;
@@ -169,6 +182,23 @@ impl Cases {
             }
             ENCODER => {
                 let r = encode(b, m, payload, &mut words);
+                (r.number, r.second)
+            }
+            FLOOR => {
+                hashed = Some(1);
+                let r = floor(b);
+                if matches!(r.number, 0 | 30) {
+                    self.told_floors.floor(b, (r.number, r.second));
+                }
+                (r.number, r.second)
+            }
+            PRUNED => {
+                let r = write_pruned(b, m, &mut words);
+                clauses = r.clauses;
+                if r.number == 0 {
+                    let words = &words[..r.second as usize];
+                    self.told_floors.pruned(b, m, words);
+                }
                 (r.number, r.second)
             }
             _ => {
@@ -204,6 +234,14 @@ impl Cases {
 
     fn reader(&mut self, given: &Given, text: &[u8], lent: usize) -> Option<Item> {
         self.put(READER, given, 0, text, lent)
+    }
+
+    fn floor(&mut self, given: &Given) -> Option<Item> {
+        self.put(FLOOR, given, 0, &[], 0)
+    }
+
+    fn pruned(&mut self, given: &Given, lent: usize) -> Option<Item> {
+        self.put(PRUNED, given, 0, &[], lent)
     }
 
     /// A plan for the plan check and, with a slice that turns, for the encoder.
@@ -247,6 +285,20 @@ impl Cases {
             _ => self.random.below(70),
         };
         self.clause(given, number, lent.min(200));
+    }
+
+    /// The pruned writer, with a slice that fits, is short or is longer.
+    fn pruning(&mut self, given: &Given) {
+        let words = given.pruned_words();
+        let lent = match self.random.below(8) {
+            0 => words - 1,
+            1 => words + 2,
+            // Without family H it would fit.
+            2 => given.words(),
+            3 => self.random.below(words),
+            _ => words,
+        };
+        self.pruned(given, lent.min(WORDS));
     }
 
     /// A passing plan and its valuation, whole and damaged.
@@ -359,6 +411,8 @@ impl Cases {
         self.decoder(&given, &[1, -2], 4);
         self.encoder(&given, &plan, 4);
         self.reader(&given, b"s SATISFIABLE\nv 1 -2 0\n", 4);
+        self.floor(&given);
+        self.pruned(&given, 5);
     }
 
     /// A case on which two items fail, each asked by itself; the first is the answer.
@@ -379,12 +433,13 @@ impl Cases {
         };
         let handed = Handed {
             instance: &given.instance,
-            horizon: given.m,
+            horizon: if kind == FLOOR { 0 } else { given.m },
             clause: (kind == CLAUSE).then_some(number),
             plan,
             entries: &entries,
             text,
             lent,
+            pruned: kind == PRUNED,
         };
         for (no, place) in items {
             let places = failing(no, &handed);
@@ -414,6 +469,10 @@ impl Cases {
             self.two(DECODER, &given, 0, &payload_of(&[1, -2]), 4, items);
             self.two(ENCODER, &given, 0, &[0, 1, 0], 4, items);
             self.two(READER, &given, 0, b"s SATISFIABLE\nv 1 -2 0\n", 4, items);
+            if items.iter().all(|item| item.0 != 10) {
+                self.two(FLOOR, &given, 0, &[], 0, items);
+            }
+            self.two(PRUNED, &given, 0, &[], 5, items);
         }
         let given = |n: usize, edges: &[(u8, u8)], starts: &[u8], goals: &[u8], m: u64| Given {
             instance: instance_bytes(n, edges, starts, goals),
@@ -423,6 +482,7 @@ impl Cases {
 
         // The counts of document 01's table at m 33.
         self.two(WRITER, &pair(33), 0, &[], 0, [(10, 0), (12, 472)]);
+        self.two(PRUNED, &pair(33), 0, &[], 475, [(10, 0), (12, 476)]);
         self.two(CLAUSE, &pair(33), 136, &[], 66, [(10, 0), (11, 136)]);
         // There is no clause 8; 12 fails because an empty slice fits none.
         self.two(CLAUSE, &pair(1), 8, &[], 0, [(11, 8), (12, 2)]);
@@ -563,6 +623,18 @@ impl Cases {
         for (given, text, lent, items) in texts {
             self.two(READER, &given, 0, text, lent, items);
         }
+
+        // The path 0-1-2, and vertices 3 and 4 apart: a goal twice and one out of reach, two out of reach.
+        let apart = |starts: &[u8], goals: &[u8]| given(5, &[(0, 1), (1, 2)], starts, goals, 0);
+        let floors: [(&[u8], &[u8], [Item; 2]); 4] = [
+            (&[0, 1, 2], &[3, 1, 1], [(9, 13), (30, 11)]),
+            (&[0, 3], &[3, 3], [(9, 11), (30, 10)]),
+            (&[0, 1], &[3, 4], [(30, 10), (30, 11)]),
+            (&[0, 1, 3, 4], &[2, 3, 0, 4], [(30, 13), (30, 14)]),
+        ];
+        for (starts, goals, items) in floors {
+            self.two(FLOOR, &apart(starts, goals), 0, &[], 0, items);
+        }
     }
 
     /// The same case for both calls that take a plan.
@@ -681,6 +753,8 @@ impl Cases {
             m: m as u64,
         };
         self.formula(&given);
+        self.floor(&given);
+        self.pruning(&given);
         self.walked(&given, &plan);
         // Wrong goals: the last row fails.
         let goals = self.random.vertices(n, k);
@@ -692,8 +766,81 @@ impl Cases {
             m: m as u64,
         };
         self.both(&given, &plan);
+        self.floor(&given);
         let entries = plain::valuation(n, &plan);
         self.decoder(&given, &entries, plan.len());
+    }
+
+    /// Instances whose floors and families H are known beforehand.
+    fn worked_floors(&mut self) {
+        for (instance, item) in floors::worked() {
+            let given = Given { instance, m: 0 };
+            assert_eq!(self.floor(&given), Some(item), "{:?}", given.instance);
+        }
+        for (instance, m, literals) in floors::worked_h() {
+            let given = Given { instance, m };
+            let words = (given.words() + 2 * literals.len()) as u64;
+            let accepted = self.pruned(&given, words as usize);
+            assert_eq!(accepted, Some((0, words)), "{:?}", given.instance);
+            let refused = self.pruned(&given, words as usize - 1);
+            assert_eq!(refused, Some((12, words)), "{:?}", given.instance);
+        }
+    }
+
+    /// Some map of up to `most` vertices; whole, and damaged.
+    fn maps(&mut self, most: usize) {
+        let n = 1 + self.random.below(most);
+        let agents = if self.random.chance(50) { 3 } else { 16 };
+        let k = 1 + self.random.below(n.min(agents));
+        let instance = self.random.mapped(n, k);
+        let least = plain::floor(&instance).unwrap_or(0);
+        // Around the floor, or any.
+        let m = match self.random.below(4) {
+            0 => self.random.below(33),
+            1 => self.random.below(n.min(33)),
+            _ => (least + self.random.below(4)).saturating_sub(1).min(32),
+        };
+        let m = m as u64;
+        let given = Given { instance, m };
+        self.floor(&given);
+        self.pruning(&given);
+        if self.random.chance(20) {
+            let mut instance = given.instance;
+            self.random.damage(&mut instance);
+            let given = Given { instance, m };
+            self.floor(&given);
+            self.pruned(&given, WORDS);
+        }
+    }
+
+    /// A path of n vertices at the horizon m: from one end to the other, to
+    /// vertices around m and around the end, with an edge closed, from any
+    /// vertex to any.
+    fn path(&mut self, n: u8, m: u64) {
+        let near = |v: u64| v.min(u64::from(n) - 1) as u8;
+        let (v, w) = (self.random.below(n.into()), self.random.below(n.into()));
+        let ends = [
+            (0, n - 1),
+            (n - 1, 0),
+            (0, near(m)),
+            (near(m + 1), 0),
+            (near(1), near(m)),
+            (v as u8, w as u8),
+        ];
+        let mut edges = path_edges(n);
+        for (start, goal) in ends {
+            let instance = instance_bytes(n.into(), &edges, &[start], &[goal]);
+            let given = Given { instance, m };
+            self.floor(&given);
+            self.pruning(&given);
+        }
+        if n > 1 {
+            edges.remove(self.random.below(edges.len()));
+            let instance = instance_bytes(n.into(), &edges, &[v as u8], &[w as u8]);
+            let given = Given { instance, m };
+            self.floor(&given);
+            self.pruning(&given);
+        }
     }
 
     /// Plans whose costs are known beforehand.
@@ -753,6 +900,7 @@ impl Cases {
             entries: &[],
             text: &[],
             lent: 0,
+            pruned: false,
         };
         let step = |place: u64| place / k as u64;
         let beside = |&place: &u64| step(place) == step(answer.second);
@@ -781,6 +929,9 @@ impl Cases {
         let plan: Vec<u8> = (0..33).flat_map(|_| 0..16).collect();
         self.writer(&given, WORDS);
         self.writer(&given, WORDS + 1);
+        self.floor(&given);
+        self.pruned(&given, WORDS);
+        self.pruned(&given, WORDS + 1);
         let count = given.clauses();
         for number in [0, 15, 16, 32, 560, count / 2, count - 1, count] {
             self.clause(&given, number, 66);
@@ -815,6 +966,15 @@ impl Cases {
             self.encoder(given, &plan, given.variables());
         }
         self.decoder(given, &plain::valuation(n, &plan), plan.len());
+    }
+
+    /// The pruned writer on one small instance, and the floor, which needs no
+    /// horizon and so comes once.
+    fn small_pruned(&mut self, given: &Given) {
+        if given.m == 0 {
+            self.floor(given);
+        }
+        self.pruning(given);
     }
 
     /// All bytes up to `n` as a plan, one more than the vertices.
@@ -1110,8 +1270,12 @@ fn small_instances() -> Vec<Given> {
 fn gate(cases: &mut Cases) {
     for (index, given) in small_instances().iter().enumerate() {
         // The first 1,131 have up to 3 vertices.
-        if index % if index < 1131 { 2 } else { 41 } == 0 {
+        let step = if index < 1131 { 2 } else { 41 };
+        if index % step == 0 {
             cases.small(given);
+        }
+        if index % (2 * step) == 1 {
+            cases.small_pruned(given);
         }
     }
     for given in small_instances().iter().step_by(3001) {
@@ -1169,14 +1333,28 @@ fn gate(cases: &mut Cases) {
     for _ in 0..30 {
         cases.waiting(9);
     }
+    cases.worked_floors();
+    for _ in 0..60 {
+        cases.maps(6);
+    }
+    for _ in 0..20 {
+        cases.maps(16);
+    }
+    for _ in 0..10 {
+        cases.maps(64);
+    }
+    for (n, m) in [(34, 32), (64, 9)] {
+        cases.path(n, m);
+    }
 }
 
 /// Fails where a kind never gives an answer that it can give, where the items of
 /// two numbers of neighbouring questions or of one question never fail at once,
-/// or where no accepted plan tells a wrong count from the cost.
+/// where no accepted plan tells a wrong count from the cost, or no answer a wrong
+/// floor or family H from the right one.
 fn require_all(cases: &Cases) {
     let mut missing = Vec::new();
-    for kind in WRITER..=READER {
+    for kind in WRITER..=PRUNED {
         let times = &cases.times[usize::from(kind)];
         for &number in [0].iter().chain(asked(kind)) {
             if times[number as usize] == 0 {
@@ -1193,6 +1371,9 @@ fn require_all(cases: &Cases) {
     }
     for name in cases.told.missing() {
         missing.push(format!("no accepted plan tells from the cost: {name}"));
+    }
+    for name in cases.told_floors.missing() {
+        missing.push(format!("no answer tells from the right one: {name}"));
     }
     if !missing.is_empty() {
         eprintln!("{}", missing.join("\n"));
@@ -1227,9 +1408,10 @@ fn main() {
         random: Generator::new(seed.wrapping_mul(0x9E37_79B9_7F4A_7C15) | 1),
         input: Vec::new(),
         output: String::new(),
-        times: [[0; NUMBERS]; 7],
+        times: [[0; NUMBERS]; 9],
         twice: BTreeSet::new(),
         told: Told::default(),
+        told_floors: floors::Told::default(),
     };
     match mode {
         "gate" => {
@@ -1251,12 +1433,18 @@ fn main() {
                 }
                 cases.texts(if i % 4 == 0 { 12 } else { 4 });
                 cases.waiting(if i % 4 == 0 { 32 } else { 9 });
+                cases.maps(if i % 4 == 0 { 64 } else { 12 });
             }
             cases.costs();
             cases.largest(false);
             cases.longest();
         }
-        "small" => small_instances().iter().for_each(|g| cases.small(g)),
+        "small" => {
+            for given in &small_instances() {
+                cases.small(given);
+                cases.small_pruned(given);
+            }
+        }
         "clauses" => {
             let from = cases.random.below(11);
             for given in small_instances().iter().skip(from).step_by(11) {
@@ -1289,9 +1477,43 @@ fn main() {
             cases.worked();
             cases.all_texts(1);
         }
+        "floors" => {
+            cases.worked_floors();
+            // Each with one horizon; some with two agents and each horizon.
+            for (index, given) in instances(5, 1, 0).into_iter().enumerate() {
+                cases.floor(&given);
+                let m = index as u64 % 7;
+                cases.pruning(&Given { m, ..given });
+            }
+            for m in 0..=5 {
+                let from = cases.random.below(13);
+                for given in instances(4, 2, m).iter().skip(from).step_by(13) {
+                    cases.pruning(given);
+                }
+            }
+            for m in 0..=32 {
+                for n in [1, 2, 8, 16, 33, 34, 63, 64] {
+                    cases.path(n, m);
+                }
+            }
+            // Grids, from corner to corner.
+            for side in 1..=8 {
+                let last = side * side - 1;
+                let instance =
+                    instance_bytes(usize::from(last) + 1, &grid_edges(side), &[0], &[last]);
+                for m in 0..=16 {
+                    let given = Given {
+                        instance: instance.clone(),
+                        m,
+                    };
+                    cases.floor(&given);
+                    cases.pruning(&given);
+                }
+            }
+        }
         _ => {
             eprintln!(
-                "cases gate DIR, or cases random|small|clauses|plans|valuations|texts SEED COUNT DIR"
+                "cases gate DIR, or cases random|small|clauses|plans|valuations|texts|floors SEED COUNT DIR"
             );
             process::exit(2);
         }

@@ -1,5 +1,6 @@
 mod cross;
 mod examples;
+mod floors;
 mod questions;
 mod reader;
 
@@ -18,7 +19,7 @@ fn wrote(words: u64, clauses: u64) -> Written {
     }
 }
 
-/// What the writer says when it refuses.
+/// What a writer says when it refuses.
 fn unwritten(number: u32, second: u64) -> Written {
     Written {
         number,

@@ -25,7 +25,7 @@ fn three_paths(starts: &[u8]) -> Vec<u8> {
 /// another agent comes from the first vertex.
 const WAYS: [(u32, u8); 3] = [(20, 1), (25, 0), (26, 2)];
 
-/// The answer of `check_instance`, after seeing that all six calls refuse
+/// The answer of `check_instance`, after seeing that all eight calls refuse
 /// alike and change nothing.
 fn refused(instance: &[u8], horizon: u64) -> Answer {
     let answer = check_instance(instance, horizon);
@@ -47,6 +47,13 @@ fn refused(instance: &[u8], horizon: u64) -> Answer {
     assert_eq!(encode(instance, horizon, &[0, 1], &mut words), answer);
     let text = b"s SATISFIABLE\nv 1 -2 -3 4 0\n";
     assert_eq!(read_valuation(instance, horizon, text, &mut words), answer);
+    assert_eq!(write_pruned(instance, horizon, &mut words), written);
+    if answer.number < 10 {
+        assert_eq!(floor(instance), answer);
+    } else {
+        // It gets no horizon.
+        assert!(matches!(floor(instance).number, 0 | 30));
+    }
     assert_eq!((words, bytes), ([7; 9], [7; 9]));
     answer
 }
@@ -444,6 +451,8 @@ fn any_bytes_get_an_answer() {
         read_valuation(&instance, horizon, &plan, &mut words);
         let text = some_text(&mut random, &[1, -2, -3, 4]);
         read_valuation(&instance, horizon, &text, &mut words);
+        floor(&instance);
+        write_pruned(&instance, horizon, &mut words);
     }
 }
 
@@ -460,7 +469,7 @@ fn size_limits_are_accepted() {
 #[test]
 fn calls_answer_the_first_no() {
     let mut random = Generator::new(23);
-    let mut seen = [[false; NUMBERS]; 6];
+    let mut seen = [[false; NUMBERS]; 8];
     for _ in 0..40_000 {
         let n = 1 + random.below(5);
         let k = 1 + random.below(n.min(3));
@@ -469,6 +478,12 @@ fn calls_answer_the_first_no() {
         let (mut instance, mut plan) = random.walk(n, k, percent, m);
         let mut horizon = m as u64;
         let mut entries = plain::valuation(n, &plan);
+        if random.chance(20) {
+            // Goals that may be out of reach.
+            let goals = random.vertices(n, k);
+            let from = instance.len() - k;
+            instance[from..].copy_from_slice(&goals);
+        }
         let total = clause(&instance, horizon, u64::MAX, &mut []).second;
         let number = random.below(total as usize + 2) as u64;
         if random.chance(20) {
@@ -517,16 +532,22 @@ fn calls_answer_the_first_no() {
                 2 => check_plan(&instance, horizon, &plan),
                 3 => decode(&instance, horizon, &entries, &mut bytes),
                 4 => encode(&instance, horizon, &plan, &mut words),
-                _ => read_valuation(&instance, horizon, &text, &mut words),
+                5 => read_valuation(&instance, horizon, &text, &mut words),
+                6 => floor(&instance),
+                _ => {
+                    let written = write_pruned(&instance, horizon, &mut words);
+                    says(written.number, written.second)
+                }
             };
             let handed = Handed {
                 instance: &instance,
-                horizon,
+                horizon: if call == 6 { 0 } else { horizon },
                 clause: (call == 1).then_some(number),
                 plan: &plan,
                 entries: &entries,
                 text: &text,
                 lent,
+                pruned: call == 7,
             };
             match first_no(numbers, &handed) {
                 Some((number, place)) => assert_eq!(answer, says(number, place)),
@@ -551,6 +572,7 @@ fn compare_occupied(instance: &[u8], horizon: u64, plan: &[u8]) -> (Answer, Vec<
         entries: &[],
         text: &[],
         lent: usize::from(instance[0]) * plan.len(),
+        pruned: false,
     };
     let answer = check_plan(instance, horizon, plan);
     for numbers in [ASKED[2], ASKED[4]] {

@@ -25,6 +25,7 @@ fn read(instance: &[u8], m: u64, text: &[u8], lent: usize) -> (Answer, Vec<i32>)
         entries: &[],
         text,
         lent,
+        pruned: false,
     };
     let written = match first_no(ASKED[5], &handed) {
         Some((number, place)) => {

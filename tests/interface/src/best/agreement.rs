@@ -1,6 +1,7 @@
 //! Each form against the independent program, on inputs right and damaged. A difference ends the benchmark.
 
 use independent::costs::Told;
+use independent::floors;
 use independent::output::{padded, some_text, worked};
 use independent::questions::{ASKED, NUMBERS};
 use independent::sample::Generator;
@@ -69,12 +70,13 @@ pub fn same<T: Clone + PartialEq, A: Debug + PartialEq>(
     answer
 }
 
-/// Compares the six calls in so many random cases; gives the number of comparisons.
+/// Compares the eight calls in so many random cases; gives the number of comparisons.
 pub fn compare_calls(cases: usize) -> usize {
     let mut g = Generator::new(2026);
-    let mut hits = [[0; NUMBERS]; 6];
+    let mut hits = [[0; NUMBERS]; 8];
     let mut falsified = [0; 7];
     let mut told = Told::default();
+    let mut told_floors = floors::Told::default();
     for _ in 0..cases {
         let case = draw(&mut g);
         let (instance, m) = (&case.instance[..], case.horizon);
@@ -145,6 +147,19 @@ pub fn compare_calls(cases: usize) -> usize {
         let text = some_text(&mut g, &entries);
         let lent = vec![7; some_length(&mut g, entries.len())];
         hits[5][compare_readers(instance, m, &text, &lent)] += 2;
+
+        // The instance, and some map at some horizon, whole or damaged.
+        let mut map = g.mapped(case.parts.n, case.parts.k());
+        if g.chance(10) {
+            g.damage(&mut map);
+        }
+        for (instance, m) in [(instance, m), (&map, g.below(33) as u64)] {
+            hits[6][compare_floors(instance, &mut told_floors)] += 3;
+            let needed = independent::write_pruned(instance, m, &mut []).second;
+            let lent = vec![7; some_length(&mut g, needed.min(1 << 18) as usize)];
+            let number = compare_pruned(instance, m, &lent, &mut told_floors);
+            hits[7][number] += 2;
+        }
     }
     // Of the pair: texts with known answers, and some of the greatest length.
     let mut texts: Vec<Vec<u8>> = worked().into_iter().map(|(text, _)| text).collect();
@@ -157,6 +172,9 @@ pub fn compare_calls(cases: usize) -> usize {
     for text in texts {
         hits[5][compare_readers(&[2, 1, 1, 0, 0, 1, 0, 1], 1, &text, &[7; 5])] += 2;
     }
+    for (instance, _) in floors::worked() {
+        hits[6][compare_floors(&instance, &mut told_floors)] += 3;
+    }
     for (hits, numbers) in hits.iter().zip(ASKED) {
         for &number in [0].iter().chain(numbers) {
             assert!(hits[number as usize] > 0, "{number} was never answered");
@@ -164,6 +182,11 @@ pub fn compare_calls(cases: usize) -> usize {
     }
     assert!(falsified.iter().all(|&hits| hits > 0), "{falsified:?}");
     assert_eq!(told.missing(), [""; 0], "no plan tells these from the cost");
+    assert_eq!(
+        told_floors.missing(),
+        [""; 0],
+        "no answer tells these from the right one"
+    );
     hits.iter().flatten().sum()
 }
 
@@ -178,6 +201,41 @@ fn compare_readers(instance: &[u8], m: u64, text: &[u8], lent: &[i32]) -> usize 
         answer.number as usize
     });
     number
+}
+
+/// Compares the three forms of the floor; gives the answer's number.
+fn compare_floors(instance: &[u8], told: &mut floors::Told) -> usize {
+    let forms = [
+        super::floor,
+        super::floor_by_queue,
+        super::floor_from_starts,
+    ];
+    let [answer, ..] =
+        forms.map(|form| same::<u8, _>(&[], |_| form(instance), |_| independent::floor(instance)));
+    if matches!(answer.number, 0 | 30) {
+        told.floor(instance, (answer.number, answer.second));
+    }
+    answer.number as usize
+}
+
+/// Compares both pruned writers; gives the answer's number.
+fn compare_pruned(instance: &[u8], m: u64, lent: &[i32], told: &mut floors::Told) -> usize {
+    let mut written = lent.to_vec();
+    let answer = independent::write_pruned(instance, m, &mut written);
+    for form in [super::write_pruned, super::write_pruned_straight] {
+        same(
+            lent,
+            |words| form(instance, m, words),
+            |words| {
+                words.copy_from_slice(&written);
+                answer
+            },
+        );
+    }
+    if answer.number == 0 {
+        told.pruned(instance, m, &written[..answer.second as usize]);
+    }
+    answer.number as usize
 }
 
 /// Compares what the program prints in so many random cases.

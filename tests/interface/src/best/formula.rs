@@ -1,5 +1,6 @@
-//! The formula writer.
+//! The formula writers.
 
+use super::distances::RuledOut;
 use super::instance::{refuse, Instance};
 use independent::{Answer, Written};
 
@@ -7,18 +8,38 @@ use independent::{Answer, Written};
 type Fill = fn(&Instance, [&mut [i32]; 7]);
 
 pub fn write_formula(instance: &[u8], horizon: u64, words: &mut [i32]) -> Written {
-    written(instance, horizon, words, fill)
+    written(instance, horizon, |instance| write(instance, words, fill))
 }
 
 /// The second form: straight loops.
 pub fn write_formula_straight(instance: &[u8], horizon: u64, words: &mut [i32]) -> Written {
-    written(instance, horizon, words, super::straight::fill)
+    let fill = super::straight::fill;
+    written(instance, horizon, |instance| write(instance, words, fill))
 }
 
+/// Family H too.
+pub fn write_pruned(instance: &[u8], horizon: u64, words: &mut [i32]) -> Written {
+    written(instance, horizon, |instance| {
+        write_with_h(instance, words, fill)
+    })
+}
+
+/// The second form: straight loops for families A to G.
+pub fn write_pruned_straight(instance: &[u8], horizon: u64, words: &mut [i32]) -> Written {
+    let fill = super::straight::fill;
+    written(instance, horizon, |instance| {
+        write_with_h(instance, words, fill)
+    })
+}
+
+/// `write` gives the word count and the clause count.
 #[inline(always)]
-fn written(instance: &[u8], horizon: u64, words: &mut [i32], fill: Fill) -> Written {
-    let written =
-        Instance::read(instance, horizon).and_then(|instance| write(&instance, words, fill));
+fn written(
+    instance: &[u8],
+    horizon: u64,
+    write: impl FnOnce(&Instance) -> Result<(usize, usize), Answer>,
+) -> Written {
+    let written = Instance::read(instance, horizon).and_then(|instance| write(&instance));
     let (number, second, clauses) = match written {
         Ok((count, clauses)) => (0, count as u64, clauses as u64),
         Err(refusal) => (refusal.number, refusal.second, 0),
@@ -30,12 +51,43 @@ fn written(instance: &[u8], horizon: u64, words: &mut [i32], fill: Fill) -> Writ
     }
 }
 
-/// Gives the word count and the clause count.
 #[inline(always)]
 fn write(instance: &Instance, words: &mut [i32], fill: Fill) -> Result<(usize, usize), Answer> {
+    let lengths = lengths(instance);
+    let needed = lengths.iter().sum();
+    if words.len() < needed {
+        return refuse(12, needed);
+    }
+    fill(instance, parts(words, lengths));
+    Ok((needed, instance.clause_counts().iter().sum()))
+}
+
+#[inline(always)]
+fn write_with_h(
+    instance: &Instance,
+    words: &mut [i32],
+    fill: Fill,
+) -> Result<(usize, usize), Answer> {
+    let lengths = lengths(instance);
+    let first: usize = lengths.iter().sum();
+    let ruled_out = RuledOut::new(instance);
+    let needed = first + 2 * ruled_out.clauses;
+    if words.len() < needed {
+        return refuse(12, needed);
+    }
+    let (formula, family_h) = words[..needed].split_at_mut(first);
+    fill(instance, parts(formula, lengths));
+    ruled_out.write(instance.n, family_h);
+    let clauses: usize = instance.clause_counts().iter().sum();
+    Ok((needed, clauses + ruled_out.clauses))
+}
+
+/// Word counts of the families A to G.
+#[inline(always)]
+fn lengths(instance: &Instance) -> [usize; 7] {
     let (n, k, m) = (instance.n, instance.k, instance.m);
-    let counts @ [.., d, e, f, g] = instance.clause_counts();
-    let lengths = [
+    let [.., d, e, f, g] = instance.clause_counts();
+    [
         2 * k,
         2 * k,
         instance.rows() * (n + 1),
@@ -43,19 +95,17 @@ fn write(instance: &Instance, words: &mut [i32], fill: Fill) -> Result<(usize, u
         3 * e,
         3 * f + 2 * m * k * instance.low.len(),
         3 * g,
-    ];
-    let needed = lengths.iter().sum();
-    if words.len() < needed {
-        return refuse(12, needed);
-    }
+    ]
+}
+
+#[inline(always)]
+fn parts(words: &mut [i32], lengths: [usize; 7]) -> [&mut [i32]; 7] {
     let mut rest = words;
-    let parts = lengths.map(|length| {
+    lengths.map(|length| {
         let (part, after) = std::mem::take(&mut rest).split_at_mut(length);
         rest = after;
         part
-    });
-    fill(instance, parts);
-    Ok((needed, counts.iter().sum()))
+    })
 }
 
 /// The families, each block but the first as the one before moved up.

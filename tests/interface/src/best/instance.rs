@@ -100,7 +100,7 @@ impl<'a> Instance<'a> {
 /// From so many edges on, the words are faster to turn than to mark from both ends.
 const MANY: usize = 192;
 
-fn bit(v: u8) -> u64 {
+pub fn bit(v: u8) -> u64 {
     1 << (v & 63)
 }
 

@@ -3,6 +3,7 @@
 
 pub mod agreement;
 mod clause;
+mod distances;
 mod formula;
 mod instance;
 mod plan;
@@ -11,7 +12,8 @@ mod straight;
 mod valuation;
 
 pub use clause::clause;
-pub use formula::{write_formula, write_formula_straight};
+pub use distances::{floor, floor_by_queue, floor_from_starts};
+pub use formula::{write_formula, write_formula_straight, write_pruned, write_pruned_straight};
 pub use plan::{check_instance, check_plan};
 pub use reader::{read_valuation, read_valuation_straight};
 pub use valuation::{decode, encode};

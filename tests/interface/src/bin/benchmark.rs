@@ -15,7 +15,7 @@ mod best;
 use best::agreement::{compare_calls, compare_program, independent_text, printed, same};
 use independent::output::output;
 use independent::plain;
-use independent::sample::Generator;
+use independent::sample::{all_edges, grid_edges, instance_bytes, path_edges, Generator};
 use interface as library;
 use interface::input::{grid_walk, valuation, Parts};
 use std::fs::File;
@@ -41,6 +41,7 @@ type Decoder = fn(&[u8], u64, &[i32], &mut [u8]) -> Said;
 type Encoder = fn(&[u8], u64, &[u8], &mut [i32]) -> Said;
 type Reader = fn(&[u8], u64, &[u8], &mut [i32]) -> Said;
 type OneClause = fn(&[u8], u64, u64, &mut [i32]) -> Said;
+type Floor = fn(&[u8]) -> Said;
 
 /// A call of the library, of the best Rust forms and of the independent program.
 macro_rules! forms {
@@ -59,6 +60,8 @@ const DECODERS: [Decoder; 3] = forms!(decode(instance, m, entries, plan));
 const ENCODERS: [Encoder; 3] = forms!(encode(instance, m, plan, entries));
 const READERS: [Reader; 3] = forms!(read_valuation(instance, m, text, entries));
 const ONE_CLAUSES: [OneClause; 3] = forms!(clause(instance, m, number, words));
+const FLOORS: [Floor; 3] = forms!(floor(instance));
+const PRUNED_WRITERS: [Writer; 3] = forms!(write_pruned(instance, m, words));
 
 struct Input {
     name: &'static str,
@@ -181,6 +184,38 @@ fn inputs() -> [Input; 3] {
             plan: largest_plan,
         },
     ]
+}
+
+/// Maps of 64 vertices for the floor, each with 16 agents: their starts are the first vertices and their goals the last,
+/// the first agent's the very last.
+fn maps() -> [Input; 3] {
+    let (starts, goals): (Vec<u8>, Vec<u8>) = ((0..16).collect(), (48..64).rev().collect());
+    let map = |name, edges: &[(u8, u8)]| Input {
+        name,
+        instance: instance_bytes(64, edges, &starts, &goals),
+        m: 0,
+        plan: Vec::new(),
+    };
+    [
+        map("path64", &path_edges(64)),
+        map("grid64", &grid_edges(8)),
+        map("complete", &all_edges(64)),
+    ]
+}
+
+/// A grid of 8 times 8 vertices. The agents go from the two western columns to the two eastern ones, from each vertex to
+/// the one across the middle: the floor is 14, the horizon too.
+fn grid8() -> Input {
+    let starts: Vec<u8> = (0..16).map(|a| a / 2 * 8 + a % 2).collect();
+    let goals: Vec<u8> = starts.iter().map(|v| 63 - v).collect();
+    let instance = instance_bytes(64, &grid_edges(8), &starts, &goals);
+    assert_eq!(plain::floor(&instance), Some(14));
+    Input {
+        name: "grid8",
+        instance,
+        m: 14,
+        plan: Vec::new(),
+    }
 }
 
 /// Compares the library and the best Rust form with the independent program on an input to be timed.
@@ -378,6 +413,74 @@ fn times_of_text(input: &Input, text: &[u8]) -> [f64; 4] {
     })
 }
 
+/// The floor. The target is held against the faster of two forms that fill a table, on maps alone; then against the other
+/// one and against one without a table.
+fn floor(table: &mut Table, input: &Input, target: Option<f64>) {
+    let instance = &input.instance[..];
+    let [library, by_words, independent] = FLOORS;
+    let by_queue: Floor = |instance| {
+        let answer = best::floor_by_queue(instance);
+        (answer.number, answer.second)
+    };
+    let from_starts: Floor = |instance| {
+        let answer = best::floor_from_starts(instance);
+        (answer.number, answer.second)
+    };
+    let forms = [library, by_words, independent, by_queue, from_starts];
+    for form in forms {
+        same::<u8, _>(&[], |_| form(instance), |_| independent(instance));
+    }
+    let [ours, by_words, independent, by_queue, from_starts] = times(|form| {
+        let said = forms[form](black_box(instance));
+        assert_eq!(said.0, 0);
+    });
+    let mut tables = [
+        (by_words, "  table, rounds as words"),
+        (by_queue, "  table, a queue and lists"),
+    ];
+    tables.sort_by(|x, y| x.0.total_cmp(&y.0));
+    let [(best, note), (other, other_note)] = tables;
+    table.row("floor", input, [ours, best, independent], target, note);
+    table.row("floor", input, [ours, other, independent], None, other_note);
+    let note = "  no table, from the starts alone";
+    table.row("floor", input, [ours, from_starts, independent], None, note);
+}
+
+/// The writer with family H; the target is held against the form that is the writer's best.
+fn pruned_writer(table: &mut Table, input: &Input, target: Option<f64>) {
+    let (instance, m) = (&input.instance[..], input.m);
+    let [library, best, independent] = PRUNED_WRITERS;
+    let straight: Writer = |instance, m, words| {
+        let answer = best::write_pruned_straight(instance, m, words);
+        (answer.number, answer.second)
+    };
+    let (_, needed) = independent(instance, m, &mut []);
+    let forms = [library, best, independent, straight];
+    let mut words = vec![1; needed as usize];
+    for form in forms {
+        let model = |words: &mut [i32]| independent(instance, m, words);
+        same(&words, |words| form(instance, m, words), model);
+    }
+    let [ours, best, independent, straight] = times(|form| {
+        black_box(forms[form](black_box(instance), m, &mut words));
+    });
+    table.row(
+        "pruned writer",
+        input,
+        [ours, best, independent],
+        target,
+        "",
+    );
+    let note = "  against straight loops";
+    table.row(
+        "pruned writer",
+        input,
+        [ours, straight, independent],
+        None,
+        note,
+    );
+}
+
 /// The middle and the last clause of each family, summed; then the dearest against our own instance check.
 fn clause(table: &mut Table, input: &Input) {
     let (instance, m) = (&input.instance[..], input.m);
@@ -476,6 +579,16 @@ fn main() {
         for input in &inputs {
             call(&mut table, input);
         }
+    }
+    for input in &inputs[..2] {
+        floor(&mut table, input, None);
+    }
+    for input in &maps() {
+        floor(&mut table, input, Some(1.2));
+    }
+    for input in inputs.iter().chain([&grid8()]) {
+        let target = matches!(input.name, "largest" | "grid8").then_some(1.2);
+        pruned_writer(&mut table, input, target);
     }
     let file = std::env::temp_dir().join(format!("runglaet_benchmark_{}", std::process::id()));
     for input in &inputs {

@@ -1,34 +1,40 @@
 //! Compares the library with the independent program, through the C interface.
 //!
-//! compare [SEED [COUNT [FIRST]]]: texts and plans with known answers, every small instance, the largest one and COUNT
-//! random cases; with FIRST only COUNT random cases from that one on.
+//! compare [SEED [COUNT [FIRST]]]: texts, plans and maps with known answers, every small instance, the largest one and
+//! COUNT random cases; with FIRST only COUNT random cases from that one on.
 
 #![forbid(unsafe_code)]
 
 use independent::costs::{self, Told};
+use independent::floors;
 use independent::output::{damaged, output, padded, some_output, some_text, worked, WORKED};
 use independent::questions::{ASKED, NUMBERS};
-use independent::sample::{all_edges, instance_bytes, largest_instance, Generator};
+use independent::sample::Generator;
+use independent::sample::{all_edges, grid_edges, instance_bytes, largest_instance, path_edges};
 use independent::LONGEST_TEXT;
 use interface::input::*;
 use std::fmt::Debug;
 use std::hint::black_box;
 use std::time::Instant;
 
-const NAMES: [&str; 6] = ["writer", "clause", "check", "decoder", "encoder", "reader"];
+const NAMES: [&str; 8] = [
+    "writer", "clause", "check", "decoder", "encoder", "reader", "floor", "pruned",
+];
 const WRITER: usize = 0;
 const CLAUSE: usize = 1;
 const CHECK: usize = 2;
 const DECODER: usize = 3;
 const ENCODER: usize = 4;
 const READER: usize = 5;
+const FLOOR: usize = 6;
+const PRUNED: usize = 7;
 
 /// Can the call give this number? 0 is accepted.
 fn gives(call: usize, number: usize) -> bool {
     number == 0 || ASKED[call].contains(&(number as u32))
 }
 
-/// An answer of either program; its clauses are 0 but for the writer's.
+/// An answer of either program; its clauses are 0 but for the writers'.
 #[derive(Clone, Copy, Debug, PartialEq)]
 struct Said {
     number: u32,
@@ -127,12 +133,14 @@ struct Run {
     /// Items kept before each lent slice in this case.
     before: usize,
     /// Calls that gave each number.
-    hits: [[u64; NUMBERS]; 6],
+    hits: [[u64; NUMBERS]; 8],
     /// By family: clauses given, and clauses that refusal 24 named.
     given: [u64; 7],
     falsified: [u64; 7],
     /// What the accepted plans tell from their costs.
     told: Told,
+    /// What floors and families H tell from wrong ones.
+    told_floors: floors::Told,
     /// Accepted plans and valuations that came back as they were.
     round_trips: u64,
 }
@@ -197,7 +205,7 @@ impl Run {
             );
         }
         let filled = match answer.number {
-            0 if asked.call != CHECK => answer.second as usize,
+            0 if !matches!(asked.call, CHECK | FLOOR) => answer.second as usize,
             _ => 0,
         };
         if filled > length {
@@ -386,6 +394,87 @@ impl Run {
         result
     }
 
+    fn floor(&mut self, instance: &[u8]) -> Said {
+        let asked = Asked {
+            call: FLOOR,
+            instance,
+            horizon: 0,
+            clause: None,
+            plan: None,
+            entries: None,
+            text: None,
+        };
+        let (answer, _) = self.both::<u8, _, _>(
+            &asked,
+            0,
+            |instance, _| runglaet::floor(instance),
+            |instance, _| independent::floor(instance),
+        );
+        if matches!(answer.number, 0 | 30) && self.tells(instance) {
+            let item = (answer.number, answer.second);
+            self.told_floors.floor(instance, item);
+        }
+        answer
+    }
+
+    /// To tell wrong programs takes long: of the random cases some are enough, none with many vertices.
+    fn tells(&self, instance: &[u8]) -> bool {
+        self.part != "random" || self.case.is_multiple_of(4) && instance[0] <= 16
+    }
+
+    fn write_pruned(&mut self, instance: &[u8], horizon: u64, length: usize) -> (Said, Vec<i32>) {
+        let asked = Asked {
+            call: PRUNED,
+            instance,
+            horizon,
+            clause: None,
+            plan: None,
+            entries: None,
+            text: None,
+        };
+        let (answer, words) = self.both(
+            &asked,
+            length,
+            |instance, words| runglaet::write_pruned(instance, horizon, words),
+            |instance, words| independent::write_pruned(instance, horizon, words),
+        );
+        if answer.number != 0 && answer.clauses != 0 {
+            self.fail(&asked, "a refusal counts clauses");
+        }
+        if answer.number == 0 && self.tells(instance) {
+            let words = &words[..answer.second as usize];
+            self.told_floors.pruned(instance, horizon, words);
+        }
+        (answer, words)
+    }
+
+    /// The pruned formula in an exact slice and in slices too short. It must begin with the formula, and what is after it
+    /// be a clause of one negative literal each.
+    fn pruned(&mut self, instance: &[u8], m: u64) {
+        let needed = self.write_pruned(instance, m, 0).0.second as usize;
+        self.write_pruned(instance, m, needed - 1);
+        let (pruned, all) = self.write_pruned(instance, m, needed);
+        let first = self.write(instance, m, 0).0.second as usize;
+        let (formula, words) = self.write(instance, m, first);
+        let family_h = all[first..].chunks_exact(2);
+        let clauses = formula.clauses + family_h.len() as u64;
+        let right = |clause: &[i32]| clause[0] < 0 && clause[1] == 0;
+        if all[..first] != words[..] || pruned.clauses != clauses || !family_h.clone().all(right) {
+            let asked = Asked {
+                call: PRUNED,
+                instance,
+                horizon: m,
+                clause: None,
+                plan: None,
+                entries: None,
+                text: None,
+            };
+            self.fail(&asked, "it is not the formula and clauses of one literal");
+        }
+        // Without family H it would fit.
+        self.write_pruned(instance, m, first);
+    }
+
     /// All calls that take a plan, and the way to a valuation and back.
     fn plan(&mut self, instance: &[u8], horizon: u64, plan: &[u8], length: usize) {
         let checked = self.check(instance, horizon, plan);
@@ -446,7 +535,7 @@ impl Run {
         }
     }
 
-    /// Texts with known answers, for the pair at m 1, and plans with known costs.
+    /// Texts with known answers, for the pair at m 1, plans with known costs, and maps with known floors and families H.
     fn worked(&mut self) {
         self.part = "worked";
         let pair = [2, 1, 1, 0, 0, 1, 0, 1];
@@ -463,6 +552,62 @@ impl Run {
             self.case += 1;
             assert_eq!(self.check(&instance, m, &plan), Said::new(0, cost, 0));
             self.plan(&instance, m, &plan, usize::from(instance[0]) * plan.len());
+        }
+        for (instance, (number, second)) in floors::worked() {
+            self.case += 1;
+            assert_eq!(self.floor(&instance), Said::new(number, second, 0));
+        }
+        for (instance, m, literals) in floors::worked_h() {
+            self.case += 1;
+            let (formula, _) = self.write(&instance, m, 0);
+            let words = formula.second as usize + 2 * literals.len();
+            let (answer, written) = self.write_pruned(&instance, m, words + 1);
+            assert_eq!((answer.number, answer.second), (0, words as u64));
+            let family_h = written[formula.second as usize..words].iter().step_by(2);
+            assert!(family_h.eq(&literals));
+            self.pruned(&instance, m);
+        }
+    }
+
+    /// Long paths, in one part and in two, and grids, at all horizons around their floors and some others.
+    fn maps(&mut self) {
+        self.part = "maps";
+        self.case = 0;
+        for n in 1..=64u8 {
+            let mut edges = path_edges(n);
+            let last = n - 1;
+            for closed in [false, true] {
+                for (start, goal) in [(0, last), (last, 0), (last / 3, last), (last / 2, last / 2)]
+                {
+                    self.case += 1;
+                    self.before = 1 + self.case as usize % 16;
+                    let instance = instance_bytes(n.into(), &edges, &[start], &[goal]);
+                    self.floor(&instance);
+                    let length = u64::from(start.abs_diff(goal));
+                    for m in [0, length.saturating_sub(1), length, length + 1] {
+                        // Of the largest formulas some are enough.
+                        if m < 16 || m <= 32 && n % 8 <= 2 {
+                            self.pruned(&instance, m);
+                        }
+                    }
+                }
+                if closed || edges.is_empty() {
+                    break;
+                }
+                edges.remove(usize::from(last / 2));
+            }
+        }
+        for side in 1..=8u8 {
+            let last = side * side - 1;
+            let edges = grid_edges(side);
+            for (start, goal) in [(0, last), (side - 1, last + 1 - side), (last / 2, 0)] {
+                self.case += 1;
+                let instance = instance_bytes(usize::from(last) + 1, &edges, &[start], &[goal]);
+                self.floor(&instance);
+                for m in [0, 1, 2 * u64::from(side) - 2, 15] {
+                    self.pruned(&instance, m);
+                }
+            }
         }
     }
 
@@ -531,9 +676,13 @@ impl Run {
     fn small_instance(&mut self, n: usize, edges: &[(u8, u8)], starts: &[u8], goals: &[u8]) {
         let k = starts.len();
         let instance = instance_bytes(n, edges, starts, goals);
+        self.floor(&instance);
+        // Beyond every distance too.
+        self.pruned(&instance, 3 + self.case % 3);
         for m in 0..=2usize {
             let horizon = m as u64;
             self.formula(&instance, horizon, starts == goals);
+            self.pruned(&instance, horizon);
             // Every plan whose first row is the starts.
             let mut plans = vec![starts.to_vec()];
             for _ in 0..m {
@@ -570,6 +719,7 @@ impl Run {
             }
         }
         self.write(&instance, 33, 4);
+        self.write_pruned(&instance, 33, 4);
     }
 
     /// n 64, k 16, 2016 edges, m 32.
@@ -586,6 +736,12 @@ impl Run {
             self.write(instance, 32, needed - 1);
             let (answer, words) = self.write(instance, 32, needed + 5);
             assert_eq!(answer.clauses, 1_842_736);
+            // At times 0 and 32 each agent can be at one vertex only.
+            let (answer, _) = self.write_pruned(instance, 32, needed);
+            assert_eq!(answer, Said::new(12, 7_625_296 + 4_032, 0));
+            let (answer, _) = self.write_pruned(instance, 32, needed + 4_032 + 5);
+            assert_eq!(answer, Said::new(0, 7_625_296 + 4_032, 1_842_736 + 2_016));
+            self.floor(instance);
             let mut ends = Vec::new();
             let mut from = 0;
             for count in Parts::of(instance).clause_counts(m) {
@@ -742,6 +898,20 @@ impl Run {
                 self.write(&instance, horizon, length);
             }
         }
+        self.floor(&instance);
+        let needed = independent::write_pruned(&instance, horizon, &mut []);
+        let pruned = match needed.number {
+            12 => needed.second as usize,
+            _ => 28,
+        };
+        let length = match g.below(6) {
+            0 => words,
+            _ => some_length(g, pruned),
+        };
+        if small || length < pruned {
+            self.write_pruned(&instance, horizon, length);
+        }
+        self.some_map(g, n, k);
         let count = independent::clause(&instance, horizon, u64::MAX, &mut []).second;
         for _ in 0..5 {
             let number = match g.below(12) {
@@ -789,7 +959,22 @@ impl Run {
         }
     }
 
-    /// The tables; true when each call gave every number it can, and families and wrong counts all came.
+    /// A map of some kind of this size: the floor, and the pruned writer at a horizon around it, or any.
+    fn some_map(&mut self, g: &mut Generator, n: usize, k: usize) {
+        let instance = g.mapped(n, k);
+        let answer = self.floor(&instance);
+        let most = if n * k > 16 { 4 } else { 33 };
+        let m = match (answer.number, g.below(4)) {
+            (0, 1..) => (answer.second + g.below(3) as u64).saturating_sub(1),
+            _ => g.below(most) as u64,
+        };
+        let m = m.min(most as u64 - 1);
+        let needed = independent::write_pruned(&instance, m, &mut []).second;
+        let length = some_length(g, needed as usize);
+        self.write_pruned(&instance, m, length);
+    }
+
+    /// The tables; true when each call gave every number it can, families all came, and wrong programs were all told.
     fn report(&self) -> bool {
         let mut complete = true;
         print!("{:>8}", "number");
@@ -831,6 +1016,11 @@ impl Run {
         for (name, plans) in self.told.times() {
             println!("{plans:>8}  {name}");
             complete &= plans > 0;
+        }
+        println!("\n{:>8}  tell from the right answer", "answers");
+        for (name, answers) in self.told_floors.times() {
+            println!("{answers:>8}  {name}");
+            complete &= answers > 0;
         }
         println!("\nround trips: {}", self.round_trips);
         complete
@@ -910,10 +1100,11 @@ fn main() {
         part: "",
         case: 0,
         before: 1,
-        hits: [[0; NUMBERS]; 6],
+        hits: [[0; NUMBERS]; 8],
         given: [0; 7],
         falsified: [0; 7],
         told: Told::default(),
+        told_floors: floors::Told::default(),
         round_trips: 0,
     };
     println!("seed {seed}, {count} random cases");
@@ -921,6 +1112,8 @@ fn main() {
     if first.is_none() {
         run.worked();
         println!("known answers: {} ({:.1?})", run.case, clock.elapsed());
+        run.maps();
+        println!("maps: {} ({:.1?})", run.case, clock.elapsed());
         run.small();
         println!("small instances: {} ({:.1?})", run.case, clock.elapsed());
         run.largest(&mut Generator::new(mix(seed, u64::MAX - 1)));
@@ -930,7 +1123,7 @@ fn main() {
     println!("random cases done ({:.1?})\n", clock.elapsed());
     let complete = run.report();
     if first.is_none() && !complete {
-        println!("FAILED: a number, a family or a wrong count was never hit");
+        println!("FAILED: a number or a family was never hit, or a wrong program never told");
         std::process::exit(1);
     }
     let calls: u64 = run.hits.iter().flatten().sum();
