@@ -35,8 +35,8 @@ same : (c : tie.Else1) → instanceOf (c .before .before .before .before .before
 same c = horizon (c .before .before .before .before .before .before .args .b .now) (c .before .before .before .before .before .before .args .m) (c .before .before .before .before .check-instance .result .answer) (c .before .before .before .before .check-instance .result .checked) (c .before .before .before .before .check-instance .ensures .0) (c .before .before .before .before .check-instance .ensures .1) (c .if1 .left)
 
 -- the words that are needed
-needed : (c : tie.After-clause-count) → length (words (pruned (instanceOf (c .before .before .before .before .before .before .before .before .before .before .before .before .before .before .before .before .before .before .args .b .now) (c .before .before .before .before .before .before .before .before .before .before .before .before .before .before .before .before .check-instance .result .checked)))) ≡ c .before .word-count .result + 2 * c .before .before .count-h .result
-needed c = word-count-of (c .before .before .before .before .before .before .before .before .before .before .before .before .before .before .before .before .before .before .args .b .now) (c .before .before .before .before .before .before .before .before .before .before .before .before .before .before .before .before .check-instance .result .checked) (known (c .before .before .before .before .before .before .before .before .before .before .before .before)) (c .before .before .before .before .before .before .table-of .result) (c .before .before .before .before .before .before .table-of .ensures .1) (c .before .before .count-h .result) (c .before .before .count-h .ensures .0) (c .before .word-count .result) (c .before .word-count .ensures)
+needed : (c : tie.After-clause-count) (x : ℕ) → x ≡ c .before .word-count .result + 2 * c .before .before .count-h .result → length (words (pruned (instanceOf (c .before .before .before .before .before .before .before .before .before .before .before .before .before .before .before .before .before .before .args .b .now) (c .before .before .before .before .before .before .before .before .before .before .before .before .before .before .before .before .check-instance .result .checked)))) ≡ x
+needed c x e = word-count-of (c .before .before .before .before .before .before .before .before .before .before .before .before .before .before .before .before .before .before .args .b .now) (c .before .before .before .before .before .before .before .before .before .before .before .before .before .before .before .before .check-instance .result .checked) (known (c .before .before .before .before .before .before .before .before .before .before .before .before)) (c .before .before .before .before .before .before .table-of .result) (c .before .before .before .before .before .before .table-of .ensures .1) (c .before .before .count-h .result) (c .before .before .count-h .ensures .0) (c .before .word-count .result) (c .before .word-count .ensures) ∙ sym e
 
 returns : tie.Need-returns
 returns c = refused pruned (c .before .before .before .before .before .before .args .b .now) (c .before .before .before .before .before .before .args .m) (c .before .before .before .before .before .before .args .f .now) _ (instance-refuses (c .before .before .before .before .before .before .args .b .now) (c .before .before .before .before .before .before .args .m) (c .before .before .before .before .check-instance .result .answer) (c .before .before .before .before .check-instance .result .checked) (c .before .before .before .before .check-instance .ensures .0) (c .before .before .before .before .check-instance .ensures .1) (asks (c .before .before .before .before .before .before)) count (c .if1 .taken)) (c .if1 .taken)
@@ -63,24 +63,24 @@ add-clauses c = omega (arith, c .before .before .count-h .ensures .1, c .clause-
 
 returns-2 : tie.Need-returns-2
 returns-2 c =
-    refused pruned (c .before .before .before .before .before .before .before .before .before .before .before .before .before .before .before .before .before .before .before .args .b .now) (c .before .before .before .before .before .before .before .before .before .before .before .before .before .before .before .before .before .before .before .args .m) (c .before .before .before .before .before .before .before .before .before .before .before .before .before .before .before .before .before .before .before .args .f .now) (refuse 12 (c .before .before .word-count .result + 2 * c .before .before .before .count-h .result))
+    refused pruned (c .before .before .before .before .before .before .before .before .before .before .before .before .before .before .before .before .before .before .before .args .b .now) (c .before .before .before .before .before .before .before .before .before .before .before .before .before .before .before .before .before .before .before .args .m) (c .before .before .before .before .before .before .before .before .before .before .before .before .before .before .before .before .before .before .before .args .f .now) (refuse 12 _)
     (call-answers (c .before .before .before .before .before .before .before .before .before .before .before .before .before .before .before .before .before .before .before .args .b .now) (c .before .before .before .before .before .before .before .before .before .before .before .before .before .before .before .before .before .before .before .args .m) (c .before .before .before .before .before .before .before .before .before .before .before .before .before .before .before .before .before .check-instance .result .answer) (c .before .before .before .before .before .before .before .before .before .before .before .before .before .before .before .before .before .check-instance .result .checked) (c .before .before .before .before .before .before .before .before .before .before .before .before .before .before .before .before .before .check-instance .ensures .0) (c .before .before .before .before .before .before .before .before .before .before .before .before .before .before .before .before .before .check-instance .ensures .1) (asks (c .before .before .before .before .before .before .before .before .before .before .before .before .before .before .before .before .before .before .before)) count (c .before .before .before .before .before .before .before .before .before .before .before .before .before .if1 .left) _
-    (stop-12 (pruned (instanceOf (c .before .before .before .before .before .before .before .before .before .before .before .before .before .before .before .before .before .before .before .args .b .now) (c .before .before .before .before .before .before .before .before .before .before .before .before .before .before .before .before .before .check-instance .result .checked))) _ (needed (c .before)) (length (c .before .before .before .before .before .before .before .before .before .before .before .before .before .before .before .before .before .before .before .args .f .now)) (omega (arith, c .if2 .taken))))
+    (stop-12 (pruned (instanceOf (c .before .before .before .before .before .before .before .before .before .before .before .before .before .before .before .before .before .before .before .args .b .now) (c .before .before .before .before .before .before .before .before .before .before .before .before .before .before .before .before .before .check-instance .result .checked))) _ (needed (c .before) _ (omega arith)) (length (c .before .before .before .before .before .before .before .before .before .before .before .before .before .before .before .before .before .before .before .args .f .now)) (omega (arith, c .if2 .taken))))
     (λ z. let f : ⊥ = omega arith in f)
 
 write-all-requires : tie.Need-write-all-requires
 write-all-requires c κs =
     let w = known (c .before .before .before .before .before .before .before .before .before .before .before .before .before .before .before) in (
       (ready _ _ w, c .before .before .before .before .before .before .before .before .before .table-of .ensures .0),
-      rw (← (words-held (c .before .before .before .before .before .before .before .before .before .before .before .before .before .before .before .before .before .before .before .before .before .args .b .now) (c .before .before .before .before .before .before .before .before .before .before .before .before .before .before .before .before .before .before .before .check-instance .result .checked) w (c .before .before .before .before .before .before .before .before .before .table-of .result) (c .before .before .before .before .before .before .before .before .before .table-of .ensures .1))) (omega (arith, needed (c .before .before .before), c .before .before .if2 .left)),
+      rw (← (words-held (c .before .before .before .before .before .before .before .before .before .before .before .before .before .before .before .before .before .before .before .before .before .args .b .now) (c .before .before .before .before .before .before .before .before .before .before .before .before .before .before .before .before .before .before .before .check-instance .result .checked) w (c .before .before .before .before .before .before .before .before .before .table-of .result) (c .before .before .before .before .before .before .before .before .before .table-of .ensures .1))) (omega (arith, needed (c .before .before .before) _ refl, c .before .before .if2 .left)),
     )
 
 returns-3 : tie.Need-returns-3
 returns-3 c =
     let w = known (c .before .before .before .before .before .before .before .before .before .before .before .before .before .before .before .before .before) in
-    done pruned (c .before .before .before .before .before .before .before .before .before .before .before .before .before .before .before .before .before .before .before .before .before .before .before .args .b .now) (c .before .before .before .before .before .before .before .before .before .before .before .before .before .before .before .before .before .before .before .before .before .before .before .args .m) (c .before .before .before .before .before .before .before .before .before .before .before .before .before .before .before .before .before .before .before .before .before .before .before .args .f .now) (accept (c .before .before .before .before .before .before .word-count .result + 2 * c .before .before .before .before .before .before .before .count-h .result))
+    done pruned (c .before .before .before .before .before .before .before .before .before .before .before .before .before .before .before .before .before .before .before .before .before .before .before .args .b .now) (c .before .before .before .before .before .before .before .before .before .before .before .before .before .before .before .before .before .before .before .before .before .before .before .args .m) (c .before .before .before .before .before .before .before .before .before .before .before .before .before .before .before .before .before .before .before .before .before .before .before .args .f .now) (accept _)
     (call-answers (c .before .before .before .before .before .before .before .before .before .before .before .before .before .before .before .before .before .before .before .before .before .before .before .args .b .now) (c .before .before .before .before .before .before .before .before .before .before .before .before .before .before .before .before .before .before .before .before .before .before .before .args .m) (c .before .before .before .before .before .before .before .before .before .before .before .before .before .before .before .before .before .before .before .before .before .check-instance .result .answer) (c .before .before .before .before .before .before .before .before .before .before .before .before .before .before .before .before .before .before .before .before .before .check-instance .result .checked) (c .before .before .before .before .before .before .before .before .before .before .before .before .before .before .before .before .before .before .before .before .before .check-instance .ensures .0) (c .before .before .before .before .before .before .before .before .before .before .before .before .before .before .before .before .before .before .before .before .before .check-instance .ensures .1) (asks (c .before .before .before .before .before .before .before .before .before .before .before .before .before .before .before .before .before .before .before .before .before .before .before)) count (c .before .before .before .before .before .before .before .before .before .before .before .before .before .before .before .before .before .if1 .left) _
-    (pass-12 (pruned (instanceOf (c .before .before .before .before .before .before .before .before .before .before .before .before .before .before .before .before .before .before .before .before .before .before .before .args .b .now) (c .before .before .before .before .before .before .before .before .before .before .before .before .before .before .before .before .before .before .before .before .before .check-instance .result .checked))) _ (needed (c .before .before .before .before .before)) (length (c .before .before .before .before .before .before .before .before .before .before .before .before .before .before .before .before .before .before .before .before .before .before .before .args .f .now)) (omega (arith, c .before .before .before .before .if2 .left))))
+    (pass-12 (pruned (instanceOf (c .before .before .before .before .before .before .before .before .before .before .before .before .before .before .before .before .before .before .before .before .before .before .before .args .b .now) (c .before .before .before .before .before .before .before .before .before .before .before .before .before .before .before .before .before .before .before .before .before .check-instance .result .checked))) _ (needed (c .before .before .before .before .before) _ (omega arith)) (length (c .before .before .before .before .before .before .before .before .before .before .before .before .before .before .before .before .before .before .before .before .before .before .before .args .f .now)) (omega (arith, c .before .before .before .before .if2 .left))))
     refl (c .before .before .before .before .before .clause-count .result + c .before .before .before .before .before .before .before .count-h .result)
     (sym (clause-count-of (c .before .before .before .before .before .before .before .before .before .before .before .before .before .before .before .before .before .before .before .before .before .before .before .args .b .now) (c .before .before .before .before .before .before .before .before .before .before .before .before .before .before .before .before .before .before .before .before .before .check-instance .result .checked) w (c .before .before .before .before .before .before .before .before .before .before .before .table-of .result) (c .before .before .before .before .before .before .before .before .before .before .before .table-of .ensures .1) (c .before .before .before .before .before .before .before .count-h .result) (c .before .before .before .before .before .before .before .count-h .ensures .0) (c .before .before .before .before .before .clause-count .result) (c .before .before .before .before .before .clause-count .ensures)) ∙ ap (λ (J : Instance). length (pruned J .clauses)) (same (c .before .before .before .before .before .before .before .before .before .before .before .before .before .before .before .before .before)))
     (c .before .write-all .last .0)
