@@ -7,7 +7,7 @@
  *
  * A pointer must be valid and aligned for as many elements as its length says; with length 0 it may be NULL. So a size
  * is asked: refusals 12, 15 and 16 give what is needed. No two slices of a call may overlap. Each call uses less than
- * 12 KiB of stack, but the reader, the floor and the writer with family H, which use less than 64 KiB. The calls share
+ * 12 KiB of stack, but the pruned writer, which uses less than 24 KiB, and the reader, less than 64 KiB. The calls share
  * nothing, so several threads may call at once.
  *
  * An instance is bytes: n vertices, k agents, e edges (two bytes, the low one first); the low ends of all edges, then
