@@ -90,18 +90,20 @@ runglaet_answer runglaet_encode(const uint8_t *instance, size_t instance_len, ui
 runglaet_answer runglaet_read_valuation(const uint8_t *instance, size_t instance_len, uint64_t horizon,
                                         const uint8_t *text, size_t text_len, int32_t *entries, size_t entries_len);
 
-/* How short a plan could be: the greatest distance from a start to its goal, in edges. No plan with a smaller makespan
- * passes the check.
- * Asks 1 to 9 and 30; no horizon is given. Accepted: `second` is that distance. Refusal 30, some goal cannot be reached
- * from its start, so no plan passes at any horizon: the offset of the goal of the lowest such agent. */
+/* The floor, how short a plan could be: the greatest distance from an agent's start to its goal, in edges. No plan with a
+ * smaller makespan passes the check.
+ * Asks 1 to 9 and 30; no horizon is given. Accepted: `second` is the floor, at most 63; where it is above 32, no horizon
+ * that the other calls accept has a plan. Refusal 30, some goal cannot be reached from its start, so no plan passes at any
+ * horizon: the offset of the goal of the lowest such agent. */
 runglaet_answer runglaet_floor(const uint8_t *instance, size_t instance_len);
 
-/* The pruned formula: the words of runglaet_write_formula, and behind them family H: for each time t from 0 to m, agent
- * and vertex, in this order, a clause of one literal, that the agent is not at the vertex at t, wherever the vertex is
- * further than t edges from the agent's start or further than m - t from its goal. It has the same variables as the
- * formula and exactly its satisfying valuations, so runglaet_decode serves for both.
- * Asks and answers as runglaet_write_formula does; the words and clauses are those with family H. A clause's number
- * (runglaet_clause, refusal 24) is one of the formula without it. */
+/* The pruned formula: the words of runglaet_write_formula, then family H. For each time t from 0 to m, agent and vertex,
+ * in this order, H has a clause of one literal, that the agent is not at the vertex at t, wherever the vertex is further
+ * than t edges from the agent's start or further than m - t from its goal. Unreachable counts as further; where both hold
+ * there is one clause. The pruned formula has the formula's variables and exactly its satisfying valuations, so
+ * runglaet_read_valuation and runglaet_decode serve for both.
+ * Asks and answers as runglaet_write_formula does; the words and clauses are those of the pruned formula. Clause numbers,
+ * in runglaet_clause and refusal 24, are those of the formula without family H. */
 runglaet_written runglaet_write_pruned(const uint8_t *instance, size_t instance_len, uint64_t horizon,
                                        int32_t *words, size_t words_len);
 

@@ -6,7 +6,8 @@
 # and 32 (without any plan, 32 alone), the base formula beside the formula with family H. Then the whole climb to the first
 # plan: from horizon 1 and from the floor with base formulas, and from the floor with family H.
 # A time is that of the solver's process, which reads the formula too; making the formula is not in it. It is the best of
-# 5 runs, and of short ones of up to 25, the two formulas in turn. Every verdict is held against the one known.
+# 5 runs, and of short ones of up to 25, the two formulas in turn. Every verdict is held against the first horizon with a
+# plan that examples/solve.sh finds.
 # RUNGLAET_LIB and RUNGLAET_PROGRAM as in examples/solve.sh.
 set -euo pipefail
 export LC_ALL=C
@@ -131,7 +132,11 @@ examples=()
 declare -A floor first
 for file in "$root"/examples/*.txt; do
     example=$(basename "$file" .txt)
-    answer=$("$shuttles" floor "$file") || continue
+    if ! answer=$("$shuttles" floor "$file"); then
+        [[ $answer == "refused 30:"* ]] && continue
+        echo "pruning.sh: there is no floor for $file: $answer" >&2
+        exit 1
+    fi
     examples+=("$example")
     floor[$example]=${answer##* }
     status=0

@@ -80,6 +80,12 @@ decide-after [] rs c t = refl
 decide-after ([] ∷ qs) rs c t = decide-after qs rs c t
 decide-after ((r ∷ rs′) ∷ qs) rs c t = absurd t
 
+pub decide-skip : (qs rs : List Question) (c : ℕ) → decide (qs ++ [] ∷ rs) c ≡ decide (qs ++ rs) c
+unfolding decide
+decide-skip [] rs c = refl
+decide-skip ([] ∷ qs) rs c = decide-skip qs rs c
+decide-skip ((r ∷ later) ∷ qs) rs c = refl
+
 pub numbered-second : (q r : Question) (qs : List Question) → T (numbered r) → T (all numbered (q ∷ qs)) → T (all numbered (q ∷ r ∷ qs))
 numbered-second q r qs t h = let (x, y) = and-iff (numbered q) _ .0 h in and-iff (numbered q) _ .1 (x, and-iff (numbered r) _ .1 (t, y))
 

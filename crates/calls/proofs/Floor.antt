@@ -1,10 +1,9 @@
 -- The floor call: it asks what an instance with horizon 0 is asked, then 30; what its answers say of every plan.
-use mathlib.Core.Path.{_≡_, refl, sym, _∙_, ap}
+use mathlib.Core.Path.{_≡_, sym, _∙_, ap}
 use mathlib.Core.Logic.{⊎-elim}
 use mathlib.Core.List.{List, [], _∷_, _++_}
 use mathlib.Core.Bool.{true}
-use Prim.Native.Nat.{ℕ, zero, suc, _+_, _≤_, _<_}
-use native.Mathlib.Nat.{le-refl}
+use Prim.Native.Nat.{ℕ, suc, _+_, _≤_, _<_}
 use native.Mathlib.Omega.{arith}
 use lib.Dec.{T, ltb, eqb}
 use Rattle.lists.specs.Loop.{all}
@@ -12,31 +11,24 @@ use Rattle.lists.proofs.Tests.{and-iff, not-iff, eqb-iff, ltb-iff}
 use Rattle.lists.proofs.Loops.{all-append}
 use Rattle.lists.proofs.Blocks.{place-lt}
 use Rattle.answers.specs.declared.Answer.{Answer}
-use Rattle.answers.specs.Answers.{Question, ask, refuse, decide, clear}
+use Rattle.answers.specs.Answers.{ask, refuse, decide, clear}
 use Rattle.answers.specs.Fault.{FirstFault}
-use Rattle.answers.proofs.Laws.{numbered, each-all, each-nil, clear-iff, ask-all, decide-iff, decide-count, decide-after, decide-each, decide-past}
+use Rattle.answers.proofs.Laws.{numbered, each-all, each-nil, clear-iff, ask-all, decide-iff, decide-count, decide-after, decide-each, decide-past, decide-skip}
 use Rattle.instance.specs.Instance.{instance, agents, goals, adjacent, Endpoints}
 use Rattle.instance.specs.Questions.{question10, bytesQuestions, instanceQuestions}
 use Rattle.instance.proofs.Instance.{endpoints, limits}
-use Rattle.distances.specs.Distance.{unreachable, startToGoal, floor}
+use Rattle.distances.specs.Distance.{unreachable, reachable, startToGoal, floor}
 use Rattle.distances.proofs.Within.{floor-most}
 use Rattle.plan.specs.Passing.{Passes}
 use Rattle.plan.specs.Plan.{planRow}
 use Rattle.valuation.proofs.Pruned.{steps-most}
-use Rattle.calls.specs.Questions.{reachable, question30}
-use Rattle.calls.specs.Calls.{floorQuestions, floorAnswer}
-
-decide-skip : (qs rs : List Question) (c : ℕ) → decide (qs ++ [] ∷ rs) c ≡ decide (qs ++ rs) c
-unfolding decide
-decide-skip [] rs c = refl
-decide-skip ([] ∷ qs) rs c = decide-skip qs rs c
-decide-skip ((r ∷ later) ∷ qs) rs c = refl
+use Rattle.calls.specs.Calls.{goalQuestion, floorQuestions, floorAnswer}
 
 module _ (b : List ℕ) where
   -- 0 is a horizon, so 10 is answered yes
-  pub floor-asks : decide (instanceQuestions b 0 ++ question30 b ∷ []) (floor (instance b 0)) ≡ floorAnswer b
+  pub floor-asks : decide (instanceQuestions b 0 ++ goalQuestion b ∷ []) (floor (instance b 0)) ≡ floorAnswer b
   unfolding floorAnswer instanceQuestions ask
-  floor-asks = decide-skip (bytesQuestions b) (question30 b ∷ []) (floor (instance b 0))
+  floor-asks = decide-skip (bytesQuestions b) (goalQuestion b ∷ []) (floor (instance b 0))
 
   pub numbered-floor : T (all numbered (floorQuestions b))
   numbered-floor =
@@ -48,6 +40,14 @@ module _ (b : List ℕ) where
   unfolding floorAnswer
   floor-count e =
       ap (λ (x : Answer). x .second) (decide-count (floorQuestions b) _ (decide-iff (floorQuestions b) _ numbered-floor .0 e))
+
+  -- and every goal can be reached
+  pub all-reached : floorAnswer b .number ≡ 0
+      → T (all clear (bytesQuestions b)) × ((a : ℕ) → a < agents b → T (reachable (startToGoal (instance b 0) a)))
+  unfolding floorAnswer
+  all-reached e =
+      let (x, y) = all-append clear (bytesQuestions b) (goalQuestion b ∷ []) .0 (decide-iff (floorQuestions b) _ numbered-floor .0 e) in
+      (x, each-nil (agents b) (λ a. reachable (startToGoal (instance b 0) a)) _ .0 (clear-iff (goalQuestion b) .0 (and-iff (clear (goalQuestion b)) true .0 y .0)))
 
   -- where 1 to 9 are answered yes, so are 1 to 10 at horizon 0
   pub bytes-clear : T (all clear (bytesQuestions b)) → T (all clear (instanceQuestions b 0))
@@ -65,16 +65,16 @@ module _ (b : List ℕ) where
     steps-known p w a l =
         let few = limits b 0 (bytes-clear ok) .n-most in
         let (x, y) = steps-most (instance b m) (planRow (instance b m .sizes) p) (w .leads) (λ t a h r. w .inside _ (place-lt (suc m) (agents b) t a h r))
-            (same-endpoints (endpoints b 0 (bytes-clear ok))) (omega arith) a l in
+        (same-endpoints (endpoints b 0 (bytes-clear ok))) (omega arith) a l in
         (x, omega arith)
 
     -- a plan that passes shows that the floor is accepted, and not above its makespan
     pub floor-below : (p : List ℕ) → Passes (instance b m) p → (floorAnswer b .number ≡ 0) × (floorAnswer b .second ≤ m)
     unfolding floorAnswer floor instance
     floor-below p w =
-        let thirty : question30 b ≡ [] = each-nil (agents b) (reachable b) _ .1 (λ a l.
+        let thirty : goalQuestion b ≡ [] = each-nil (agents b) (λ a. reachable (startToGoal (instance b 0) a)) _ .1 (λ a l.
         not-iff (eqb (startToGoal (instance b 0) a) unreachable) .1 (λ t. let e = eqb-iff (startToGoal (instance b 0) a) unreachable .0 t in let (x, y) = steps-known p w a l in omega arith)) in
-        let yes : T (all clear (floorQuestions b)) = all-append clear (bytesQuestions b) (question30 b ∷ []) .1 (ok, and-iff (clear (question30 b)) true .1 (clear-iff (question30 b) .1 thirty, tt)) in
+        let yes : T (all clear (floorQuestions b)) = all-append clear (bytesQuestions b) (goalQuestion b ∷ []) .1 (ok, and-iff (clear (goalQuestion b)) true .1 (clear-iff (goalQuestion b) .1 thirty, tt)) in
         let e : floorAnswer b .number ≡ 0 = decide-iff (floorQuestions b) _ numbered-floor .1 yes in
         (e, rw (floor-count e) (floor-most (instance b 0) m (λ a l. steps-known p w a l .0)))
 
@@ -85,7 +85,7 @@ module _ (b : List ℕ) where
       ⊎-elim
       (λ ok. ok)
       (λ t. let l = ltb-iff (floorAnswer b .number) 10 .0 t in absurd (let f : ⊥ = omega arith in f))
-      (decide-past (λ r. ltb (r .number) 10) (bytesQuestions b) (question30 b ∷ []) _
+      (decide-past (λ r. ltb (r .number) 10) (bytesQuestions b) (goalQuestion b ∷ []) _
       (simp (and-iff, each-all, ask-all)
       ((λ f. tt), ((λ f. tt), ((λ f. tt), ((λ f. tt), ((λ f. tt), ((λ j l f. tt), ((λ j l f. tt), ((λ a l f. tt), ((λ a l f. tt), tt)))))))))))
 
@@ -94,13 +94,13 @@ module _ (b : List ℕ) where
   no-plan e m p w = let z = floor-below (past-bytes e) m p w .0 in omega arith
 
   -- the first agent that cannot reach its goal gives the place
-  pub first-cut : floorAnswer b .number ≡ 30 → (a : ℕ) × (a < agents b) × FirstFault (agents b) (reachable b) a × (floorAnswer b .second ≡ goals b + a)
+  pub first-cut : floorAnswer b .number ≡ 30 → (a : ℕ) × (a < agents b) × FirstFault (agents b) (λ a. reachable (startToGoal (instance b 0) a)) a × (floorAnswer b .second ≡ goals b + a)
   unfolding floorAnswer
   first-cut e =
-      let q = decide-after (bytesQuestions b) (question30 b ∷ []) (floor (instance b 0)) (past-bytes e) in
+      let q = decide-after (bytesQuestions b) (goalQuestion b ∷ []) (floor (instance b 0)) (past-bytes e) in
       ⊎-elim
       (λ (h, r).
       let z : 30 ≡ 0 = sym e ∙ ap (λ (x : Answer). x .number) (q ∙ r ∙ decide-count [] (floor (instance b 0)) tt) in
       absurd (let f : ⊥ = omega arith in f))
       (λ (a, l, f, r). (a, l, f, ap (λ (x : Answer). x .second) (q ∙ r)))
-      (decide-each (agents b) (reachable b) (λ a. refuse 30 (goals b + a)) [] (floor (instance b 0)))
+      (decide-each (agents b) (λ a. reachable (startToGoal (instance b 0) a)) (λ a. refuse 30 (goals b + a)) [] (floor (instance b 0)))

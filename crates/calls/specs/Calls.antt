@@ -1,5 +1,5 @@
 -- For each call: the questions it asks, its answer, and what it leaves in the lent slice.
--- b are the instance bytes and m is the horizon given, which the floor has not; a size is the length of a lent slice.
+-- b are the instance bytes and m is the horizon given; the floor is given none. A size is the length of a lent slice.
 use mathlib.Core.List.{List, [], _∷_, _++_}
 use Prim.Native.Nat.{ℕ}
 use lib.ListN.{length, getD}
@@ -8,9 +8,9 @@ use Rattle.lists.specs.Loop.{for}
 use Rattle.answers.specs.declared.Answer.{Answer}
 use Rattle.answers.specs.declared.Written.{Written}
 use Rattle.answers.specs.Answers.{Question, decide, lent, withClauses}
-use Rattle.instance.specs.Instance.{Instance, instance}
+use Rattle.instance.specs.Instance.{Instance, instance, agents, goals}
 use Rattle.instance.specs.Questions.{bytesQuestions, instanceQuestions}
-use Rattle.distances.specs.Distance.{floor}
+use Rattle.distances.specs.Distance.{startToGoal, floor}
 use Rattle.formula.specs.Formula.{Formula, formula, line, words}
 use Rattle.plan.specs.Plan.{planBytes, cost}
 use Rattle.valuation.specs.Valuation.{namedPlan, planValuation}
@@ -30,6 +30,7 @@ unfoldable pub textQuestions : ℕ → List ℕ → List Question
 textQuestions N text = questions27 N text ++ question28 N text ∷ question29 N text ∷ []
 
 -- What each call asks of an accepted instance, after 1 to 10.
+
 -- a writer of the formula f: 12
 abbrev pub writeRest : Formula → ℕ → List Question
 writeRest f size = question12 (length (words f)) size ∷ []
@@ -129,10 +130,13 @@ module _ (b : List ℕ) (m : ℕ) where
   unfoldable pub readSlice : List ℕ → List ℤ → List ℤ
   readSlice text s = lent (readAnswer text (length s)) (inOrder (base .variables) (given text)) s
 
--- ---- the floor: 1 to 9, 30
+-- ---- the floor: 1 to 9, 30. An instance has a horizon: 0 stands for it here, and any other would do.
 module _ (b : List ℕ) where
+  abbrev pub goalQuestion : Question
+  goalQuestion = question30 (agents b) (startToGoal (instance b 0)) (goals b)
+
   abbrev pub floorQuestions : List Question
-  floorQuestions = bytesQuestions b ++ question30 b ∷ []
+  floorQuestions = bytesQuestions b ++ goalQuestion ∷ []
 
   unfoldable pub floorAnswer : Answer
   floorAnswer = decide floorQuestions (floor (instance b 0))

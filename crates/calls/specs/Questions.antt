@@ -1,6 +1,5 @@
 -- The questions asked after 1 to 10: under each number, what is asked and the place that a no names.
 use mathlib.Core.List.{List, [], _∷_}
-use mathlib.Core.Bool.{Bool, not}
 use Prim.Native.Nat.{ℕ, suc, _+_}
 use lib.ListN.{length, getD}
 use lib.Dec.{leb, ltb, eqb}
@@ -8,8 +7,8 @@ use lib.IntN.{ℤ}
 use Rattle.lists.specs.Loop.{any}
 use Rattle.answers.specs.Answers.{Question, ask, askEach, refuse}
 use Rattle.instance.specs.declared.Sizes.{Sizes}
-use Rattle.instance.specs.Instance.{Instance, instance, agents, goals, adjacent}
-use Rattle.distances.specs.Distance.{unreachable, startToGoal}
+use Rattle.instance.specs.Instance.{Instance, adjacent}
+use Rattle.distances.specs.Distance.{reachable}
 use Rattle.formula.specs.Formula.{Formula}
 use Rattle.plan.specs.Plan.{planBytes, planIndex, planRow, condition1, condition2, condition3, Leaving, stays, exchanges, movesOn, occupantLeaves}
 use Rattle.valuation.specs.Valuation.{rightEntry, satisfied?}
@@ -105,12 +104,7 @@ module _ (N : ℕ) (text : List ℕ) where
   abbrev pub question29 : Question
   question29 = askEach N (λ i. eqb (times (suc i) (given text)) 1) λ i. refuse 29 (suc i)
 
--- of the bytes of an accepted instance: in the floor call only. No horizon is given; 0 stands for it, and any other would do.
-module _ (b : List ℕ) where
-  -- agent a can reach its goal from its start
-  abbrev pub reachable : ℕ → Bool
-  reachable a = not (eqb (startToGoal (instance b 0) a) unreachable)
-
-  -- Can each goal be reached from its start?
-  abbrev pub question30 : Question
-  question30 = askEach (agents b) reachable λ a. refuse 30 (goals b + a)
+-- Can each goal be reached from its start? In the floor call only: of k agents with d a from start to goal, where `place` is the offset of
+-- the first goal.
+abbrev pub question30 : ℕ → (ℕ → ℕ) → ℕ → Question
+question30 k d place = askEach k (λ a. reachable (d a)) λ a. refuse 30 (place + a)

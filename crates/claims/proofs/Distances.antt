@@ -1,34 +1,37 @@
 -- Distances, the floor and the pruned formula, gathered.
-use mathlib.Core.Path.{_≡_, refl, sym, _∙_, ap}
-use mathlib.Core.Logic.{_↔_, _≢_, by-cases, Iff·rfl}
+use mathlib.Core.Path.{_≡_, refl, sym, _∙_, subst}
+use mathlib.Core.Logic.{_↔_, _≢_, inl, inr, ⊎-elim, by-cases, Iff·rfl}
 use mathlib.Core.List.{List, [], _∷_}
-use Prim.Native.Nat.{ℕ, _≤_}
+use Prim.Native.Nat.{ℕ, _-_, _≤_, _<_}
 use native.Mathlib.Decide.{ℕ-discrete}
 use native.Mathlib.Omega.{arith}
 use lib.Dec.{T}
-use Rattle.lists.specs.Loop.{all, greatest}
+use Rattle.lists.specs.Loop.{all}
 use Rattle.lists.proofs.Loops.{all-append}
-use Rattle.lists.proofs.Tests.{not-iff, eqb-iff}
+use Rattle.lists.proofs.Tests.{or-iff, not-iff, eqb-iff}
+use Rattle.lists.proofs.Sums.{greatest-le, greatest-one}
 use Rattle.answers.specs.Answers.{clear, withClauses}
 use Rattle.answers.proofs.Laws.{byNumber-accepted, decide-iff}
-use Rattle.instance.specs.Instance.{Instance, instance, agents, adjacent}
+use Rattle.instance.specs.Instance.{Instance, instance, agents, startOf, goalOf, adjacent, neighbourWords}
 use Rattle.instance.specs.Questions.{question10, bytesQuestions, instanceQuestions}
 use Rattle.instance.proofs.Instance.{instance-iff, edges-known, endpoints, limits}
-use Rattle.distances.specs.Distance.{unreachable, distance, startToGoal, floor}
+use Rattle.instance.proofs.Neighbours.{joined-adjacent}
+use Rattle.distances.specs.Distance.{unreachable, reachable, further, distance, startToGoal, floor}
+use Rattle.distances.specs.Walk.{Shortest}
 use Rattle.distances.proofs.Within.{below-is}
-use Rattle.distances.proofs.Walks.{shortest, mark-iff, distance-back}
+use Rattle.distances.proofs.Walks.{shortest, mark-iff, further-walk, distance-back}
+use Rattle.distances.proofs.Table.{table-distance}
 use Rattle.formula.specs.Formula.{formula}
-use Rattle.formula.specs.Pruned.{pruned, prunedWords}
+use Rattle.formula.specs.Pruned.{fromStart, pruned}
 use Rattle.formula.proofs.Pruned.{pruned-clause-count, pruned-word-count, pruned-words-most}
 use Rattle.valuation.proofs.Pruned.{sat-pruned}
-use Rattle.calls.specs.Questions.{reachable}
 use Rattle.calls.specs.Calls.{writeQuestions, writeAnswer, checkQuestions, checkAnswer, floorAnswer}
 use Rattle.calls.proofs.Plan.{check-iff}
 use Rattle.calls.proofs.Valuation.{satisfies-mem}
-use Rattle.calls.proofs.Floor.{floor-count, floor-below, no-plan, first-cut, past-bytes, bytes-clear}
+use Rattle.calls.proofs.Floor.{floor-count, all-reached, floor-below, no-plan, first-cut, past-bytes, bytes-clear}
 use Rattle.claims.proofs.Refusals.{numbered-write, numbered-check}
 use Rattle.claims.proofs.Formula.{counted}
-use Rattle.claims.specs.Distances.{Distances, Pruned, FirstUnreachable, Claim}
+use Rattle.claims.specs.Distances.{Distances, Pruned, Greatest, FirstUnreachable, Claim}
 
 module _ (b : List ℕ) (m : ℕ) (ok : T (all clear (instanceQuestions b m))) where
   abbrev I : Instance
@@ -44,6 +47,9 @@ module _ (b : List ℕ) (m : ℕ) (ok : T (all clear (instanceQuestions b m))) w
         mark = mark-iff I (edges-known b m ok) few;
         back = distance-back I (edges-known b m ok) few;
         most = λ v w i j f. below-is (I .sizes .n) (adjacent I) (I .sizes .n) v w f .0;
+        table =
+            table-distance I (I .sizes) (neighbourWords I)
+            (record { sizes = refl; words = joined-adjacent I (edges-known b m ok) (limits b m ok .n-most) });
       }
 
   prunes : Pruned b m
@@ -51,6 +57,13 @@ module _ (b : List ℕ) (m : ℕ) (ok : T (all clear (instanceQuestions b m))) w
   prunes =
       let h = limits b m ok .m-most in
       record {
+        far = λ t a v l r i.
+            let ends = endpoints b m ok in
+            let x = further-walk I (edges-known b m ok) few (I .start a) v t (ends .startsInside a r) i in
+            let y = further-walk I (edges-known b m ok) few (I .goal a) v (m - t) (ends .goalsInside a r) i in (
+              (λ f. ⊎-elim (λ p. inl (x .0 p)) (λ p. inr (y .0 p)) (or-iff (further t (fromStart I a v)) _ .0 f)),
+              (λ f. or-iff (further t (fromStart I a v)) _ .1 (⊎-elim (λ p. inl (x .1 p)) (λ p. inr (y .1 p)) f)),
+            );
         variables = refl;
         valuations = λ es w.
             let same = sat-pruned I (endpoints b m ok) few es w in
@@ -80,32 +93,51 @@ module _ (b : List ℕ) where
   unfolding instance adjacent
   same m = refl
 
-  count : floorAnswer b .number ≡ 0 → floorAnswer b .second ≡ greatest (agents b) (startToGoal (instance b 0))
+  reached : (a : ℕ) → T (reachable (startToGoal (instance b 0) a)) ↔ (startToGoal (instance b 0) a ≢ unreachable)
+  reached a = simp (not-iff, eqb-iff) Iff·rfl
+
+  module _ (ok : T (all clear (instanceQuestions b 0))) where
+    walk : (a : ℕ) → a < agents b → T (reachable (startToGoal (instance b 0) a))
+        → Shortest (instance b 0) (startOf b a) (goalOf b a) (startToGoal (instance b 0) a)
+    unfolding instance
+    walk a l t =
+        shortest (instance b 0) (edges-known b 0 ok) (few b 0 ok) _ _ (endpoints b 0 ok .startsInside a l) (endpoints b 0 ok .goalsInside a l)
+        (reached a .0 t)
+
+  greatest : floorAnswer b .number ≡ 0 → Greatest b (floorAnswer b .second)
   unfolding floor instance
-  count e = floor-count b e
+  greatest e =
+      let (ok, all′) = all-reached b e in
+      let (a, l, q) = greatest-one (agents b) (startToGoal (instance b 0)) (limits b 0 (bytes-clear b ok) .k-least) in
+      record {
+        each = λ a l. (
+          startToGoal (instance b 0) a,
+          rw (floor-count b e) (greatest-le (agents b) (startToGoal (instance b 0)) a l),
+          walk (bytes-clear b ok) a l (all′ a l),
+        );
+        one = (a, l, subst (Shortest (instance b 0) (startOf b a) (goalOf b a)) (q ∙ sym (floor-count b e)) (walk (bytes-clear b ok) a l (all′ a l)));
+      }
 
   cut : floorAnswer b .number ≡ 30 → (a : ℕ) × FirstUnreachable b (floorAnswer b .second) a
   unfolding instance
   cut e =
       let ok = bytes-clear b (past-bytes b e) in
       let ends = endpoints b 0 ok in
-      let (a, l, f, q) = first-cut b e in
-      (
+      let (a, l, f, q) = first-cut b e in (
         a,
         record {
           agent = l;
           cut =
               mark-iff (instance b 0) (edges-known b 0 ok) (few b 0 ok) _ _ (ends .startsInside a l) (ends .goalsInside a l) .0
               (by-cases (ℕ-discrete (startToGoal (instance b 0) a) unreachable) (λ z. z) (λ d. absurd (f .here l (reached a .1 d))));
-          lower = λ c o.
-              (_, shortest (instance b 0) (edges-known b 0 ok) (few b 0 ok) _ _ (ends .startsInside c (omega arith)) (ends .goalsInside c (omega arith))
-              (reached c .0 (f .before c o)) .walk);
+          lower = λ c o. (
+            _,
+            shortest (instance b 0) (edges-known b 0 ok) (few b 0 ok) _ _ (ends .startsInside c (omega arith)) (ends .goalsInside c (omega arith))
+                (reached c .0 (f .before c o)) .walk,
+          );
           offset = q;
         },
       )
-    where
-      reached : (a : ℕ) → T (reachable b a) ↔ (startToGoal (instance b 0) a ≢ unreachable)
-      reached a = simp (not-iff, eqb-iff) Iff·rfl
 
 pub distances-claim : Claim
 distances-claim =
@@ -113,9 +145,10 @@ distances-claim =
       distances = λ b m e. distances b m (instance-iff b m .0 e);
       pruned = λ b m e. prunes b m (instance-iff b m .0 e);
       horizon = same;
-      count = count;
+      floor = greatest;
       thirty = cut;
-      lowest = λ b m p e.
+      lowest = λ b e m p w. floor-below b (bytes-ok b 0 (instance-iff b 0 .0 e)) m p w;
+      accepted = λ b m p e.
           let ok = accepted-plan b m p e in
           floor-below b (bytes-ok b m ok) m p (check-iff b m ok p .0 e);
       none = no-plan;

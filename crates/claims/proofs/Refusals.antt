@@ -18,8 +18,8 @@ use Rattle.instance.specs.Instance.{Instance, instance}
 use Rattle.instance.specs.Questions.{question10, bytesQuestions, instanceQuestions, instanceAnswer}
 use Rattle.instance.proofs.Instance.{numbered-instance}
 use Rattle.formula.specs.Formula.{Formula, formula}
-use Rattle.calls.specs.Questions.{question13, question14, question15, question16, question23, question24, question30}
-use Rattle.calls.specs.Calls.{stepQuestions, planQuestions, writeQuestions, writeAnswer, writeSlice, clauseQuestions, clauseAnswer, clauseSlice, checkQuestions, checkAnswer, decodeQuestions, decodeAnswer, decodeSlice, encodeQuestions, encodeAnswer, encodeSlice, textQuestions, readQuestions, readAnswer, readSlice, floorQuestions, floorAnswer}
+use Rattle.calls.specs.Questions.{question13, question14, question15, question16, question23, question24}
+use Rattle.calls.specs.Calls.{stepQuestions, planQuestions, writeQuestions, writeAnswer, writeSlice, clauseQuestions, clauseAnswer, clauseSlice, checkQuestions, checkAnswer, decodeQuestions, decodeAnswer, decodeSlice, encodeQuestions, encodeAnswer, encodeSlice, textQuestions, readQuestions, readAnswer, readSlice, goalQuestion, floorQuestions, floorAnswer}
 use Rattle.calls.proofs.Plan.{numbered-plan}
 use Rattle.calls.proofs.Valuation.{numbered-valuation}
 use Rattle.calls.proofs.Text.{numbered-text}
@@ -193,5 +193,5 @@ refusals b m =
       reader = λ text size.
           honest (readQuestions b m text size) _ (numbered-read b m text size) (asked-more b m _ (one _ _, asked-text b m text));
       readerSlice = λ text s d. lent-refused _ _ s d;
-      floor = honest (floorQuestions b) _ (numbered-floor b) (asked-append (bytesQuestions b) (question30 b ∷ []) (asked-bytes b m) (many _ _ _, tt));
+      floor = honest (floorQuestions b) _ (numbered-floor b) (asked-append (bytesQuestions b) (goalQuestion b ∷ []) (asked-bytes b m) (many _ _ _, tt));
     }

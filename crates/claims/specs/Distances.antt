@@ -1,18 +1,19 @@
 -- What is claimed of the distances, the floor and the pruned formula.
 use mathlib.Core.Path.{_≡_}
-use mathlib.Core.Logic.{_↔_, _≢_}
+use mathlib.Core.Logic.{_↔_, _≢_, _⊎_}
 use mathlib.Core.List.{List}
-use Prim.Native.Nat.{ℕ, _+_, _≤_, _<_}
+use Prim.Native.Nat.{ℕ, _+_, _-_, _≤_, _<_}
 use lib.ListN.{length}
+use lib.Dec.{T}
 use lib.IntN.{ℤ}
-use Rattle.lists.specs.Loop.{greatest}
 use Rattle.instance.specs.declared.Sizes.{Sizes}
-use Rattle.instance.specs.Instance.{Instance, instance, agents, goals, startOf, goalOf}
+use Rattle.instance.specs.Instance.{Instance, instance, agents, goals, startOf, goalOf, neighbourWords}
 use Rattle.instance.specs.Questions.{instanceAnswer}
-use Rattle.distances.specs.Distance.{unreachable, distance, startToGoal}
-use Rattle.distances.specs.Walk.{Walk, Shortest, Unreachable}
+use Rattle.distances.specs.Distance.{unreachable, distance}
+use Rattle.distances.specs.Table.{cell, TableOf}
+use Rattle.distances.specs.Walk.{Walk, Shortest, Further, Unreachable}
 use Rattle.formula.specs.Formula.{formula, words}
-use Rattle.formula.specs.Pruned.{pruned, prunedClauses, prunedWords}
+use Rattle.formula.specs.Pruned.{tooFar, fromStart, fromGoal, pruned, prunedClauses, prunedWords}
 use Rattle.plan.specs.Passing.{Passes}
 use Rattle.valuation.specs.Satisfying.{Valuation, Satisfies}
 use Rattle.calls.specs.Calls.{writeAnswer, checkAnswer, floorAnswer}
@@ -22,7 +23,7 @@ module _ (b : List ℕ) (m : ℕ) where
   abbrev I : Instance
   I = instance b m
 
-  open Sizes (I .sizes) using (n)
+  open Sizes (I .sizes) using (n, k)
 
   pub record Distances : Type 0 where
     -- a distance is the length of a shortest walk, and the mark stands exactly where there is no walk
@@ -31,8 +32,13 @@ module _ (b : List ℕ) (m : ℕ) where
     -- it is as far there as back, and no distance is n or more
     pub back : (v w : ℕ) → v < n → w < n → distance I v w ≡ distance I w v
     pub most : (v w : ℕ) → v < n → w < n → distance I v w ≢ unreachable → distance I v w < n
+    -- a table that is filled from the words of the neighbours has them
+    pub table : (table : List (List ℕ)) → TableOf n (neighbourWords I) table → (v w : ℕ) → v < n → w < n → cell table v w ≡ distance I v w
 
   pub record Pruned : Type 0 where
+    -- H forbids an agent a vertex at a time exactly where no walk of so few edges leads there from its start, or from its goal
+    pub far : (t a v : ℕ) → t ≤ m → a < k → v < n
+        → T (tooFar m t (fromStart I a v) (fromGoal I a v)) ↔ (Further I t (I .start a) v ⊎ Further I (m - t) (I .goal a) v)
     -- the pruned formula has the variables of the base formula, and exactly its satisfying valuations
     pub variables : pruned I .variables ≡ formula I .variables
     pub valuations : (entries : List ℤ) → Valuation (formula I .variables) entries → Satisfies (pruned I) entries ↔ Satisfies (formula I) entries
@@ -44,6 +50,11 @@ module _ (b : List ℕ) (m : ℕ) where
     -- the writer's counts
     pub writer : (size : ℕ) → writeAnswer pruned b m size .number ≡ 0
         → (writeAnswer pruned b m size .second ≡ prunedWords I) × (writeAnswer pruned b m size .clauses ≡ prunedClauses I)
+
+-- a shortest walk from an agent's start to its goal has at most x edges, and that of some agent has x
+pub record Greatest (b : List ℕ) (x : ℕ) : Type 0 where
+  pub each : (a : ℕ) → a < agents b → (d : ℕ) × (d ≤ x) × Shortest (instance b 0) (startOf b a) (goalOf b a) d
+  pub one : (a : ℕ) × (a < agents b) × Shortest (instance b 0) (startOf b a) (goalOf b a) x
 
 -- the goal of agent a cannot be reached from its start, but each lower agent's can, and the place is the offset of that goal
 pub record FirstUnreachable (b : List ℕ) (place a : ℕ) : Type 0 where
@@ -58,12 +69,14 @@ pub record Claim : Type 0 where
   pub pruned : (b : List ℕ) (m : ℕ) → instanceAnswer b m .number ≡ 0 → Pruned b m
   -- the graph, and so each distance, is the same at every horizon
   pub horizon : (b : List ℕ) (m : ℕ) → distance (instance b m) ≡ distance (instance b 0)
-  -- the count of the floor call is the greatest distance from a start to its goal
-  pub count : (b : List ℕ) → floorAnswer b .number ≡ 0 → floorAnswer b .second ≡ greatest (agents b) (startToGoal (instance b 0))
+  -- what the count of the floor call says
+  pub floor : (b : List ℕ) → floorAnswer b .number ≡ 0 → Greatest b (floorAnswer b .second)
   -- what 30 and its place say
   pub thirty : (b : List ℕ) → floorAnswer b .number ≡ 30 → (a : ℕ) × FirstUnreachable b (floorAnswer b .second) a
-  -- no passing plan has a makespan below the floor
-  pub lowest : (b : List ℕ) (m : ℕ) (p : List ℕ) → checkAnswer b m p .number ≡ 0
+  -- no passing plan has a makespan below the floor, at any horizon; so none that the plan check accepts
+  pub lowest : (b : List ℕ) → instanceAnswer b 0 .number ≡ 0 → (m : ℕ) (p : List ℕ) → Passes (instance b m) p
+      → (floorAnswer b .number ≡ 0) × (floorAnswer b .second ≤ m)
+  pub accepted : (b : List ℕ) (m : ℕ) (p : List ℕ) → checkAnswer b m p .number ≡ 0
       → (floorAnswer b .number ≡ 0) × (floorAnswer b .second ≤ m)
   -- where 30 is answered, no plan passes at any horizon, and none is accepted by the plan check
   pub none : (b : List ℕ) → floorAnswer b .number ≡ 30 → (m : ℕ) (p : List ℕ) → Passes (instance b m) p → ⊥

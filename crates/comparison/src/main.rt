@@ -1,8 +1,7 @@
 // Runs the eight calls on cases made elsewhere, at most a million of them. A case: the kind of call (1 byte: 1 the formula writer,
-// 2 one clause, 3 the plan check, 4 the decoder, 5 the encoder, 6 the reader, 7 the floor, 8 the writer of the
-// pruned formula), the horizon and the clause number (8 bytes each), the
-// instance's length (2 bytes), the payload's length in bytes and the lent slice's length in elements (4 bytes each), low bytes first;
-// then the instance, then the payload: a plan, entries of 4 bytes, or a text. Each case prints a line: the answer's number, its second
+// 2 one clause, 3 the plan check, 4 the decoder, 5 the encoder, 6 the reader, 7 the floor, 8 the pruned writer), the horizon and the
+// clause number (8 bytes each), the instance's length (2 bytes), the payload's length in bytes and the lent slice's length in elements
+// (4 bytes each), low bytes first; then the instance, then the payload: a plan, entries of 4 bytes, or a text. Each case prints a line: the answer's number, its second
 // number, the clauses, and a hash of the lent slice after the call; or "skip" where the slice is longer than the array here.
 mod case;
 mod lent;

@@ -1,5 +1,5 @@
 -- The loops of the search: the bits of a frontier one after another, then round after round.
-use mathlib.Core.Path.{_≡_, refl, sym, _∙_, ap, ap₂, subst}
+use mathlib.Core.Path.{_≡_, refl, sym, _∙_, ap, ap₂}
 use mathlib.Core.Logic.{by-cases}
 use mathlib.Core.List.{List, []}
 use mathlib.Core.Bool.{Bool, true, false, not, _&&_, _||_, cond}
@@ -21,7 +21,7 @@ use Rattle.bits.proofs.Lowest.{Left, left-all, left-next, low-past, low-below, 
 use Rattle.instance.specs.Instance.{joined}
 use Rattle.distances.specs.Distance.{unreachable, within, below}
 use Rattle.distances.proofs.Rounds.{new, spread, below-next, within-next, new-next, below-done, new-beyond, within-none, below-none}
-use Rattle.distance_table.specs.Table.{RowOf, TableOf}
+use Rattle.distances.specs.Table.{RowOf, TableOf}
 
 unset : (x w : ℕ) → bit x w ≡ 0 → set? x w ≡ false
 unset x w e = ap (λ (b : ℕ). eqb b 1) e

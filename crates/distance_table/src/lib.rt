@@ -8,7 +8,7 @@ ghost use lib.ListN.{length, getD, replicate};
 ghost use Rattle.lists.specs.Loop.{some};
 ghost use Rattle.bits.specs.Bits.{set?};
 ghost use Rattle.instance.specs.Instance.{joined};
-ghost use Rattle.distance_table.specs.Table.{RowOf, TableOf};
+ghost use Rattle.distances.specs.Table.{RowOf, TableOf};
 
 // Gives each vertex of the frontier the distance d. The answer is the word of all their neighbours.
 fn spread(row: &mut [u8], near: &[u64; 64], frontier: u64, d: u8) -> u64

@@ -1,3 +1,4 @@
 pub mod Within
 pub mod Walks
 pub mod Rounds
+pub mod Table

@@ -1,6 +1,6 @@
 -- The rounds of a breadth-first search from one vertex: round d begins with the vertices that d edges reach and no fewer do.
 use mathlib.Core.Path.{_≡_, refl, sym, _∙_, ap, ap₂, subst}
-use mathlib.Core.Logic.{_↔_, inl, inr, ⊎-elim}
+use mathlib.Core.Logic.{inl, inr, ⊎-elim}
 use mathlib.Core.Bool.{Bool, true, false, not, _&&_, _||_, cond}
 use Prim.Native.Nat.{ℕ, zero, suc, _+_, _≤_, _<_}
 use native.Mathlib.Nat.{le-refl, add-zero, add-suc}
@@ -24,9 +24,10 @@ module _ (n : ℕ) (near : ℕ → ℕ → Bool) (v : ℕ) where
   -- fewer than d + 1 edges are at most d
   fewer : (d w : ℕ) → (some (suc d) λ i. within n near i v w) ≡ within n near d v w
   fewer d w =
-      T-ext _ _
-      ((λ t. let (i, l, p) = some-iff (suc d) (λ i. within n near i v w) .0 t in within-mono n near i d v w (omega arith) p),
-      (λ t. some-iff (suc d) (λ i. within n near i v w) .1 (d, le-refl (suc d), t)))
+      T-ext _ _ (
+        (λ t. let (i, l, p) = some-iff (suc d) (λ i. within n near i v w) .0 t in within-mono n near i d v w (omega arith) p),
+        (λ t. some-iff (suc d) (λ i. within n near i v w) .1 (d, le-refl (suc d), t)),
+      )
 
   -- ---- the three that a round carries on
   pub below-next : (d w : ℕ) → below n near (suc d) v w ≡ cond (new d w) d (below n near d v w)
@@ -96,7 +97,7 @@ module _ (n : ℕ) (near : ℕ → ℕ → Bool) (v : ℕ) where
 
   -- ---- nothing beyond n is reached
   module _ (inside : v < n) (beyond : (u w : ℕ) → u < n → n ≤ w → near u w ≡ false) where
-    pub within-beyond : (d w : ℕ) → n ≤ w → within n near d v w ≡ false
+    within-beyond : (d w : ℕ) → n ≤ w → within n near d v w ≡ false
     unfolding within
     within-beyond zero w l = ne-eqb v w (omega arith)
     within-beyond (suc d) w l =

@@ -1,19 +1,19 @@
 -- A distance is the length of a shortest walk, and the mark stands exactly where there is none.
-use mathlib.Core.Path.{_≡_, sym, subst}
+use mathlib.Core.Path.{_≡_, subst}
 use mathlib.Core.Logic.{_↔_, _≢_, inl, inr, ⊎-elim, by-cases}
 use mathlib.Core.Bool.{Bool}
 use Prim.Native.Nat.{ℕ, zero, suc, _≤_, _<_}
 use native.Mathlib.Nat.{le-refl}
-use native.Mathlib.Decide.{ℕ-discrete, decLe}
+use native.Mathlib.Decide.{ℕ-discrete}
 use native.Mathlib.Omega.{arith}
 use lib.Dec.{T}
 use Rattle.lists.proofs.Tests.{eqb-iff}
 use Rattle.instance.specs.declared.Sizes.{Sizes}
 use Rattle.instance.specs.Instance.{Instance, adjacent, Edge, Edges}
 use Rattle.instance.proofs.Graph.{adjacent-iff}
-use Rattle.distances.specs.Distance.{unreachable, within, below, distance}
-use Rattle.distances.specs.Walk.{Walk, Shortest, Unreachable}
-use Rattle.distances.proofs.Within.{within-step, within-last, within-back, below-is, below-least, distance-most}
+use Rattle.distances.specs.Distance.{unreachable, further, within, distance}
+use Rattle.distances.specs.Walk.{Walk, Shortest, Further, Unreachable}
+use Rattle.distances.proofs.Within.{within-step, within-last, within-mono, within-back, below-is, distance-most, further-iff}
 
 module _ (I : Instance) where
   open Instance I using (sizes)
@@ -27,7 +27,7 @@ module _ (I : Instance) where
   edge-back u w (j, l, t) = (j, l, ⊎-elim (λ x. inr x) (λ x. inl x) t)
 
   module _ (g : Edges I) where
-    pub edge-inside : (u w : ℕ) → Edge I u w → (u < n) × (w < n)
+    edge-inside : (u w : ℕ) → Edge I u w → (u < n) × (w < n)
     edge-inside u w (j, l, t) =
         let (a, b) = g .ends j l in ⊎-elim (λ x. (omega (arith, x), omega (arith, x))) (λ x. (omega (arith, x), omega (arith, x))) t
 
@@ -69,6 +69,13 @@ module _ (I : Instance) where
             (λ e. e)
             (λ d. let (i, p) = below-is n near n v w d in let (j, l, q) = within-walk (distance I v w) v w p in absurd (f j q))),
       )
+
+    -- the test says what the proposition says
+    pub further-walk : (v w t : ℕ) → v < n → w < n → T (further t (distance I v w)) ↔ Further I t v w
+    further-walk v w t hv hw = (
+      (λ f d l p. further-iff n near few v w hv hw t .0 f (within-mono n near d t v w l (walk-within g d v w p))),
+      (λ f. further-iff n near few v w hv hw t .1 (λ p. let (d, l, q) = within-walk t v w p in f d l q)),
+    )
 
     -- as far there as back
     back-most : (v w : ℕ) → v < n → w < n → distance I v w ≢ unreachable → distance I w v ≤ distance I v w

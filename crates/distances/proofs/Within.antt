@@ -2,15 +2,15 @@
 -- then, and when it is further than a number.
 use mathlib.Core.Path.{_≡_, refl, sym, subst}
 use mathlib.Core.Logic.{_↔_, _≢_, _⊎_, inl, inr, ⊎-elim, by-cases}
-use mathlib.Core.Bool.{Bool, true, false, not, _&&_, _||_, cond}
+use mathlib.Core.Bool.{Bool, true, false, not, _&&_, cond}
 use Prim.Native.Nat.{ℕ, zero, suc, _+_, _-_, _≤_, _<_}
-use native.Mathlib.Nat.{le-refl, not-suc-le-zero, eq-or-lt-of-le, le-of-suc-le-suc}
+use native.Mathlib.Nat.{le-refl, eq-or-lt-of-le, le-of-suc-le-suc}
 use native.Mathlib.Decide.{ℕ-discrete, decLt}
 use native.Mathlib.Omega.{arith}
-use lib.Dec.{T, ltb, eqb}
-use Rattle.lists.specs.Loop.{some, first, sum, greatest}
+use lib.Dec.{T, eqb}
+use Rattle.lists.specs.Loop.{some, first, sum}
 use Rattle.lists.proofs.Tests.{and-iff, or-iff, not-iff, eqb-iff, ltb-iff, some-iff, first-iff, first-least}
-use Rattle.lists.proofs.Sums.{ind, ind-yes, ind-no, count-most, count-le, count-less}
+use Rattle.lists.proofs.Sums.{ind, count-most, count-less, greatest-most}
 use Rattle.instance.specs.Instance.{Instance}
 use Rattle.distances.specs.Distance.{unreachable, further, within, below, distanceIn, startToGoal, floor}
 
@@ -39,7 +39,7 @@ module _ (n : ℕ) (near : ℕ → ℕ → Bool) where
       (λ k. within-more e v w (within-mono d e v w (le-of-suc-le-suc k) h))
       (eq-or-lt-of-le l)
 
-  pub within-cons : (d v u w : ℕ) → v < n → T (near v u) → T (within n near d u w) → T (within n near (suc d) v w)
+  within-cons : (d v u w : ℕ) → v < n → T (near v u) → T (within n near d u w) → T (within n near (suc d) v w)
   unfolding within
   within-cons zero v u w l p q = within-step 0 v v w l (eqb-iff v v .1 refl) (subst (λ (x : ℕ). T (near v x)) (eqb-iff u w .0 q) p)
   within-cons (suc d) v u w l p q =
@@ -108,7 +108,7 @@ module _ (n : ℕ) (near : ℕ → ℕ → Bool) where
         (new? d))
         (grows d)
 
-    pub within-all : (d w : ℕ) → w < n → T (within n near d v w) → T (within n near (n - 1) v w)
+    within-all : (d w : ℕ) → w < n → T (within n near d v w) → T (within n near (n - 1) v w)
     within-all d w l p =
         ⊎-elim
         (λ (j, k, s). within-mono j (n - 1) v w (omega (arith, k)) (still-all j s d .1 w l (within-mono d (j + d) v w (omega arith) p)))
@@ -134,7 +134,7 @@ module _ (n : ℕ) (near : ℕ → ℕ → Bool) where
       (below-cases j v w)
 
   -- and none is lower
-  pub below-least : (j v w d : ℕ) → d < j → T (within n near d v w) → below n near j v w ≤ d
+  below-least : (j v w d : ℕ) → d < j → T (within n near d v w) → below n near j v w ≤ d
   below-least j v w d l p =
       ⊎-elim
       (λ (t, e). rw e (first-least j (λ d. within n near d v w) d l p))
@@ -169,10 +169,6 @@ module _ (n : ℕ) (near : ℕ → ℕ → Bool) where
     )
 
 -- ---- the floor is no more than what no distance from a start to its goal exceeds
-greatest-most : (n : ℕ) (f : ℕ → ℕ) (x : ℕ) → ((a : ℕ) → a < n → f a ≤ x) → greatest n f ≤ x
-greatest-most zero f x h = omega arith
-greatest-most (suc n) f x h = omega (arith, greatest-most n f x (λ a l. h a (omega arith)), h n (le-refl (suc n)))
-
 pub floor-most : (I : Instance) (x : ℕ) → ((a : ℕ) → a < I .sizes .k → startToGoal I a ≤ x) → floor I ≤ x
 unfolding floor
 floor-most I x h = greatest-most (I .sizes .k) (startToGoal I) x h

@@ -1,5 +1,5 @@
 -- Distances in the graph of an instance, in edges, and the floor.
-use mathlib.Core.Bool.{Bool, _&&_, _||_, cond}
+use mathlib.Core.Bool.{Bool, not, _&&_, _||_, cond}
 use Prim.Native.Nat.{ℕ, zero, suc}
 use lib.Dec.{ltb, eqb}
 use Rattle.lists.specs.Loop.{some, first, greatest}
@@ -9,7 +9,11 @@ use Rattle.instance.specs.Instance.{Instance, adjacent}
 abbrev pub unreachable : ℕ
 unreachable = 255
 
--- a vertex at distance d, or with the mark, is further than t: unreachable counts as further
+-- a vertex with this distance can be reached
+abbrev pub reachable : ℕ → Bool
+reachable d = not (eqb d unreachable)
+
+-- a vertex with this distance is further than t: unreachable counts as further
 abbrev pub further : ℕ → ℕ → Bool
 further t d = eqb d unreachable || ltb t d
 

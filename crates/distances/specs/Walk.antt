@@ -14,6 +14,10 @@ module _ (I : Instance) where
     pub walk : Walk d v w
     pub least : (j : ℕ) → Walk j v w → d ≤ j
 
+  -- no walk of at most t edges leads from v to w
+  abbrev pub Further : ℕ → ℕ → ℕ → Type 0
+  Further t v w = (d : ℕ) → d ≤ t → Walk d v w → ⊥
+
   -- there is no walk from v to w
   abbrev pub Unreachable : ℕ → ℕ → Type 0
   Unreachable v w = (d : ℕ) → Walk d v w → ⊥

@@ -2,37 +2,35 @@
 use mathlib.Core.Path.{_≡_, refl, sym, _∙_, ap, ap₂}
 use mathlib.Core.Logic.{_≢_}
 use mathlib.Core.List.{List, [], _∷_}
-use mathlib.Core.Bool.{Bool, not}
-use Prim.Native.Nat.{ℕ, zero, suc, _+_, _*_, _≤_, _<_, max}
-use native.Mathlib.Nat.{le-refl}
+use Prim.Native.Nat.{ℕ, _+_, _*_, _≤_, _<_, max}
 use native.Mathlib.Numerals.{add-one}
 use native.Mathlib.Omega.{arith}
 use lib.ListN.{getD}
 use lib.Dec.{T, eqb}
-use Rattle.lists.specs.Loop.{greatest}
+use Rattle.lists.specs.Loop.{unless, greatest}
 use Rattle.lists.proofs.Tests.{not-iff, eqb-iff, below-suc, below-zero}
 use Rattle.lists.proofs.Loops.{for-ext}
+use Rattle.lists.proofs.Sums.{greatest-ext}
 use Rattle.answers.specs.declared.Answer.{Answer}
 use Rattle.answers.specs.Answers.{Question, askEach, refuse, accept, decide}
 use Rattle.answers.proofs.Laws.{decide-pass, decide-stop, decide-count}
-use Rattle.instance.specs.declared.Sizes.{Sizes}
 use Rattle.instance.specs.declared.Checked.{Checked}
-use Rattle.instance.specs.Instance.{Instance, instance, adjacent, agents, goals}
+use Rattle.instance.specs.Instance.{Instance, instance, goals}
 use Rattle.instance.specs.Questions.{instanceAnswer, instanceChecked}
 use Rattle.instance.specs.Accepted.{Accepted, instanceOf}
 use Rattle.instance.proofs.Accepted.{ready, shown, k-same, e-same}
 use Rattle.instance.proofs.Call.{passed, horizon, instance-refuses, call-answers}
-use Rattle.distances.specs.Distance.{unreachable, distanceIn, startToGoal, floor}
-use Rattle.calls.specs.Questions.{question30}
-use Rattle.calls.specs.Calls.{floorAnswer}
+use Rattle.distances.specs.Distance.{unreachable, reachable, distance, startToGoal, floor}
+use Rattle.distances.proofs.Table.{table-distance}
+use Rattle.calls.specs.Calls.{goalQuestion, floorAnswer}
 use Rattle.calls.proofs.Floor.{floor-asks}
-use Rattle.distance_table.specs.Table.{TableOf}
+use Rattle.distances.specs.Table.{TableOf}
 use Rattle.floor.specs.Measured.{measured, between}
 
 -- the agents below a can reach their goals, and this is the greatest of their distances
 pub record Measuring (k : ℕ) (d : ℕ → ℕ) (a most : ℕ) : Type 0 where
   pub inside : a ≤ k
-  pub reached : (i : ℕ) → i < a → T (not (eqb (d i) unreachable))
+  pub reached : (i : ℕ) → i < a → T (reachable (d i))
   pub same : most ≡ greatest a d
 
 pub measuring-none : {k : ℕ} {d : ℕ → ℕ} → Measuring k d 0 0
@@ -51,7 +49,7 @@ module _ {k : ℕ} {d : ℕ → ℕ} {a most : ℕ} (w : Measuring k d a most) w
   pub measuring-stop : a < k → (place x : ℕ) → x ≡ d a → x ≡ unreachable → refuse 30 (place + a) ≡ measured k d place
   unfolding measured
   measuring-stop l place x e f =
-      sym (decide-stop k (λ i. not (eqb (d i) unreachable)) (λ i. refuse 30 (place + i)) [] (greatest k d) a l (w .reached)
+      sym (decide-stop k (λ i. reachable (d i)) (λ i. refuse 30 (place + i)) [] (greatest k d) a l (w .reached)
       (λ t. not-iff (eqb (d a) unreachable) .0 t (eqb-iff (d a) unreachable .1 (sym e ∙ f))))
 
   pub measuring-done : k ≤ a → (place : ℕ) → accept most ≡ measured k d place
@@ -60,23 +58,19 @@ module _ {k : ℕ} {d : ℕ → ℕ} {a most : ℕ} (w : Measuring k d a most) w
       let e : a ≡ k = omega (arith, w .inside) in
       ap accept (w .same ∙ ap (λ (i : ℕ). greatest i d) e)
       ∙ sym (decide-count [] (greatest k d) tt)
-      ∙ sym (decide-pass k (λ i. not (eqb (d i) unreachable)) (λ i. refuse 30 (place + i)) [] (greatest k d) (λ i p. w .reached i (omega arith)))
+      ∙ sym (decide-pass k (λ i. reachable (d i)) (λ i. refuse 30 (place + i)) [] (greatest k d) (λ i p. w .reached i (omega arith)))
 
 -- ---- distances that agree
 measured-ext : (k : ℕ) (d e : ℕ → ℕ) (place : ℕ) → ((a : ℕ) → a < k → d a ≡ e a) → measured k d place ≡ measured k e place
 unfolding measured askEach
 measured-ext k d e place h =
     ap₂ (λ (q : Question) (c : ℕ). decide (q ∷ []) c)
-    (for-ext k _ _ (λ a l. ap (λ (x : ℕ). Rattle.lists.specs.Loop.unless (not (eqb x unreachable)) (refuse 30 (place + a))) (h a l)))
-    (same k h)
-  where
-    same : (n : ℕ) → ((a : ℕ) → a < n → d a ≡ e a) → greatest n d ≡ greatest n e
-    same zero h = refl
-    same (suc n) h = ap₂ max (same n (λ i l. h i (omega arith))) (h n (le-refl (suc n)))
+    (for-ext k _ _ (λ a l. ap (λ (x : ℕ). unless (reachable x) (refuse 30 (place + a))) (h a l)))
+    (greatest-ext k d e h)
 
 module _ (b : List ℕ) (a : Answer) (c : Checked) (ea : a ≡ instanceAnswer b 0) (ec : c ≡ instanceChecked b 0) where
   abbrev asks : Instance → List Question
-  asks I = question30 b ∷ []
+  asks I = goalQuestion b ∷ []
 
   pub refused : a .number ≢ 0 → a ≡ floorAnswer b
   refused d = instance-refuses b 0 a c ea ec asks floor d ∙ floor-asks b
@@ -91,9 +85,8 @@ module _ (b : List ℕ) (a : Answer) (c : Checked) (ea : a ≡ instanceAnswer b 
     at table t i l =
         let s = shown b c known in
         let r = ready b c known in
-        t (getD (c .starts) i 0) (r .starts-below i l) (getD (c .goals) i 0) (r .goals-below i l)
-        ∙ ap₂ (λ (n : ℕ) (near : ℕ → ℕ → Bool). distanceIn n near (getD (c .starts) i 0) (getD (c .goals) i 0)) (ap (λ (x : Sizes). x .n) (s .graph .sizes)) (s .graph .words)
-        ∙ ap₂ (distanceIn (instanceOf b c .sizes .n) (adjacent (instanceOf b c))) (s .starts-at i l) (s .goals-at i l)
+        table-distance (instanceOf b c) (c .sizes) (c .near) (s .graph) table t (getD (c .starts) i 0) (getD (c .goals) i 0) (r .starts-below i l) (r .goals-below i l)
+        ∙ ap₂ (distance (instanceOf b c)) (s .starts-at i l) (s .goals-at i l)
         ∙ ap (λ (I : Instance). startToGoal I i) (horizon b 0 a c ea ec o)
 
     pub answered : (table : List (List ℕ)) → TableOf (c .sizes .n) (c .near) table

@@ -1,20 +1,19 @@
 -- The counts of the pruned formula are the lengths of its lists.
 use mathlib.Core.Path.{_≡_, refl, sym, _∙_, ap, ap₂}
-use mathlib.Core.Logic.{_⊎_, inl, inr, ⊎-elim, by-cases}
-use mathlib.Core.List.{List, [], _∷_}
+use mathlib.Core.Logic.{_↔_, _⊎_, inl, inr, ⊎-elim, by-cases}
+use mathlib.Core.List.{[], _∷_}
 use mathlib.Core.Bool.{Bool, true, false, _||_}
 use Prim.Native.Nat.{ℕ, zero, suc, _+_, _*_, _-_, _≤_, _<_, min}
 use native.Mathlib.Nat.{le-refl, mul-comm, mul-assoc}
 use native.Mathlib.Decide.{decLt}
 use native.Mathlib.Omega.{arith}
-use borrow.Author.Tests.{le-ltb}
 use lib.ListN.{length, length-append}
-use lib.Dec.{ltb, eqb}
+use lib.Dec.{T, ltb, eqb}
 use lib.IntN.{ℤ}
-use Rattle.lists.specs.Loop.{for, when, each, sum}
+use Rattle.lists.specs.Loop.{when, each, sum}
 use Rattle.lists.proofs.Tests.{T-ext, or-iff, eqb-iff, ltb-iff}
 use Rattle.lists.proofs.Loops.{for-ext, each-for, each-when, each-append}
-use Rattle.lists.proofs.Sums.{ind, ind-yes, for-sum, sum-ext, sum-mul, sum-swap, when-count, sum-below}
+use Rattle.lists.proofs.Sums.{ind, ind-yes, ind-no, for-sum, sum-ext, sum-mul, sum-swap, when-count, sum-below}
 use Rattle.instance.specs.declared.Sizes.{Sizes}
 use Rattle.instance.specs.Instance.{Instance, Edges}
 use Rattle.instance.specs.Limits.{Limits}
@@ -26,15 +25,26 @@ use Rattle.formula.proofs.Counts.{clause-count, word-count}
 use Rattle.formula.proofs.Limits.{words-most, variables-most}
 
 -- ---- one vertex: the first x times are too early, the last y too late
-pub far-ltb : (t x : ℕ) → t < unreachable → further t x ≡ ltb t x
-far-ltb t x h =
-    T-ext (further t x) (ltb t x) (
-      (λ f. ⊎-elim (λ e. let z = eqb-iff x unreachable .0 e in ltb-iff t x .1 (omega arith)) (λ l. l) (or-iff (eqb x unreachable) _ .0 f)),
-      (λ l. or-iff (eqb x unreachable) _ .1 (inr l)),
-    )
+further-iff : (t x : ℕ) → t < unreachable → T (further t x) ↔ (t < x)
+further-iff t x h = (
+  (λ f. ⊎-elim (λ e. let z = eqb-iff x unreachable .0 e in omega arith) (λ l. ltb-iff t x .0 l) (or-iff (eqb x unreachable) _ .0 f)),
+  (λ l. or-iff (eqb x unreachable) _ .1 (inr (ltb-iff t x .1 l))),
+)
+
+too-far-iff : (m t x y : ℕ) → m < unreachable → t ≤ m → T (tooFar m t x y) ↔ ((t < x) ⊎ (m - t < y))
+too-far-iff m t x y h l = (
+  (λ f. ⊎-elim (λ p. let z = further-iff _ x (omega arith) .0 p in inl (omega arith)) (λ p. let z = further-iff _ y (omega arith) .0 p in inr (omega arith)) (or-iff (further t x) _ .0 f)),
+  (λ c.
+      or-iff (further t x) _ .1
+      (⊎-elim (λ p. inl (further-iff _ x (omega arith) .1 (omega arith))) (λ p. inr (further-iff _ y (omega arith) .1 (omega arith))) c)),
+)
 
 pub too-far-ltb : (m t x y : ℕ) → m < unreachable → t ≤ m → tooFar m t x y ≡ ltb t x || ltb (m - t) y
-too-far-ltb m t x y h l = ap₂ _||_ (far-ltb t x (omega arith)) (far-ltb (m - t) y (omega arith))
+too-far-ltb m t x y h l =
+    T-ext (tooFar m t x y) (ltb t x || ltb (m - t) y) (
+      (λ f. or-iff (ltb t x) _ .1 (⊎-elim (λ p. inl (ltb-iff t x .1 p)) (λ p. inr (ltb-iff (m - t) y .1 p)) (too-far-iff m t x y h l .0 f))),
+      (λ f. too-far-iff m t x y h l .1 (⊎-elim (λ p. inl (ltb-iff t x .0 p)) (λ p. inr (ltb-iff (m - t) y .0 p)) (or-iff (ltb t x) _ .0 f))),
+    )
 
 -- time t, where s of the times before it are too early or too late, and i is 1 where t is and 0 where not; the times from z on are
 -- too late
@@ -47,12 +57,10 @@ module _ (x z t s i : ℕ) where
 
 module _ (m x y : ℕ) (h : m < unreachable) where
   far-yes : (t : ℕ) → t ≤ m → (t < x) ⊎ (m - t < y) → ind (tooFar m t x y) ≡ 1
-  far-yes t l c =
-      rw (too-far-ltb m t x y h l)
-      (ind-yes (ltb t x || ltb (m - t) y) (or-iff (ltb t x) _ .1 (⊎-elim (λ p. inl (ltb-iff t x .1 p)) (λ p. inr (ltb-iff (m - t) y .1 p)) c)))
+  far-yes t l c = ind-yes (tooFar m t x y) (too-far-iff m t x y h l .1 c)
 
   far-no : (t : ℕ) → t ≤ m → x ≤ t → y ≤ m - t → ind (tooFar m t x y) ≡ 0
-  far-no t l p q = rw (too-far-ltb m t x y h l) (rw (le-ltb t x p, le-ltb (m - t) y q) refl)
+  far-no t l p q = ind-no (tooFar m t x y) (λ f. ⊎-elim (λ a. omega arith) (λ a. omega arith) (too-far-iff m t x y h l .0 f))
 
   -- of the first j times
   far-times : (j : ℕ) → j ≤ suc m → sum j (λ t. ind (tooFar m t x y)) + (min j (suc m - y) - x) ≡ j
@@ -72,7 +80,7 @@ module _ (m x y : ℕ) (h : m < unreachable) where
       early : (m - j < y → ⊥) → j < suc m - y
       early q = omega arith
 
-  pub far-count : sum (suc m) (λ t. ind (tooFar m t x y)) ≡ min (suc m) (x + y)
+  far-count : sum (suc m) (λ t. ind (tooFar m t x y)) ≡ min (suc m) (x + y)
   far-count = omega (arith, far-times (suc m) (le-refl (suc m)))
 
 -- ---- family H
@@ -88,7 +96,7 @@ module _ (s : Sizes) (from to : ℕ → ℕ → ℕ) (h : s .m < unreachable) wh
       sum-swap (suc m) k (λ t a. sum n λ v. ind (test t a v))
       ∙ sum-ext k _ _ (λ a l. sum-swap (suc m) n (λ t v. ind (test t a v)) ∙ sum-ext n _ _ (λ v r. far-count m (from a v) (to a v) h))
 
-  pub count-H : length (H s from to) ≡ countH s from to
+  count-H : length (H s from to) ≡ countH s from to
   unfolding H
   count-H =
       for-sum (suc m) _
@@ -99,7 +107,7 @@ module _ (s : Sizes) (from to : ℕ → ℕ → ℕ) (h : s .m < unreachable) wh
   two true x y = refl
   two false x y = refl
 
-  pub words-H : length (each line (H s from to)) ≡ 2 * countH s from to
+  words-H : length (each line (H s from to)) ≡ 2 * countH s from to
   unfolding H
   words-H =
       simp (each-for, each-when)
@@ -143,7 +151,7 @@ module _ (s : Sizes) (from to from′ to′ : ℕ → ℕ → ℕ) where
     count-H-ext = sum-ext k _ _ (λ a r. sum-ext n _ _ (λ v q. ap₂ (λ (x y : ℕ). min (suc m) (x + y)) (f a r v q) (g a r v q)))
 
 -- ---- at most two words more for each variable
-pub count-H-most : (s : Sizes) (from to : ℕ → ℕ → ℕ) → countH s from to ≤ s .k * (s .n * suc (s .m))
+count-H-most : (s : Sizes) (from to : ℕ → ℕ → ℕ) → countH s from to ≤ s .k * (s .n * suc (s .m))
 unfolding countH
 count-H-most s from to =
     sum-below (s .k) (s .n * suc (s .m)) _ (λ a l. sum-below (s .n) (suc (s .m)) _ (λ v r. omega arith))

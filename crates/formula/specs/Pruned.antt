@@ -1,5 +1,5 @@
--- Family H, which stands after G, and the formula with it. H forbids each agent the vertices that it cannot reach in time, or from
--- which it cannot reach its goal in time.
+-- Family H, and the pruned formula, which has it after G. H forbids each agent the vertices that it cannot come to in time, or from which
+-- it cannot come to its goal in time.
 use mathlib.Core.List.{List, [], _∷_, _++_}
 use mathlib.Core.Bool.{Bool, _||_}
 use Prim.Native.Nat.{ℕ, suc, _+_, _*_, _-_, min}
@@ -19,17 +19,18 @@ tooFar m t x y = further t x || further (m - t) y
 module _ (s : Sizes) where
   open Sizes s using (n, k, m)
 
-  -- of agent a at time t, where from v and to v are the distances of v from its start and from its goal
+  -- of agent a at time t, where x v and y v are the distances of v from its start and from its goal
   abbrev pub blockH : (ℕ → ℕ) → (ℕ → ℕ) → ℕ → ℕ → List Clause
-  blockH from to t a = for n λ v. when (tooFar m t (from v) (to v)) ((¬X s t a v ∷ []) ∷ [])
+  blockH x y t a = for n λ v. when (tooFar m t (x v) (y v)) ((¬X s t a v ∷ []) ∷ [])
 
-  -- where from a and to a are those of agent a
+  -- where x a and y a are those of agent a
   unfoldable pub H : (ℕ → ℕ → ℕ) → (ℕ → ℕ → ℕ) → List Clause
-  H from to = for (suc m) λ t. for k λ a. blockH (from a) (to a) t a
+  H x y = for (suc m) λ t. for k λ a. blockH (x a) (y a) t a
 
-  -- how many clauses H has: of the times 0 to m, the first x and the last y are too early or too late for a vertex
+  -- How many clauses it has. A vertex at distance x from the start and y from the goal is too far at the first x of the m + 1 times and at
+  -- the last y of them; the mark is more than all of them.
   unfoldable pub countH : (ℕ → ℕ → ℕ) → (ℕ → ℕ → ℕ) → ℕ
-  countH from to = sum k λ a. sum n λ v. min (suc m) (from a v + to a v)
+  countH x y = sum k λ a. sum n λ v. min (suc m) (x a v + y a v)
 
 module _ (I : Instance) where
   open Instance I using (sizes, start, goal)

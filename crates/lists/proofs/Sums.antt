@@ -3,7 +3,7 @@ use mathlib.Core.Path.{_≡_, refl, sym, _∙_, ap, ap₂, subst}
 use mathlib.Core.Logic.{_↔_, ⊎-elim, by-cases}
 use mathlib.Core.List.{List, [], _∷_}
 use mathlib.Core.Bool.{Bool, true, false, not, _&&_, _||_}
-use Prim.Native.Nat.{ℕ, zero, suc, _+_, _*_, _-_, _/_, _≤_, _<_}
+use Prim.Native.Nat.{ℕ, zero, suc, _+_, _*_, _-_, _/_, _≤_, _<_, max}
 use native.Mathlib.Nat.{suc-mul, mul-suc, zero-mul, mul-zero, add-mul, le-refl, not-suc-le-zero, eq-or-lt-of-le, le-of-suc-le-suc, mul-div-cancel-left, zero-lt-suc, add-zero}
 use native.Mathlib.Decide.{decLe}
 use native.Mathlib.Omega.{arith}
@@ -11,7 +11,7 @@ use borrow.Author.Tests.{eq-eqb, ne-eqb}
 use lib.ListN.{length, getD, length-append, List·getD-append}
 use lib.Seq.{getD-append-add}
 use lib.Dec.{T, ltb, eqb}
-use Rattle.lists.specs.Loop.{for, when, unless, sum, some}
+use Rattle.lists.specs.Loop.{for, when, unless, sum, some, greatest}
 use Rattle.lists.proofs.Tests.{some-iff}
 use Rattle.lists.proofs.Loops.{for-length, for-getD, for-ext, for-above, for-others}
 use Rattle.lists.proofs.Blocks.{place-lt, for1-length, for1-getD}
@@ -37,6 +37,29 @@ pub sum-le : (n : ℕ) (f : ℕ → ℕ) (i : ℕ) → i < n → sum i f + f i �
 sum-le zero f i l = absurd (not-suc-le-zero l)
 sum-le (suc n) f i l =
     ⊎-elim (λ e. rw e (le-refl _)) (λ b. omega (arith, sum-le n f i b)) (eq-or-lt-of-le (le-of-suc-le-suc l))
+
+-- ---- the greatest: as great as each, one of them, and no greater than what none exceeds
+pub greatest-le : (n : ℕ) (f : ℕ → ℕ) (a : ℕ) → a < n → f a ≤ greatest n f
+greatest-le zero f a l = absurd (not-suc-le-zero l)
+greatest-le (suc n) f a l =
+    ⊎-elim (λ e. let q = ap f e in omega arith) (λ k. let q = greatest-le n f a k in omega arith) (eq-or-lt-of-le (le-of-suc-le-suc l))
+
+pub greatest-one : (n : ℕ) (f : ℕ → ℕ) → 0 < n → (a : ℕ) × (a < n) × (f a ≡ greatest n f)
+greatest-one zero f l = absurd (not-suc-le-zero l)
+greatest-one (suc zero) f l = (0, l, let e : f 0 ≡ greatest 1 f = omega arith in e)
+greatest-one (suc (suc n)) f l =
+    let (a, h, e) = greatest-one (suc n) f (omega arith) in
+    by-cases (decLe (f (suc n)) (greatest (suc n) f))
+    (λ q. (a, omega arith, let z : f a ≡ greatest (suc (suc n)) f = omega arith in z))
+    (λ q. (suc n, le-refl _, let z : f (suc n) ≡ greatest (suc (suc n)) f = omega arith in z))
+
+pub greatest-most : (n : ℕ) (f : ℕ → ℕ) (x : ℕ) → ((a : ℕ) → a < n → f a ≤ x) → greatest n f ≤ x
+greatest-most zero f x h = omega arith
+greatest-most (suc n) f x h = omega (arith, greatest-most n f x (λ a l. h a (omega arith)), h n (le-refl (suc n)))
+
+pub greatest-ext : (n : ℕ) (f g : ℕ → ℕ) → ((i : ℕ) → i < n → f i ≡ g i) → greatest n f ≡ greatest n g
+greatest-ext zero f g h = refl
+greatest-ext (suc n) f g h = ap₂ max (greatest-ext n f g (λ i l. h i (omega arith))) (h n (le-refl (suc n)))
 
 module _ {A : Type 0} where
   pub for-sum : (n : ℕ) (f : ℕ → List A) → length (for n f) ≡ sum n (λ i. length (f i))
@@ -172,7 +195,7 @@ ind-le true true h = omega arith
 ind-le true false h = absurd (h tt)
 ind-le false b h = omega arith
 
-pub count-le : (n : ℕ) (p q : ℕ → Bool) → ((i : ℕ) → i < n → T (p i) → T (q i)) → sum n (λ i. ind (p i)) ≤ sum n (λ i. ind (q i))
+count-le : (n : ℕ) (p q : ℕ → Bool) → ((i : ℕ) → i < n → T (p i) → T (q i)) → sum n (λ i. ind (p i)) ≤ sum n (λ i. ind (q i))
 count-le zero p q h = omega arith
 count-le (suc n) p q h = omega (arith, count-le n p q (λ i l. h i (omega arith)), ind-le (p n) (q n) (h n (le-refl (suc n))))
 

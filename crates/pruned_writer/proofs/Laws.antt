@@ -1,35 +1,32 @@
 -- The words that are written are those of the pruned formula.
 use mathlib.Core.Path.{_≡_, sym, _∙_, ap, ap₂}
 use mathlib.Core.List.{List, _++_}
-use mathlib.Core.Bool.{Bool}
 use Prim.Native.Nat.{ℕ, _+_, _*_, _<_}
 use native.Mathlib.Omega.{arith}
 use lib.ListN.{length}
 use Rattle.lists.specs.Loop.{for, each}
 use Rattle.instance.specs.declared.Sizes.{Sizes}
 use Rattle.instance.specs.declared.Checked.{Checked}
-use Rattle.instance.specs.Instance.{Instance, adjacent}
+use Rattle.instance.specs.Instance.{Instance}
 use Rattle.instance.specs.Accepted.{Accepted, instanceOf}
 use Rattle.instance.proofs.Accepted.{sizes-same, graph, limits-known, ready, shown}
-use Rattle.distances.specs.Distance.{unreachable, distanceIn, distance}
+use Rattle.distances.specs.Distance.{unreachable, distance}
+use Rattle.distances.specs.Table.{cell, TableOf, byTable}
+use Rattle.distances.proofs.Table.{table-distance}
 use Rattle.formula.specs.Formula.{Clause, line, words}
 use Rattle.formula.specs.Blocks.{held, family}
 use Rattle.formula.specs.Counts.{clauseCount, wordCount}
 use Rattle.formula.specs.Pruned.{H, countH, fromStart, fromGoal, familyH, pruned, prunedClauses, prunedWords}
 use Rattle.formula.proofs.Held.{families-held}
 use Rattle.formula.proofs.Pruned.{H-ext, count-H-ext, pruned-clause-count, pruned-word-count}
-use Rattle.distance_table.specs.Table.{cell, TableOf}
-use Rattle.pruned_writer.specs.ByTable.{byTable, byTableH, countByTable}
+use Rattle.pruned_writer.specs.ByTable.{byTableH, countByTable}
 
 module _ (b : List ℕ) (c : Checked) (w : Accepted b c) (table : List (List ℕ)) (t : TableOf (c .sizes .n) (c .near) table) where
   abbrev I : Instance
   I = instanceOf b c
 
-  -- an entry of the table is a distance of the instance
   entry : (v u : ℕ) → v < c .sizes .n → u < c .sizes .n → cell table v u ≡ distance I v u
-  entry v u p q =
-      t v p u q
-      ∙ ap₂ (λ (n : ℕ) (near : ℕ → ℕ → Bool). distanceIn n near v u) (ap (λ (s : Sizes). s .n) (shown b c w .graph .sizes)) (shown b c w .graph .words)
+  entry = table-distance I (c .sizes) (c .near) (shown b c w .graph) table t
 
   from-start : (a : ℕ) → a < c .sizes .k → (v : ℕ) → v < c .sizes .n → byTable table (c .starts) a v ≡ fromStart I a v
   from-start a l v r = entry _ v (ready b c w .starts-below a l) r ∙ ap (λ (x : ℕ). distance I x v) (shown b c w .starts-at a l)

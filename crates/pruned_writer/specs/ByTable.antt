@@ -1,16 +1,12 @@
 -- Family H as the code has it: the distances are the table's.
 use mathlib.Core.List.{List}
-use Prim.Native.Nat.{ℕ}
+use Prim.Native.Nat.{ℕ, _<_}
 use lib.ListN.{getD}
 use Rattle.lists.specs.Loop.{for}
 use Rattle.instance.specs.declared.Sizes.{Sizes}
 use Rattle.formula.specs.Formula.{Clause}
 use Rattle.formula.specs.Pruned.{blockH, H, countH}
-use Rattle.distance_table.specs.Table.{cell}
-
--- of vertex v from the vertex that a row has for agent a: its start or its goal
-abbrev pub byTable : List (List ℕ) → List ℕ → ℕ → ℕ → ℕ
-byTable table row a v = cell table (getD row a 0) v
+use Rattle.distances.specs.Table.{byTable}
 
 module _ (s : Sizes) (table : List (List ℕ)) (starts goals : List ℕ) where
   -- H, of time t
@@ -23,3 +19,7 @@ module _ (s : Sizes) (table : List (List ℕ)) (starts goals : List ℕ) where
 
   abbrev pub countByTable : ℕ
   countByTable = countH s (byTable table starts) (byTable table goals)
+
+-- each agent has a start and a goal below n
+abbrev pub Inside : Sizes → List ℕ → List ℕ → Type 0
+Inside s starts goals = (a : ℕ) → a < s .k → (getD starts a 0 < s .n) × (getD goals a 0 < s .n)

@@ -1,4 +1,5 @@
-// The writer of the pruned formula: the seven families, and family H behind them.
+// The writer of the pruned formula: the seven families, then family H. Of an agent, `from` has the distances of the vertices from its
+// start, `to` those from its goal.
 use answers::Written;
 use instance::Checked;
 use instance::Sizes;
@@ -7,7 +8,7 @@ use variables::Step;
 use variables::Vertex;
 ghost use mathlib.Core.Path.{_≡_};
 ghost use mathlib.Core.List.{[], _∷_, _++_};
-ghost use Prim.Native.Nat.{ℕ, suc, _+_, _≤_, _<_, min};
+ghost use Prim.Native.Nat.{suc, _+_, _≤_, _<_, min};
 ghost use lib.ListN.{length, getD};
 ghost use Rattle.lists.specs.Loop.{for, when, each, sum};
 ghost use Rattle.lists.specs.Slice.{filled, Wrote};
@@ -18,7 +19,7 @@ ghost use Rattle.formula.specs.Formula.{line};
 ghost use Rattle.formula.specs.Blocks.{held, family};
 ghost use Rattle.formula.specs.Pruned.{tooFar, blockH, pruned};
 ghost use Rattle.calls.specs.Calls.{writeAnswer, writeSlice};
-ghost use Rattle.pruned_writer.specs.ByTable.{stepByTable, byTableH, countByTable};
+ghost use Rattle.pruned_writer.specs.ByTable.{stepByTable, byTableH, countByTable, Inside};
 
 // Is a vertex at distance x from the start and y from the goal too far at time t? The mark is more than any time.
 fn too_far(m: usize, t: usize, x: u8, y: u8) -> bool
@@ -42,14 +43,7 @@ fn write_vertex(f: &mut [i32], s: Sizes, t: Step, a: Agent, v: Vertex, x: u8, y:
 }
 
 // H, of time t and agent a.
-fn write_block(
-    f: &mut [i32],
-    s: Sizes,
-    from: &[u8; 64],
-    to: &[u8; 64],
-    t: Step,
-    a: Agent,
-) -> usize
+fn write_block(f: &mut [i32], s: Sizes, from: &[u8; 64], to: &[u8; 64], t: Step, a: Agent) -> usize
     requires { ⌜ Limits s ⌝ }
     requires { ⌜ (t .0 ≤ s .m) × (a .0 < s .k) ⌝ }
     requires { ⌜ length (each line (blockH s (λ v. getD (now from) v 0) (λ v. getD (now to) v 0) (t .0) (a .0))) ≤ length (now f) ⌝ }
@@ -73,7 +67,7 @@ fn write_step(
     t: usize,
 ) -> usize
     requires { ⌜ Limits s ⌝ }
-    requires { ⌜ ((a : ℕ) → a < s .k → (getD (now starts) a 0 < s .n) × (getD (now goals) a 0 < s .n)) ⌝ }
+    requires { ⌜ Inside s (now starts) (now goals) ⌝ }
     requires { ⌜ (t ≤ s .m) × (length (now table) ≡ 64) ⌝ }
     requires { ⌜ length (each line (stepByTable s (now table) (now starts) (now goals) t)) ≤ length (now f) ⌝ }
     ensures { λ r. ⌜ Wrote (each line (stepByTable s (now (table .entry)) (now (starts .entry)) (now (goals .entry)) t)) (now (f .entry)) (now (f .exit)) r ⌝ }
@@ -97,7 +91,7 @@ fn write_h(
     table: &[[u8; 64]],
 ) -> usize
     requires { ⌜ Limits s ⌝ }
-    requires { ⌜ ((a : ℕ) → a < s .k → (getD (now starts) a 0 < s .n) × (getD (now goals) a 0 < s .n)) ⌝ }
+    requires { ⌜ Inside s (now starts) (now goals) ⌝ }
     requires { ⌜ length (now table) ≡ 64 ⌝ }
     requires { ⌜ length (each line (byTableH s (now table) (now starts) (now goals))) ≤ length (now f) ⌝ }
     ensures { λ r. ⌜ Wrote (each line (byTableH s (now (table .entry)) (now (starts .entry)) (now (goals .entry)))) (now (f .entry)) (now (f .exit)) r ⌝ }
@@ -139,7 +133,7 @@ fn count_for(s: Sizes, from: &[u8; 64], to: &[u8; 64]) -> usize
 // The clauses of H.
 fn count_h(s: Sizes, starts: &[u8; 16], goals: &[u8; 16], table: &[[u8; 64]]) -> usize
     requires { ⌜ Limits s ⌝ }
-    requires { ⌜ ((a : ℕ) → a < s .k → (getD (now starts) a 0 < s .n) × (getD (now goals) a 0 < s .n)) ⌝ }
+    requires { ⌜ Inside s (now starts) (now goals) ⌝ }
     requires { ⌜ length (now table) ≡ 64 ⌝ }
     ensures { λ r. ⌜ (r ≡ countByTable s (now (table .entry)) (now (starts .entry)) (now (goals .entry))) × (r ≤ 33792) ⌝ }
 {
@@ -153,7 +147,7 @@ fn count_h(s: Sizes, starts: &[u8; 16], goals: &[u8; 16], table: &[[u8; 64]]) ->
     count
 }
 
-// The seven families of a checked instance, and H behind them, to a slice with room for all.
+// The seven families of a checked instance, then H, to a slice with room for all.
 fn write_all(f: &mut [i32], c: Checked, table: &[[u8; 64]])
     requires { ⌜ Ready (c .sizes) (c .starts) (c .goals) (c .near) × (length (now table) ≡ 64) ⌝ }
     requires { ⌜ length (each line (for 7 (family (held c)) ++ byTableH (c .sizes) (now table) (c .starts) (c .goals))) ≤ length (now f) ⌝ }

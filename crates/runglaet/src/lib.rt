@@ -86,11 +86,7 @@ pub extern "C" fn runglaet_floor(instance: &[u8]) -> Answer
 }
 
 #[no_mangle]
-pub extern "C" fn runglaet_write_pruned(
-    instance: &[u8],
-    horizon: u64,
-    words: &mut [i32],
-) -> Written
+pub extern "C" fn runglaet_write_pruned(instance: &[u8], horizon: u64, words: &mut [i32]) -> Written
     ensures { λ r. ⌜ r ≡ writeAnswer pruned (now (instance .entry)) horizon (length (now (words .entry))) ⌝ }
     ensures { λ _. ⌜ now (words .exit) ≡ writeSlice pruned (now (instance .entry)) horizon (now (words .entry)) ⌝ }
 {

@@ -1,6 +1,6 @@
 -- Places that lead from the starts to the goals keep within the distances: no plan is shorter than the floor, and family H takes no
 -- valuation away.
-use mathlib.Core.Path.{_≡_, sym, ap, subst}
+use mathlib.Core.Path.{_≡_, sym, subst}
 use mathlib.Core.Logic.{_↔_, ⊎-elim}
 use mathlib.Core.List.{List}
 use mathlib.Core.Bool.{Bool}
@@ -12,7 +12,7 @@ use lib.IntN.{ℤ}
 use Rattle.lists.proofs.Tests.{or-iff, eqb-iff}
 use Rattle.lists.proofs.Loops.{for-all, when-all, one-all, any-one, all-append}
 use Rattle.instance.specs.declared.Sizes.{Sizes}
-use Rattle.instance.specs.Instance.{Instance, adjacent, Edge, Endpoints}
+use Rattle.instance.specs.Instance.{Instance, adjacent, Endpoints}
 use Rattle.instance.proofs.Graph.{adjacent-iff}
 use Rattle.distances.specs.Distance.{unreachable, further, within, startToGoal}
 use Rattle.distances.proofs.Within.{within-step, within-more, distance-most, further-iff}

@@ -3,7 +3,7 @@
 /// The header, then a line a clause: its literals and 0, with single spaces. Each clause ends with its word 0.
 pub fn text(variables: usize, clauses: u64, words: &[i32]) -> Vec<u8> {
     let mut text = format!("p cnf {variables} {clauses}\n").into_bytes();
-    // The largest formula has millions of words, of six bytes or so with what stands behind them.
+    // The largest formula has millions of words, each of seven bytes at most: a sign, five digits and what follows.
     text.reserve(7 * words.len());
     for &word in words {
         if word < 0 {

@@ -1,5 +1,5 @@
 -- `bits::without` meets its contract. Assumes nothing.
-use borrow.Author.Needs.{needs}
+
 use Rattle.bits.proofs.Bits.{set-without}
 use Rattle.bits.proofs.without.Statement.{statement}
 use Rattle.bits.proofs.without.Tie as tie

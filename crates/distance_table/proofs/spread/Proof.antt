@@ -5,7 +5,6 @@ use native.Mathlib.Omega.{arith}
 use lib.Bits.{and-le-r}
 use lib.Count.{trailingZeros}
 use Rattle.distance_table.proofs.Laws.{Spreading, spreading-none, spreading-below, spreading-next, spread-bytes, spread-bits}
-use borrow.Author.Needs.{needs}
 use Rattle.distance_table.proofs.spread.Statement.{statement}
 use Rattle.distance_table.proofs.spread.Tie as tie
 

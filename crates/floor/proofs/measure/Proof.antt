@@ -1,5 +1,5 @@
 -- `floor::measure` meets its contract. The invariant: `Measuring`. Assumes nothing.
-use mathlib.Core.Path.{_∙_}
+
 use Prim.Native.Nat.{_-_}
 use native.Mathlib.Omega.{arith}
 use Rattle.floor.specs.Measured.{between}

@@ -8,7 +8,7 @@ use lib.ListN.{getD}
 use Rattle.lists.specs.Loop.{sum}
 use Rattle.instance.specs.declared.Sizes.{Sizes}
 use Rattle.formula.specs.Pruned.{countH}
-use Rattle.pruned_writer.specs.ByTable.{byTable}
+use Rattle.distances.specs.Table.{byTable}
 use borrow.Author.Needs.{needs}
 use Rattle.pruned_writer.proofs.count_h.Statement.{statement}
 use Rattle.pruned_writer.proofs.count_h.Tie as tie

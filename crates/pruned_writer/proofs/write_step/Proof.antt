@@ -10,7 +10,7 @@ use Rattle.lists.proofs.Slices.{Filling, each-filling, filling-room, filling-ne
 use Rattle.instance.specs.declared.Sizes.{Sizes}
 use Rattle.formula.specs.Formula.{Clause, line}
 use Rattle.formula.specs.Pruned.{blockH}
-use Rattle.pruned_writer.specs.ByTable.{byTable}
+use Rattle.distances.specs.Table.{byTable}
 use Rattle.pruned_writer.proofs.write_step.Statement.{statement}
 use Rattle.pruned_writer.proofs.write_step.Tie as tie
 

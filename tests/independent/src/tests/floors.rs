@@ -66,7 +66,7 @@ fn count_h(instance: &[u8], m: u64) -> usize {
 fn counts_of_family_h() {
     // On the way from 0 to 32, at m 32, each vertex can be passed at one time.
     assert_eq!(count_h(&path(64, &[0], &[32]), 32), 33 * 64 - 33);
-    // From 0 to 31 at two times, and 32 at one: there and back.
+    // From 0 to 31 each of those vertices at two times, and 32 at none: there and back are 33 steps.
     assert_eq!(count_h(&path(64, &[0], &[31]), 32), 33 * 64 - 2 * 32);
     // Beyond the horizon: nowhere at any time.
     assert_eq!(count_h(&path(64, &[0], &[33]), 32), 33 * 64);
@@ -285,8 +285,12 @@ fn random_maps() {
         let m = random.below(if n > 16 { 3 } else { 12 }) as u64;
         told.pruned(&instance, m, &compare_pruned(&instance, m));
     }
-    // That takes the path of 64 from end to end.
-    assert_eq!(told.missing(), ["floor: 63 is unreachable"]);
+    // That one takes the path of 64 from end to end.
+    let missing = told.missing();
+    assert!(
+        missing.iter().all(|&form| form == "floor: 63 is unreachable"),
+        "{missing:?}"
+    );
     assert!(floors.len() > 20 && floors.last() > Some(&32), "{floors:?}");
 }
 

@@ -205,13 +205,13 @@ fn maps() -> [Input; 3] {
 
 /// A grid of 8 times 8 vertices. The agents go from the two western columns to the two eastern ones, from each vertex to
 /// the one across the middle: the floor is 14, the horizon too.
-fn grid8() -> Input {
+fn across() -> Input {
     let starts: Vec<u8> = (0..16).map(|a| a / 2 * 8 + a % 2).collect();
     let goals: Vec<u8> = starts.iter().map(|v| 63 - v).collect();
     let instance = instance_bytes(64, &grid_edges(8), &starts, &goals);
     assert_eq!(plain::floor(&instance), Some(14));
     Input {
-        name: "grid8",
+        name: "across",
         instance,
         m: 14,
         plan: Vec::new(),
@@ -586,8 +586,8 @@ fn main() {
     for input in &maps() {
         floor(&mut table, input, Some(1.2));
     }
-    for input in inputs.iter().chain([&grid8()]) {
-        let target = matches!(input.name, "largest" | "grid8").then_some(1.2);
+    for input in inputs.iter().chain([&across()]) {
+        let target = matches!(input.name, "largest" | "across").then_some(1.2);
         pruned_writer(&mut table, input, target);
     }
     let file = std::env::temp_dir().join(format!("runglaet_benchmark_{}", std::process::id()));
