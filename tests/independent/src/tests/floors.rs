@@ -288,7 +288,9 @@ fn random_maps() {
     // That one takes the path of 64 from end to end.
     let missing = told.missing();
     assert!(
-        missing.iter().all(|&form| form == "floor: 63 is unreachable"),
+        missing
+            .iter()
+            .all(|&form| form == "floor: 63 is unreachable"),
         "{missing:?}"
     );
     assert!(floors.len() > 20 && floors.last() > Some(&32), "{floors:?}");
