@@ -45,7 +45,7 @@ module _ (b : List ℕ) (m : ℕ) where
     -- its counts are the lengths of its lists
     pub clauseTotal : length (pruned I .clauses) ≡ prunedClauses I
     pub wordTotal : length (words (pruned I)) ≡ prunedWords I
-    -- no pruned formula has more words than the largest formula, and two for each variable
+    -- none has more words than the largest formula and two for each of its variables
     pub mostWords : length (words (pruned I)) ≤ 7_692_880
     -- the writer's counts
     pub writer : (size : ℕ) → writeAnswer pruned b m size .number ≡ 0

@@ -25,7 +25,7 @@ fn larger(x: usize, y: usize) -> usize
     x
 }
 
-// Question 30 of k agents, and the greatest distance. The offset of the first goal is `place`.
+// Question 30 of k agents, and the greatest distance; 255 is the mark for unreachable. The offset of the first goal is `place`.
 fn measure(
     table: &[[u8; 64]],
     starts: &[u8; 16],
