@@ -25,18 +25,18 @@ use Rattle.formula.proofs.Counts.{clause-count, word-count}
 use Rattle.formula.proofs.Limits.{words-most, variables-most}
 
 -- ---- one vertex: the first x times are too early, the last y too late
-further-iff : (t x : ℕ) → t < unreachable → T (further t x) ↔ (t < x)
-further-iff t x h = (
+further-lt : (t x : ℕ) → t < unreachable → T (further t x) ↔ (t < x)
+further-lt t x h = (
   (λ f. ⊎-elim (λ e. let z = eqb-iff x unreachable .0 e in omega arith) (λ l. ltb-iff t x .0 l) (or-iff (eqb x unreachable) _ .0 f)),
   (λ l. or-iff (eqb x unreachable) _ .1 (inr (ltb-iff t x .1 l))),
 )
 
 too-far-iff : (m t x y : ℕ) → m < unreachable → t ≤ m → T (tooFar m t x y) ↔ ((t < x) ⊎ (m - t < y))
 too-far-iff m t x y h l = (
-  (λ f. ⊎-elim (λ p. let z = further-iff _ x (omega arith) .0 p in inl (omega arith)) (λ p. let z = further-iff _ y (omega arith) .0 p in inr (omega arith)) (or-iff (further t x) _ .0 f)),
+  (λ f. ⊎-elim (λ p. let z = further-lt _ x (omega arith) .0 p in inl (omega arith)) (λ p. let z = further-lt _ y (omega arith) .0 p in inr (omega arith)) (or-iff (further t x) _ .0 f)),
   (λ c.
       or-iff (further t x) _ .1
-      (⊎-elim (λ p. inl (further-iff _ x (omega arith) .1 (omega arith))) (λ p. inr (further-iff _ y (omega arith) .1 (omega arith))) c)),
+      (⊎-elim (λ p. inl (further-lt _ x (omega arith) .1 (omega arith))) (λ p. inr (further-lt _ y (omega arith) .1 (omega arith))) c)),
 )
 
 pub too-far-ltb : (m t x y : ℕ) → m < unreachable → t ≤ m → tooFar m t x y ≡ ltb t x || ltb (m - t) y
