@@ -2,13 +2,14 @@
  *
  * Every call takes any bytes and any numbers, checks all of them itself, keeps no pointer and allocates nothing.
  * An answer's number is 0 for accepted, or the number given by the first question answered no; `second` is then the
- * place of the refusal, and the count of an acceptance. A refusal changes nothing that was lent. An accepted call fills
- * the first places of its slice and touches none beyond.
+ * place of the refusal, and the count of an acceptance (0 where a formula was written). A refusal changes nothing that
+ * was lent. An accepted call fills the first places of its slice and touches none beyond.
  *
- * A pointer must be valid and aligned for as many elements as its length says; with length 0 it may be NULL. So a size
- * is asked: refusals 12, 15 and 16 give what is needed. No two slices of a call may overlap. Each call uses less than
- * 12 KiB of stack, but the pruned writer, which uses less than 24 KiB, and the reader, less than 64 KiB. The calls share
- * nothing, so several threads may call at once.
+ * A pointer must be valid and aligned for as many elements as its length says; with length 0 it may be NULL. A slice
+ * needs, for a formula, as many words as its size call says; for a clause at most 66 words; for a plan k * (m + 1) bytes;
+ * for a valuation n * k * (m + 1) entries. One that is too short gets 12, 15 or 16, and `second` is what it needs. No two
+ * slices of a call may overlap. Each call uses less than 12 KiB of stack, but the two of the pruned formula, which use
+ * less than 24 KiB, and the reader, less than 64 KiB. The calls share nothing, so several threads may call at once.
  *
  * An instance is bytes: n vertices, k agents, e edges (two bytes, the low one first); the low ends of all edges, then
  * their high ends, sorted by low end and then by high end; the starts of all agents, then their goals. Vertices, agents
@@ -37,13 +38,19 @@ typedef struct {
     uint32_t number;
     uint64_t second;
     uint64_t clauses;
-} runglaet_written;
+} runglaet_size;
+
+/* The size of the formula. Nothing is lent.
+ * Asks 1 to 10, and never gives 12. Accepted: `second` is how many words the formula has, at most 7,625,296, and `clauses`
+ * how many clauses. Refused: `second` is the place, and `clauses` is 0. */
+runglaet_size runglaet_formula_size(const uint8_t *instance, size_t instance_len, uint64_t horizon);
 
 /* The formula, as words: each clause is its literals and then 0.
- * Asks 1 to 10 and 12. Accepted: the words stand first in `words`, `second` is how many they are, `clauses` how many
- * clauses. Refused: `words` is as it was, and `clauses` is 0. Refusal 12 gives the words needed. */
-runglaet_written runglaet_write_formula(const uint8_t *instance, size_t instance_len, uint64_t horizon,
-                                        int32_t *words, size_t words_len);
+ * Asks 1 to 10 and 12. Accepted: the words stand first in `words`, as many as runglaet_formula_size says, and `second` is
+ * 0. Refusal 12 gives the words needed. So it accepts exactly where the size call does and `words` has that many places
+ * or more. */
+runglaet_answer runglaet_write_formula(const uint8_t *instance, size_t instance_len, uint64_t horizon,
+                                       int32_t *words, size_t words_len);
 
 /* The clause with a number, from 0, and its closing 0: at most 66 words.
  * Asks 1 to 12. Accepted: its words stand first in `words`, and `second` is how many they are. Refusal 11 gives the
@@ -102,10 +109,11 @@ runglaet_answer runglaet_floor(const uint8_t *instance, size_t instance_len);
  * than t edges from the agent's start or further than m - t from its goal. Unreachable counts as further; where both hold
  * there is one clause. The pruned formula has the formula's variables and exactly its satisfying valuations, so
  * runglaet_read_valuation and runglaet_decode serve for both.
- * Asks and answers as runglaet_write_formula does; the words and clauses are those of the pruned formula. Clause numbers,
- * in runglaet_clause and refusal 24, are those of the formula without family H. */
-runglaet_written runglaet_write_pruned(const uint8_t *instance, size_t instance_len, uint64_t horizon,
-                                       int32_t *words, size_t words_len);
+ * Size call and writer ask and answer as those of the formula do; the words, at most 7,692,880, and the clauses are those
+ * of the pruned formula. Clause numbers, in runglaet_clause and refusal 24, are those of the formula without family H. */
+runglaet_size runglaet_pruned_size(const uint8_t *instance, size_t instance_len, uint64_t horizon);
+runglaet_answer runglaet_write_pruned(const uint8_t *instance, size_t instance_len, uint64_t horizon,
+                                      int32_t *words, size_t words_len);
 
 #ifdef __cplusplus
 }

@@ -42,14 +42,18 @@ if [ -n "$before" ]; then
     mkdir -p "$folder"
     for side in now before; do
         if [ "$side" = now ]; then library=$RUNGLAET_LIB; else library=$before; fi
-        objcopy --set-section-alignment '.text*=4096' "$library" "$folder/$side.a"
-        # An earlier library may lack some calls: stand-ins let the program link, and their rows are left out.
-        lacks=()
-        for call in read_valuation floor write_pruned; do
+        # An earlier library may lack some calls: stand-ins let the program link, and their rows are left out. Where it
+        # lacks a size call, its writer answers the counts too, and is renamed so that a stand-in can call it.
+        lacks=() renamed=()
+        for call in read_valuation floor write_pruned formula_size pruned_size; do
             if ! nm --defined-only "$library" | grep " T runglaet_$call\$" >/dev/null; then
                 lacks+=("-DLACKS_$call")
+                case $call in
+                *_size) renamed+=(--redefine-sym "runglaet_write_${call%_size}=counting_write_${call%_size}") ;;
+                esac
             fi
         done
+        objcopy --set-section-alignment '.text*=4096' "${renamed[@]}" "$library" "$folder/$side.a"
         if [ ${#lacks[@]} -gt 0 ]; then
             gcc -std=c11 -O2 -Iinclude "${lacks[@]}" -c tests/interface/absent.c -o "$folder/absent.o"
             ar rs "$folder/$side.a" "$folder/absent.o"

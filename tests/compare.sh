@@ -3,8 +3,8 @@
 #   tests/compare.sh SEED PIECES COUNT
 # Each piece has its own seed, SEED and up, and COUNT random instances. Before them come all small instances (up to 4
 # vertices, 2 agents, horizon 2), all clauses of every eleventh, all plans of tiny ones, all sign patterns of some with
-# at most 16 variables, all short texts of some kinds for the reader, and for the floor and the pruned writer all maps of
-# 5 vertices with one agent, long paths at every horizon, and grids.
+# at most 16 variables, all short texts of some kinds for the reader, for the floor and the pruned writer all maps of
+# 5 vertices with one agent, long paths at every horizon, and grids, and for the sizes every number of vertices and agents.
 # RUNGLAET_COMPARISON: the program, if it is not target/bin/comparison.
 set -eu
 cd "$(dirname "$0")/.."
@@ -31,7 +31,7 @@ piece() {
 
 : >"$work/times"
 : >"$work/skips"
-for mode in small clauses plans valuations texts floors; do
+for mode in small clauses plans valuations texts floors sizes; do
     piece "$mode" "$seed" 0
 done
 i=0
@@ -41,8 +41,8 @@ while [ "$i" -lt "$pieces" ]; do
 done
 awk '{ times[$1, $2] += $3 }
     END {
-        split("writer clause plan decoder encoder reader floor pruned", name, " ")
-        for (kind = 1; kind <= 8; kind++) {
+        kinds = split("writer clause plan decoder encoder reader floor pruned size pruned-size", name, " ")
+        for (kind = 1; kind <= kinds; kind++) {
             line = ""
             for (number = 0; number <= 30; number++)
                 if ((kind, number) in times) line = line " " number ":" times[kind, number]

@@ -1,6 +1,7 @@
 #!/usr/bin/env bash
 # The library against the independent program, through the C interface: tests/interface.sh [SEED [COUNT [FIRST]]].
-# Before it, from C: document 01's examples and null pointers (c_check.c), and the stack that the calls use (stack.c).
+# Before it, from C: document 01's examples, null pointers and layouts (c_check.c), and the stack that the calls use
+# (stack.c).
 # RUNGLAET_LIB: the library, if it is not target/staticlib/librunglaet.a.
 set -eu
 cd "$(dirname "$0")/.."

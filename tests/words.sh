@@ -83,6 +83,8 @@ expect Usage 2 "$shuttles"
 expect Usage 2 "$shuttles" check path.txt
 expect Usage 2 "$shuttles" floor
 expect Usage 2 "$shuttles" floor path.txt 2
+expect Usage 2 "$shuttles" size path.txt
+expect Usage 2 "$shuttles" size path.txt 2 3
 expect Usage 2 "$shuttles" pruned path.txt
 expect Usage 2 "$shuttles" refusal 8 9 path.txt 2 3
 expect Word 2 "$shuttles" instance $'Fl\344che.txt'
@@ -90,6 +92,7 @@ expect Word 2 "$shuttles" check path.txt $'\377'
 expect NoFile 2 "$shuttles" instance absent.txt
 expect NoFile 2 "$shuttles" check folder/absent 2 0 1
 expect NoFile 2 "$shuttles" floor absent.txt
+expect NoFile 2 "$shuttles" size absent.txt 2
 expect Folder 2 "$shuttles" instance folder
 expect Folder 2 "$shuttles" decode / 2
 expect Unreadable 2 "$shuttles" show /proc/self/mem 0
@@ -99,6 +102,7 @@ expect Input 2 of_folder "$shuttles" check pair.txt 1 -
 expect Output 2 full "$shuttles" help
 expect Output 2 full "$shuttles" check path.txt 33
 expect Output 2 full "$shuttles" floor path.txt
+expect Output 2 full "$shuttles" size path.txt 2
 expect Output 2 full "$shuttles" pruned path.txt 2
 expect Output 2 gone "$shuttles" instance path.txt
 expect Output 2 gone "$shuttles" pruned path.txt 32
@@ -166,6 +170,7 @@ unfit() {
     refuse "$1" "$2" "$shuttles" check "$3" 1
     refuse "$1" "$2" "$shuttles" encode "$3" x
     refuse "$1" "$2" "$shuttles" floor "$3"
+    refuse "$1" "$2" "$shuttles" size "$3" 33
     aside "$1" "$2" "$shuttles" input "$3" 1
     aside "$1" "$2" "$shuttles" pruned "$3" 33
 }
@@ -213,6 +218,7 @@ for horizon in 33 256 -1 02 +2 x '' 99999999999999999999; do
     refuse 10 "\"$horizon\" was given" "$shuttles" check path.txt "$horizon" 0 1
 done
 for horizon in 33 256 02 ''; do
+    refuse 10 "\"$horizon\" was given" "$shuttles" size path.txt "$horizon"
     aside 10 "\"$horizon\" was given" "$shuttles" input path.txt "$horizon"
     aside 10 "\"$horizon\" was given" "$shuttles" pruned path.txt "$horizon"
 done
@@ -387,6 +393,24 @@ floors 2 four.txt
 floors 32 line32.txt
 floors 33 line33.txt
 floors 63 line63.txt
+# sizes DESCRIPTION M VARIABLES FORMULA WITH-H: these are the variables of both formulas, and the clauses and words of each.
+sizes() {
+    local got=0 fault
+    "$shuttles" size "$1" "$2" >said 2>&1 || got=$?
+    fault=$(printf '%s\n' "formula: $3, $4" "with family H: $3, $5" | diff - said)
+    [ "$got" -eq 0 ] || fault="status $got: $fault"
+    result "$fault" "size: $1 $2"
+}
+description stay.txt 'vertices 1' 'agent 0 0'
+sizes stay.txt 0 '1 variable' '3 clauses, 6 words' '3 clauses, 6 words'
+sizes home.txt 0 '2 variables' '4 clauses, 10 words' '5 clauses, 12 words'
+sizes pair.txt 1 '4 variables' '8 clauses, 24 words' '10 clauses, 28 words'
+sizes "$root/examples/path.txt" 2 '18 variables' '61 clauses, 201 words' '71 clauses, 221 words'
+# Where a goal cannot be reached, family H forbids every vertex at every time.
+sizes "$root/examples/apart.txt" 2 '12 variables' '31 clauses, 105 words' '43 clauses, 129 words'
+# From instance bytes. Of 33 vertices family H leaves one at each of 33 times.
+"$shuttles" instance line32.txt >bytes.bin
+sizes bytes.bin 32 '1089 variables' '18515 clauses, 58614 words' '19571 clauses, 60726 words'
 # The formula with family H: the pair's, and what the formula program prints for the path, with more behind it.
 "$shuttles" pruned pair.txt 1 >with-h
 printf '%s\n' 'p cnf 4 10' '1 0' '4 0' '1 2 0' '3 4 0' '-1 -2 0' '-3 -4 0' '-1 3 4 0' '-2 4 3 0' '-2 0' '-3 0' >wanted
@@ -395,6 +419,23 @@ result "$(diff with-h wanted)" 'the formula of the pair with family H'
 "$shuttles" input path.txt 2 | "$program" >base
 h=$(printf -- '-%s 0\n' 2 3 4 6 9 10 13 15 16 17)
 result "$(diff with-h <(sed 's/^p cnf 18 61$/p cnf 18 71/' base; echo "$h"))" 'the formula of the path with family H'
+# The sizes told are those of the texts: behind the header's four words, each word of a text is one of the formula.
+# text_size NAME FILE: the size of a text, told likewise.
+text_size() {
+    local variables clauses
+    read -r _ _ variables clauses <"$2"
+    echo "$1: $variables variables, $clauses clauses, $(($(wc -w <"$2") - 4)) words"
+}
+# same_sizes DESCRIPTION M: of the formula program's text, and of the tool's with family H.
+same_sizes() {
+    "$shuttles" input "$@" | "$program" >base
+    "$shuttles" pruned "$@" >with-h
+    "$shuttles" size "$@" >said 2>&1
+    result "$({ text_size formula base; text_size 'with family H' with-h; } | diff - said)" "the sizes of the texts: $*"
+}
+same_sizes four.txt 3
+same_sizes "$root/examples/grid4.txt" 6
+same_sizes "$root/examples/grid8.txt" 10
 # Refusals that the library does not give for what the tool asks of it.
 for number in 11 12 14 15 16 23; do
     expect "refusal $number" 0 "$shuttles" refusal "$number" 24

@@ -19,9 +19,45 @@ runglaet_answer runglaet_floor(const uint8_t *instance, size_t instance_len) {
 #endif
 
 #ifdef LACKS_write_pruned
-runglaet_written runglaet_write_pruned(const uint8_t *instance, size_t instance_len, uint64_t horizon, int32_t *words,
-                                       size_t words_len) {
+runglaet_answer runglaet_write_pruned(const uint8_t *instance, size_t instance_len, uint64_t horizon, int32_t *words,
+                                      size_t words_len) {
     (void)instance, (void)instance_len, (void)horizon, (void)words, (void)words_len;
-    return (runglaet_written){UINT32_MAX, 0, 0};
+    return (runglaet_answer){UINT32_MAX, 0};
 }
+#endif
+
+/* A library without size calls has writers that answer the counts too, in the size calls' struct. Such a writer bears
+ * another name in the copy, and is called here. */
+static inline runglaet_answer without_counts(runglaet_size answer) {
+    return (runglaet_answer){answer.number, answer.number == 0 ? 0 : answer.second};
+}
+
+#ifdef LACKS_formula_size
+runglaet_size runglaet_formula_size(const uint8_t *instance, size_t instance_len, uint64_t horizon) {
+    (void)instance, (void)instance_len, (void)horizon;
+    return (runglaet_size){UINT32_MAX, 0, 0};
+}
+
+runglaet_size counting_write_formula(const uint8_t *instance, size_t instance_len, uint64_t horizon, int32_t *words,
+                                     size_t words_len);
+runglaet_answer runglaet_write_formula(const uint8_t *instance, size_t instance_len, uint64_t horizon, int32_t *words,
+                                       size_t words_len) {
+    return without_counts(counting_write_formula(instance, instance_len, horizon, words, words_len));
+}
+#endif
+
+#ifdef LACKS_pruned_size
+runglaet_size runglaet_pruned_size(const uint8_t *instance, size_t instance_len, uint64_t horizon) {
+    (void)instance, (void)instance_len, (void)horizon;
+    return (runglaet_size){UINT32_MAX, 0, 0};
+}
+
+#ifndef LACKS_write_pruned
+runglaet_size counting_write_pruned(const uint8_t *instance, size_t instance_len, uint64_t horizon, int32_t *words,
+                                    size_t words_len);
+runglaet_answer runglaet_write_pruned(const uint8_t *instance, size_t instance_len, uint64_t horizon, int32_t *words,
+                                      size_t words_len) {
+    return without_counts(counting_write_pruned(instance, instance_len, horizon, words, words_len));
+}
+#endif
 #endif

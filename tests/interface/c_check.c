@@ -1,7 +1,8 @@
 /* Each call once or more on the examples of document 01, the plan check's cost, the reader, the floor and the pruned
- * writer on examples of their own, and all with null pointers, from C. */
+ * formula on examples of their own, and all with null pointers, from C; and the layout of the answers. */
 #include "runglaet.h"
 
+#include <stddef.h>
 #include <stdio.h>
 #include <string.h>
 
@@ -19,9 +20,19 @@ static int says(runglaet_answer answer, uint32_t number, uint64_t second) {
     return answer.number == number && answer.second == second;
 }
 
-static int wrote(runglaet_written answer, uint32_t number, uint64_t second, uint64_t clauses) {
+static int counts(runglaet_size answer, uint32_t number, uint64_t second, uint64_t clauses) {
     return answer.number == number && answer.second == second && answer.clauses == clauses;
 }
+
+/* Do both size calls refuse the instance so? */
+static int unsized(const uint8_t *instance, size_t length, uint64_t horizon, uint32_t number, uint64_t second) {
+    return counts(runglaet_formula_size(instance, length, horizon), number, second, 0) &&
+           counts(runglaet_pruned_size(instance, length, horizon), number, second, 0);
+}
+
+/* The formula's and the pruned formula's. */
+typedef runglaet_answer writer(const uint8_t *, size_t, uint64_t, int32_t *, size_t);
+static writer *const writers[2] = {runglaet_write_formula, runglaet_write_pruned};
 
 static const uint8_t pair[8] = {2, 1, 1, 0, 0, 1, 0, 1};
 
@@ -34,12 +45,12 @@ static void null_pointers(void) {
     uint8_t plan[2] = {200, 201};
     for (int i = 0; i < 24; i++) words[i] = before[i] = 1000 + i;
 
-    runglaet_written written = runglaet_write_formula(NULL, 0, 1, words, 24);
-    expect("writer, no instance: 1, place 0", written.number == 1 && written.second == 0 && written.clauses == 0);
-    written = runglaet_write_formula(pair, sizeof pair, 1, NULL, 0);
-    expect("writer, no words: 12, place 24", written.number == 12 && written.second == 24 && written.clauses == 0);
-    written = runglaet_write_formula(NULL, 0, 1, NULL, 0);
-    expect("writer, neither: 1, place 0", written.number == 1 && written.second == 0 && written.clauses == 0);
+    expect("sizes, no instance: 1, place 0", unsized(NULL, 0, 1, 1, 0));
+    for (int f = 0; f < 2; f++) {
+        expect("writer, no instance: 1, place 0", says(writers[f](NULL, 0, 1, words, 24), 1, 0));
+        expect("writer, no words: 12, place 24 or 28", says(writers[f](pair, sizeof pair, 1, NULL, 0), 12, 24 + 4 * f));
+        expect("writer, neither: 1, place 0", says(writers[f](NULL, 0, 1, NULL, 0), 1, 0));
+    }
 
     expect("clause, no instance: 1, place 0", says(runglaet_clause(NULL, 0, 1, 0, words, 24), 1, 0));
     expect("clause 0, no words: 12, place 2", says(runglaet_clause(pair, sizeof pair, 1, 0, NULL, 0), 12, 2));
@@ -73,9 +84,6 @@ static void null_pointers(void) {
     expect("reader, nothing: 1, place 0", says(runglaet_read_valuation(NULL, 0, 1, NULL, 0, NULL, 0), 1, 0));
 
     expect("floor, no instance: 1, place 0", says(runglaet_floor(NULL, 0), 1, 0));
-    expect("pruned, no instance: 1, place 0", wrote(runglaet_write_pruned(NULL, 0, 1, words, 24), 1, 0, 0));
-    expect("pruned, no words: 12, place 28", wrote(runglaet_write_pruned(pair, sizeof pair, 1, NULL, 0), 12, 28, 0));
-    expect("pruned, neither: 1, place 0", wrote(runglaet_write_pruned(NULL, 0, 1, NULL, 0), 1, 0, 0));
 
     expect("the words as they were", memcmp(words, before, sizeof words) == 0);
     expect("the plan's bytes as they were", plan[0] == 200 && plan[1] == 201);
@@ -185,30 +193,79 @@ static void floors(void) {
     expect("floor, path of 63 and a vertex: 30, place 129", says(runglaet_floor(cut, sizeof cut), 30, 129));
 }
 
+/* What the calls for other languages rely on. */
+static void layouts(void) {
+    expect("an answer: 16 bytes", sizeof(runglaet_answer) == 16);
+    expect("an answer's numbers: at 0 and 8", offsetof(runglaet_answer, number) == 0 &&
+                                                  offsetof(runglaet_answer, second) == 8);
+    expect("a size: 24 bytes", sizeof(runglaet_size) == 24);
+    expect("a size's numbers: at 0, 8 and 16", offsetof(runglaet_size, number) == 0 &&
+                                                   offsetof(runglaet_size, second) == 8 &&
+                                                   offsetof(runglaet_size, clauses) == 16);
+}
+
+#define REFUSED(what, number, second, ...) \
+    expect("sizes, " what, unsized(BYTES(__VA_ARGS__), sizeof BYTES(__VA_ARGS__), 1, number, second))
+
+/* How many of the first places no longer hold 1000 and their index? */
+static size_t written(const int32_t *words, size_t length) {
+    size_t count = 0;
+    for (size_t i = 0; i < length; i++) count += words[i] != 1000 + (int32_t)i;
+    return count;
+}
+
+/* The size calls, with each refusal; the writers with slices that are one word short and just long enough. */
+static void formula_sizes(void) {
+    REFUSED("three bytes: 1, place 3", 1, 3, 2, 1, 1);
+    REFUSED("65 vertices: 2, place 0", 2, 0, 65, 1, 0, 0, 0, 1);
+    REFUSED("3 agents on 2 vertices: 3, place 1", 3, 1, 2, 3, 0, 0, 0, 1, 0, 1, 0, 1);
+    REFUSED("2 edges on 2 vertices: 4, place 2", 4, 2, 2, 1, 2, 0, 0, 0, 1, 1, 0, 1);
+    REFUSED("a byte more: 5, place 9", 5, 9, 2, 1, 1, 0, 0, 1, 0, 1, 0);
+    REFUSED("edge 1-0: 6, place 4", 6, 4, 2, 1, 1, 0, 1, 0, 0, 1);
+    REFUSED("edge 0-1 twice: 7, place 5", 7, 5, 3, 1, 2, 0, 0, 0, 1, 1, 0, 2);
+    REFUSED("start 2 on 2 vertices: 8, place 6", 8, 6, 2, 1, 1, 0, 0, 1, 2, 1);
+    REFUSED("goal 2 on 2 vertices: 9, place 7", 9, 7, 2, 1, 1, 0, 0, 1, 0, 2);
+    expect("sizes, m 33: 10, place 0", unsized(pair, sizeof pair, 33, 10, 0));
+
+    expect("size: 24 words, 8 clauses", counts(runglaet_formula_size(pair, sizeof pair, 1), 0, 24, 8));
+    expect("pruned size: 28 words, 10 clauses", counts(runglaet_pruned_size(pair, sizeof pair, 1), 0, 28, 10));
+    for (int f = 0; f < 2; f++) {
+        size_t size = f == 0 ? 24 : 28;
+        int32_t words[30];
+        for (int i = 0; i < 30; i++) words[i] = 1000 + i;
+        expect("a slice one word short: 12", says(writers[f](pair, sizeof pair, 1, words, size - 1), 12, size));
+        expect("it stays as it was", written(words, 30) == 0);
+        expect("a slice just long enough: 0, 0", says(writers[f](pair, sizeof pair, 1, words, size), 0, 0));
+        expect("all of it is written, and nothing beyond", written(words, size) == size && written(words, 30) == size);
+    }
+}
+
 /* The pair's formula at m 1, and then -2 and -3: at time 0 not at 1, at time 1 not at 0. */
 static void pruned_writer(const int32_t *formula) {
     static const int32_t family_h[4] = {-2, 0, -3, 0};
     int32_t words[30], before[30];
     for (int i = 0; i < 30; i++) words[i] = before[i] = 1000 + i;
-    expect("pruned, 27 words: 12, place 28", wrote(runglaet_write_pruned(pair, sizeof pair, 1, words, 27), 12, 28, 0));
-    expect("pruned, 24 words: 12, place 28", wrote(runglaet_write_pruned(pair, sizeof pair, 1, words, 24), 12, 28, 0));
-    expect("pruned, m 33: 10, place 0", wrote(runglaet_write_pruned(pair, sizeof pair, 33, words, 30), 10, 0, 0));
+    expect("pruned, 27 words: 12, place 28", says(runglaet_write_pruned(pair, sizeof pair, 1, words, 27), 12, 28));
+    expect("pruned, 24 words: 12, place 28", says(runglaet_write_pruned(pair, sizeof pair, 1, words, 24), 12, 28));
+    expect("pruned, m 33: 10, place 0", says(runglaet_write_pruned(pair, sizeof pair, 33, words, 30), 10, 0));
     expect("pruned, refusals change nothing", memcmp(words, before, sizeof words) == 0);
-    expect("pruned: 28 words, 10 clauses", wrote(runglaet_write_pruned(pair, sizeof pair, 1, words, 30), 0, 28, 10));
+    expect("pruned: written", says(runglaet_write_pruned(pair, sizeof pair, 1, words, 30), 0, 0));
     expect("pruned: the formula first", memcmp(words, formula, 24 * sizeof *words) == 0);
     expect("pruned: then family H", memcmp(words + 24, family_h, sizeof family_h) == 0);
     expect("pruned: nothing beyond", words[28] == 1028 && words[29] == 1029);
 
     /* m 0 is below the floor: at 0 and at 1 it cannot be. One clause by number knows nothing of it. */
     static const int32_t nowhere[14] = {1, 0, 2, 0, 1, 2, 0, -1, -2, 0, -1, 0, -2, 0};
-    expect("pruned, m 0: 14 words, 6 clauses", wrote(runglaet_write_pruned(pair, sizeof pair, 0, words, 30), 0, 14, 6));
+    expect("pruned, m 0: 14 words, 6 clauses", counts(runglaet_pruned_size(pair, sizeof pair, 0), 0, 14, 6));
+    expect("pruned, m 0: written", says(runglaet_write_pruned(pair, sizeof pair, 0, words, 30), 0, 0));
     expect("pruned, m 0: the words", memcmp(words, nowhere, sizeof nowhere) == 0);
     expect("clause 4 at m 0 gets 11", says(runglaet_clause(pair, sizeof pair, 0, 4, words, 30), 11, 4));
 
     /* The path's middle is too far from both ends at m 0, and that is one clause. */
     static const uint8_t path[10] = {3, 1, 2, 0, 0, 1, 1, 2, 0, 2};
     static const int32_t all[6] = {-1, 0, -2, 0, -3, 0};
-    expect("pruned, path, m 0: 23 words, 9 clauses", wrote(runglaet_write_pruned(path, 10, 0, words, 30), 0, 23, 9));
+    expect("pruned, path, m 0: 23 words, 9 clauses", counts(runglaet_pruned_size(path, 10, 0), 0, 23, 9));
+    expect("pruned, path, m 0: written", says(runglaet_write_pruned(path, 10, 0, words, 30), 0, 0));
     expect("pruned, path, m 0: family H", memcmp(words + 17, all, sizeof all) == 0);
 }
 
@@ -218,11 +275,9 @@ int main(void) {
     int32_t words[25], before[25];
     for (int i = 0; i < 25; i++) words[i] = before[i] = 1000 + i;
 
-    runglaet_written written = runglaet_write_formula(pair, sizeof pair, 1, words, 23);
-    expect("a slice of 23 gets 12, place 24", written.number == 12 && written.second == 24 && written.clauses == 0);
+    expect("a slice of 23 gets 12, place 24", says(runglaet_write_formula(pair, sizeof pair, 1, words, 23), 12, 24));
     expect("a refusal changes nothing", memcmp(words, before, sizeof words) == 0);
-    written = runglaet_write_formula(pair, sizeof pair, 1, words, 25);
-    expect("24 words, 8 clauses", written.number == 0 && written.second == 24 && written.clauses == 8);
+    expect("a slice of 25 is enough", says(runglaet_write_formula(pair, sizeof pair, 1, words, 25), 0, 0));
     expect("the words", memcmp(words, formula, sizeof formula) == 0);
     expect("nothing beyond", words[24] == 1024);
 
@@ -256,8 +311,8 @@ int main(void) {
     static const uint8_t swap[10] = {2, 2, 1, 0, 0, 1, 0, 1, 1, 0}, swapped[4] = {0, 1, 1, 0};
     expect("25, place 2", says(runglaet_check_plan(swap, sizeof swap, 1, swapped, 4), 25, 2));
     expect("encoder: 25, place 2", says(runglaet_encode(swap, sizeof swap, 1, swapped, 4, words, 25), 25, 2));
-    written = runglaet_write_formula(swap, sizeof swap, 1, words, 25);
-    expect("72 words needed", written.number == 12 && written.second == 72);
+    expect("72 words, 24 clauses", counts(runglaet_formula_size(swap, sizeof swap, 1), 0, 72, 24));
+    expect("72 words needed", says(runglaet_write_formula(swap, sizeof swap, 1, words, 25), 12, 72));
     expect("24 clauses", says(runglaet_clause(swap, sizeof swap, 1, 24, words, 25), 11, 24));
     static const uint8_t path[12] = {3, 2, 2, 0, 0, 1, 1, 2, 0, 1, 1, 2}, follow[4] = {0, 1, 1, 2},
                          stand[4] = {0, 1, 1, 1}, wait[6] = {0, 1, 0, 2, 1, 2};
@@ -276,6 +331,8 @@ int main(void) {
     time_until_rest();
     reader();
     floors();
+    layouts();
+    formula_sizes();
     pruned_writer(formula);
     null_pointers();
     printf("c_check: %d answers, %d wrong\n", asked, failures);

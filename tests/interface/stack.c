@@ -2,7 +2,7 @@
  *
  * The inputs are the largest ones: 64 vertices, all 2016 edges, 16 agents, horizon 32. Each call is made with inputs
  * that it accepts and with some that it refuses late, and its answers are compared with those of documents 01 and 02.
- * For the floor and the pruned writer there are also the longest path, and the same in two parts. */
+ * For the floor and the pruned formula there are also the longest path, and the same in two parts. */
 #define _POSIX_C_SOURCE 200809L
 #include "runglaet.h"
 
@@ -13,7 +13,7 @@
 #include <sys/wait.h>
 #include <unistd.h>
 
-/* What the header promises is enough for any call but the reader and the pruned writer, and for each of these. */
+/* What the header promises is enough for any call but the reader and those of the pruned formula, and for these. */
 enum { PROMISED = 12288, READER_PROMISED = 65536, PRUNED_PROMISED = 24576 };
 
 enum { N = 64, K = 16, E = N * (N - 1) / 2, M = 32, ROWS = M + 1 };
@@ -133,7 +133,10 @@ static void fill(void) {
         for (int i = 0; i < VARIABLES; i++) valuations[p][i] = plans[p][i / N] == i % N ? i + 1 : -(i + 1);
 }
 
-typedef enum { WRITER, CLAUSE, CHECK, DECODER, ENCODER, READER, FLOOR, PRUNED, PATH_FLOOR, PATH_PRUNED } call;
+typedef enum {
+    WRITER, CLAUSE, CHECK, DECODER, ENCODER, READER, FLOOR, PRUNED, PATH_FLOOR, PATH_PRUNED, FORMULA_SIZE, PRUNED_SIZE,
+    PATH_SIZE
+} call;
 
 /* One call: which one, with which horizon, plan, text or clause number and length of its last slice, and the answer that
  * it must give. */
@@ -146,12 +149,12 @@ typedef struct {
     uint64_t second;
 } run;
 
-static runglaet_written make(const run *r) {
+static runglaet_size make(const run *r) {
     const uint8_t *plan = plans[r->chosen == SWAPS];
     const int32_t *entries = valuations[r->chosen == SWAPS];
     runglaet_answer answer = {0, 0};
     switch (r->which) {
-    case WRITER: return runglaet_write_formula(instance, sizeof instance, r->horizon, words, r->length);
+    case WRITER: answer = runglaet_write_formula(instance, sizeof instance, r->horizon, words, r->length); break;
     case CLAUSE:
         answer = runglaet_clause(instance, sizeof instance, r->horizon, r->chosen, words, r->length);
         break;
@@ -167,12 +170,16 @@ static runglaet_written make(const run *r) {
                                          lengths[r->chosen], encoded, r->length);
         break;
     case FLOOR: answer = runglaet_floor(instance, sizeof instance); break;
-    case PRUNED: return runglaet_write_pruned(instance, sizeof instance, r->horizon, words, r->length);
+    case PRUNED: answer = runglaet_write_pruned(instance, sizeof instance, r->horizon, words, r->length); break;
     case PATH_FLOOR: answer = runglaet_floor(paths[r->chosen], path_lengths[r->chosen]); break;
     case PATH_PRUNED:
-        return runglaet_write_pruned(paths[r->chosen], path_lengths[r->chosen], r->horizon, words, r->length);
+        answer = runglaet_write_pruned(paths[r->chosen], path_lengths[r->chosen], r->horizon, words, r->length);
+        break;
+    case FORMULA_SIZE: return runglaet_formula_size(instance, sizeof instance, r->horizon);
+    case PRUNED_SIZE: return runglaet_pruned_size(instance, sizeof instance, r->horizon);
+    case PATH_SIZE: return runglaet_pruned_size(paths[r->chosen], path_lengths[r->chosen], r->horizon);
     }
-    return (runglaet_written){answer.number, answer.second, 0};
+    return (runglaet_size){answer.number, answer.second, 0};
 }
 
 /* The stack of the thread that makes the calls. */
@@ -182,7 +189,7 @@ static _Alignas(4096) unsigned char stack[SIZE];
 typedef struct {
     const run *r;
     unsigned char paint;
-    runglaet_written answer;
+    runglaet_size answer;
     size_t used;
 } measurement;
 
@@ -214,14 +221,14 @@ static size_t used(const run *r, unsigned char paint) {
         pthread_create(&thread, &attributes, measure, &m) != 0 || pthread_join(thread, NULL) != 0)
         stop("no thread with a stack of its own");
     pthread_attr_destroy(&attributes);
-    uint64_t clauses = r->which == WRITER        ? CLAUSES
-                       : r->which == PRUNED      ? CLAUSES + H
-                       : r->which == PATH_PRUNED ? CLAUSES + PATH_H
+    uint64_t clauses = r->which == FORMULA_SIZE  ? CLAUSES
+                       : r->which == PRUNED_SIZE ? CLAUSES + H
+                       : r->which == PATH_SIZE   ? CLAUSES + PATH_H
                                                  : 0;
     if (r->number != 0) clauses = 0;
     if (m.answer.number != r->number || m.answer.second != r->second || m.answer.clauses != clauses) {
-        printf("stack: %s: wrong answer, %u %llu\n", r->what, (unsigned)m.answer.number,
-               (unsigned long long)m.answer.second);
+        printf("stack: %s: wrong answer, %u %llu, %llu clauses\n", r->what, (unsigned)m.answer.number,
+               (unsigned long long)m.answer.second, (unsigned long long)m.answer.clauses);
         exit(1);
     }
     return m.used;
@@ -259,7 +266,9 @@ int main(void) {
     fill_path(CUT);
     fill_texts();
     const run runs[] = {
-        {WRITER, "writer, accepted", M, 0, WORDS, 0, WORDS},
+        {FORMULA_SIZE, "formula size, accepted", M, 0, 0, 0, WORDS},
+        {FORMULA_SIZE, "formula size, horizon 33", M + 1, 0, 0, 10, 0},
+        {WRITER, "writer, accepted", M, 0, WORDS, 0, 0},
         {WRITER, "writer, slice too short", M, 0, WORDS - 1, 12, WORDS},
         {WRITER, "writer, horizon 33", M + 1, 0, WORDS, 10, 0},
         {CLAUSE, "clause of family A", M, 0, WORDS, 0, 2},
@@ -290,19 +299,24 @@ int main(void) {
         {FLOOR, "floor, accepted", 0, 0, 0, 0, 1},
         {PATH_FLOOR, "floor, longest path", 0, PATH, 0, 0, N - 1},
         {PATH_FLOOR, "floor, goal unreachable", 0, CUT, 0, 30, 4 + 2 * (PATH_E - 1) + K},
-        {PRUNED, "pruned writer, accepted", M, 0, WORDS + 2 * H, 0, WORDS + 2 * H},
+        {PRUNED_SIZE, "pruned size, accepted", M, 0, 0, 0, WORDS + 2 * H},
+        {PRUNED_SIZE, "pruned size, horizon 33", M + 1, 0, 0, 10, 0},
+        {PATH_SIZE, "pruned size, longest path", M, PATH, 0, 0, PATH_WORDS},
+        {PATH_SIZE, "pruned size, goals unreachable", M, CUT, 0, 0, PATH_WORDS - 2 * M * K},
+        {PRUNED, "pruned writer, accepted", M, 0, WORDS + 2 * H, 0, 0},
         {PRUNED, "pruned writer, slice too short", M, 0, WORDS + 2 * H - 1, 12, WORDS + 2 * H},
         {PRUNED, "pruned writer, horizon 33", M + 1, 0, WORDS, 10, 0},
-        {PATH_PRUNED, "pruned writer, longest path", M, PATH, WORDS, 0, PATH_WORDS},
+        {PATH_PRUNED, "pruned writer, longest path", M, PATH, WORDS, 0, 0},
     };
     size_t most[3] = {0, 0, 0};
     for (size_t i = 0; i < sizeof runs / sizeof *runs; i++) {
         call which = runs[i].which;
+        int pruned = which == PRUNED || which == PATH_PRUNED || which == PRUNED_SIZE || which == PATH_SIZE;
         size_t bytes = measured(&runs[i]);
-        size_t *counted = &most[which == READER ? 1 : which == PRUNED || which == PATH_PRUNED ? 2 : 0];
+        size_t *counted = &most[which == READER ? 1 : pruned ? 2 : 0];
         if (bytes > *counted) *counted = bytes;
     }
-    static const char *const calls[3] = {"", "reader ", "pruned writer "};
+    static const char *const calls[3] = {"", "reader ", "pruned writer and size "};
     static const size_t promised[3] = {PROMISED, READER_PROMISED, PRUNED_PROMISED};
     int failed = 0;
     for (int i = 0; i < 3; i++) {

@@ -6,7 +6,7 @@ use Prim.Native.Nat.{ℕ, zero, suc}
 use Rattle.lists.specs.Loop.{for, unless}
 use Rattle.lists.specs.Slice.{filled}
 use Rattle.answers.specs.declared.Answer.{Answer}
-use Rattle.answers.specs.declared.Written.{Written}
+use Rattle.answers.specs.declared.Size.{Size}
 
 -- the refusal with this number and this place
 abbrev pub refuse : ℕ → ℕ → Answer
@@ -47,7 +47,7 @@ byNumber (suc number) x y = y
 unfoldable pub lent : {A : Type 0} → Answer → List A → List A → List A
 lent answer out s = byNumber (answer .number) (filled out s) s
 
--- The writer's answer: the clause count stands beside an acceptance, 0 beside a refusal.
-unfoldable pub withClauses : Answer → ℕ → Written
+-- The answer of a size call: the clause count stands beside an acceptance, 0 beside a refusal.
+unfoldable pub withClauses : Answer → ℕ → Size
 withClauses answer clauses =
     record { number = answer .number; second = answer .second; clauses = byNumber (answer .number) clauses 0 }

@@ -7,9 +7,9 @@ pub struct Answer {
     pub second: usize,
 }
 
-// The formula writer's answer has a second count: the clauses it wrote, 0 at a refusal.
+// A size call's answer: the words of an acceptance or the place of a refusal, and the clauses, 0 at a refusal.
 #[repr(C)]
-pub struct Written {
+pub struct Size {
     pub number: u32,
     pub second: usize,
     pub clauses: usize,

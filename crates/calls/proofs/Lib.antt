@@ -1,5 +1,6 @@
+pub mod Floor
 pub mod Occupied
 pub mod Plan
-pub mod Valuation
+pub mod Size
 pub mod Text
-pub mod Floor
+pub mod Valuation

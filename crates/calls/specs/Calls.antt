@@ -1,12 +1,12 @@
 -- For each call: the questions it asks, its answer, and what it leaves in the lent slice.
--- b are the instance bytes and m is the horizon given; the floor is given none. A size is the length of a lent slice.
+-- b are the instance bytes and m is the horizon given; the floor is given none. A room is the length of a lent slice.
 use mathlib.Core.List.{List, [], _∷_, _++_}
 use Prim.Native.Nat.{ℕ}
 use lib.ListN.{length, getD}
 use lib.IntN.{ℤ}
 use Rattle.lists.specs.Loop.{for}
 use Rattle.answers.specs.declared.Answer.{Answer}
-use Rattle.answers.specs.declared.Written.{Written}
+use Rattle.answers.specs.declared.Size.{Size}
 use Rattle.answers.specs.Answers.{Question, decide, lent, withClauses}
 use Rattle.instance.specs.Instance.{Instance, instance, agents, goals}
 use Rattle.instance.specs.Questions.{bytesQuestions, instanceQuestions}
@@ -33,7 +33,7 @@ textQuestions N text = questions27 N text ++ question28 N text ∷ question29 N 
 
 -- a writer of the formula f: 12
 abbrev pub writeRest : Formula → ℕ → List Question
-writeRest f size = question12 (length (words f)) size ∷ []
+writeRest f room = question12 (length (words f)) room ∷ []
 
 module _ (I : Instance) where
   -- the clause at a number, with its 0
@@ -42,7 +42,7 @@ module _ (I : Instance) where
 
   -- one clause: 11, 12
   abbrev pub clauseRest : ℕ → ℕ → List Question
-  clauseRest c size = question11 (formula I) c ∷ question12 (length (clauseWords c)) size ∷ []
+  clauseRest c room = question11 (formula I) c ∷ question12 (length (clauseWords c)) room ∷ []
 
   -- the plan check: 13, 17 to 22
   abbrev pub checkRest : List ℕ → List Question
@@ -50,30 +50,39 @@ module _ (I : Instance) where
 
   -- the decoder: 14, 15, 23, 24
   abbrev pub decodeRest : List ℤ → ℕ → List Question
-  decodeRest entries size =
-      question14 (formula I) entries ∷ question15 I size ∷ question23 (formula I) entries ∷ question24 (formula I) entries ∷ []
+  decodeRest entries room =
+      question14 (formula I) entries ∷ question15 I room ∷ question23 (formula I) entries ∷ question24 (formula I) entries ∷ []
 
   -- the encoder: 13, 16 to 22
   abbrev pub encodeRest : List ℕ → ℕ → List Question
-  encodeRest p size = question13 I p ∷ question16 (formula I) size ∷ planQuestions I p
+  encodeRest p room = question13 I p ∷ question16 (formula I) room ∷ planQuestions I p
 
   -- the reader: 16, 27 to 29
   abbrev pub readRest : List ℕ → ℕ → List Question
-  readRest text size = question16 (formula I) size ∷ textQuestions (formula I .variables) text
+  readRest text room = question16 (formula I) room ∷ textQuestions (formula I .variables) text
 
--- ---- the writer of one formula for each instance, the base formula or the pruned one: 1 to 10, 12
+-- ---- the size and the writer of one formula for each instance, f: the base formula or the pruned one
+-- the size call: 1 to 10
+abbrev pub sizeQuestions : List ℕ → ℕ → List Question
+sizeQuestions b m = instanceQuestions b m
+
 module _ (f : Instance → Formula) (b : List ℕ) (m : ℕ) where
-  abbrev written : Formula
-  written = f (instance b m)
+  abbrev asked : Formula
+  asked = f (instance b m)
 
+  -- words, and the clauses beside them
+  unfoldable pub sizeAnswer : Size
+  sizeAnswer = withClauses (decide (sizeQuestions b m) (length (words asked))) (length (asked .clauses))
+
+  -- the writer: what the size call asks, then 12. The second number of an acceptance is 0.
   abbrev pub writeQuestions : ℕ → List Question
-  writeQuestions size = instanceQuestions b m ++ writeRest written size
+  writeQuestions room = sizeQuestions b m ++ writeRest asked room
 
-  unfoldable pub writeAnswer : ℕ → Written
-  writeAnswer size = withClauses (decide (writeQuestions size) (length (words written))) (length (written .clauses))
+  unfoldable pub writeAnswer : ℕ → Answer
+  writeAnswer room = decide (writeQuestions room) 0
 
   unfoldable pub writeSlice : List ℤ → List ℤ
-  writeSlice s = lent (decide (writeQuestions (length s)) (length (words written))) (words written) s
+  writeSlice s = lent (writeAnswer (length s)) (words asked) s
 
 module _ (b : List ℕ) (m : ℕ) where
   abbrev I : Instance
@@ -85,10 +94,10 @@ module _ (b : List ℕ) (m : ℕ) where
 
   -- ---- one clause: 1 to 12
   abbrev pub clauseQuestions : ℕ → ℕ → List Question
-  clauseQuestions c size = instanceQuestions b m ++ clauseRest I c size
+  clauseQuestions c room = instanceQuestions b m ++ clauseRest I c room
 
   unfoldable pub clauseAnswer : ℕ → ℕ → Answer
-  clauseAnswer c size = decide (clauseQuestions c size) (length (clauseWords I c))
+  clauseAnswer c room = decide (clauseQuestions c room) (length (clauseWords I c))
 
   unfoldable pub clauseSlice : ℕ → List ℤ → List ℤ
   clauseSlice c s = lent (clauseAnswer c (length s)) (clauseWords I c) s
@@ -102,30 +111,30 @@ module _ (b : List ℕ) (m : ℕ) where
 
   -- ---- the decoder: 1 to 10, 14, 15, 23, 24
   abbrev pub decodeQuestions : List ℤ → ℕ → List Question
-  decodeQuestions entries size = instanceQuestions b m ++ decodeRest I entries size
+  decodeQuestions entries room = instanceQuestions b m ++ decodeRest I entries room
 
   unfoldable pub decodeAnswer : List ℤ → ℕ → Answer
-  decodeAnswer entries size = decide (decodeQuestions entries size) (planBytes (I .sizes))
+  decodeAnswer entries room = decide (decodeQuestions entries room) (planBytes (I .sizes))
 
   unfoldable pub decodeSlice : List ℤ → List ℕ → List ℕ
   decodeSlice entries s = lent (decodeAnswer entries (length s)) (namedPlan (I .sizes) entries) s
 
   -- ---- the encoder: 1 to 10, 13, 16 to 22
   abbrev pub encodeQuestions : List ℕ → ℕ → List Question
-  encodeQuestions p size = instanceQuestions b m ++ encodeRest I p size
+  encodeQuestions p room = instanceQuestions b m ++ encodeRest I p room
 
   unfoldable pub encodeAnswer : List ℕ → ℕ → Answer
-  encodeAnswer p size = decide (encodeQuestions p size) (base .variables)
+  encodeAnswer p room = decide (encodeQuestions p room) (base .variables)
 
   unfoldable pub encodeSlice : List ℕ → List ℤ → List ℤ
   encodeSlice p s = lent (encodeAnswer p (length s)) (planValuation (I .sizes) p) s
 
   -- ---- the reader: 1 to 10, 16, 27 to 29
   abbrev pub readQuestions : List ℕ → ℕ → List Question
-  readQuestions text size = instanceQuestions b m ++ readRest I text size
+  readQuestions text room = instanceQuestions b m ++ readRest I text room
 
   unfoldable pub readAnswer : List ℕ → ℕ → Answer
-  readAnswer text size = decide (readQuestions text size) (base .variables)
+  readAnswer text room = decide (readQuestions text room) (base .variables)
 
   unfoldable pub readSlice : List ℕ → List ℤ → List ℤ
   readSlice text s = lent (readAnswer text (length s)) (inOrder (base .variables) (given text)) s

@@ -21,7 +21,7 @@ question11 f c = ask (ltb c (length (f .clauses))) (refuse 11 (length (f .clause
 
 -- Does the formula, or the one clause with its 0, fit the lent slice?
 abbrev pub question12 : ℕ → ℕ → Question
-question12 needed size = ask (leb needed size) (refuse 12 needed)
+question12 needed room = ask (leb needed room) (refuse 12 needed)
 
 -- Has the plan exactly (m+1)·k bytes?
 abbrev pub question13 : Instance → List ℕ → Question
@@ -33,11 +33,11 @@ question14 f entries = ask (eqb (length entries) (f .variables)) (refuse 14 (len
 
 -- Has the slice for a decoded plan (m+1)·k bytes or more?
 abbrev pub question15 : Instance → ℕ → Question
-question15 I size = ask (leb (planBytes (I .sizes)) size) (refuse 15 (planBytes (I .sizes)))
+question15 I room = ask (leb (planBytes (I .sizes)) room) (refuse 15 (planBytes (I .sizes)))
 
 -- Has the slice for a valuation N entries or more?
 abbrev pub question16 : Formula → ℕ → Question
-question16 f size = ask (leb (f .variables) size) (refuse 16 (f .variables))
+question16 f room = ask (leb (f .variables) room) (refuse 16 (f .variables))
 
 -- the number of question 20's refusal says what the occupant of the vertex entered does
 unfoldable pub occupiedNumber : Leaving → ℕ

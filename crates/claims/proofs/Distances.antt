@@ -10,8 +10,8 @@ use Rattle.lists.specs.Loop.{all}
 use Rattle.lists.proofs.Loops.{all-append}
 use Rattle.lists.proofs.Tests.{or-iff, not-iff, eqb-iff}
 use Rattle.lists.proofs.Sums.{greatest-le, greatest-one}
-use Rattle.answers.specs.Answers.{clear, withClauses}
-use Rattle.answers.proofs.Laws.{byNumber-accepted, decide-iff}
+use Rattle.answers.specs.Answers.{clear}
+use Rattle.answers.proofs.Laws.{decide-iff}
 use Rattle.instance.specs.Instance.{Instance, instance, agents, startOf, goalOf, adjacent, neighbourWords}
 use Rattle.instance.specs.Questions.{question10, bytesQuestions, instanceQuestions}
 use Rattle.instance.proofs.Instance.{instance-iff, edges-known, endpoints, limits}
@@ -25,12 +25,12 @@ use Rattle.formula.specs.Formula.{formula}
 use Rattle.formula.specs.Pruned.{fromStart, pruned}
 use Rattle.formula.proofs.Pruned.{pruned-clause-count, pruned-word-count, pruned-words-most}
 use Rattle.valuation.proofs.Pruned.{sat-pruned}
-use Rattle.calls.specs.Calls.{writeQuestions, writeAnswer, checkQuestions, checkAnswer, floorAnswer}
+use Rattle.calls.specs.Calls.{checkQuestions, checkAnswer, floorAnswer}
 use Rattle.calls.proofs.Plan.{check-iff}
 use Rattle.calls.proofs.Valuation.{satisfies-mem}
 use Rattle.calls.proofs.Floor.{floor-count, all-reached, floor-below, no-plan, first-cut, past-bytes, bytes-clear}
-use Rattle.claims.proofs.Refusals.{numbered-write, numbered-check}
-use Rattle.claims.proofs.Formula.{counted}
+use Rattle.claims.proofs.Refusals.{numbered-check}
+use Rattle.claims.proofs.Size.{size-call}
 use Rattle.claims.specs.Distances.{Distances, Pruned, Greatest, FirstUnreachable, Claim}
 
 module _ (b : List ℕ) (m : ℕ) (ok : T (all clear (instanceQuestions b m))) where
@@ -53,7 +53,6 @@ module _ (b : List ℕ) (m : ℕ) (ok : T (all clear (instanceQuestions b m))) w
       }
 
   prunes : Pruned b m
-  unfolding writeAnswer withClauses
   prunes =
       let h = limits b m ok .m-most in
       record {
@@ -73,10 +72,9 @@ module _ (b : List ℕ) (m : ℕ) (ok : T (all clear (instanceQuestions b m))) w
         clauseTotal = pruned-clause-count I (omega arith);
         wordTotal = pruned-word-count I (omega arith) (edges-known b m ok);
         mostWords = omega (arith, pruned-word-count I (omega arith) (edges-known b m ok), pruned-words-most I (limits b m ok));
-        writer = λ size e. (
-          counted (writeQuestions pruned b m size) _ (numbered-write b m pruned size) e ∙ pruned-word-count I (omega arith) (edges-known b m ok),
-          byNumber-accepted _ _ 0 e ∙ pruned-clause-count I (omega arith),
-        );
+        size = λ e.
+            let c = size-call pruned b m in
+            (c .wordsCounted e ∙ pruned-word-count I (omega arith) (edges-known b m ok), c .clausesCounted e ∙ pruned-clause-count I (omega arith));
       }
 
   bytes-ok : T (all clear (bytesQuestions b))

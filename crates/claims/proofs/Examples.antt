@@ -13,9 +13,9 @@ use Rattle.instance.specs.Questions.{instanceQuestions}
 use Rattle.solver_text.specs.Text.{ahead, behind, token?, value, kind}
 use Rattle.solver_text.specs.Form.{status?, satisfiable?, closing?, complete?, offset, rightLine, statusPlace, literalsOf, times, inOrder}
 use Rattle.calls.specs.Questions.{occupiedNumber}
-use Rattle.calls.specs.Calls.{planQuestions, writeAnswer, writeSlice, clauseAnswer, clauseSlice, checkAnswer, decodeAnswer, decodeSlice, encodeAnswer, encodeSlice, textQuestions, readAnswer, readSlice, floorAnswer}
+use Rattle.calls.specs.Calls.{planQuestions, sizeAnswer, writeAnswer, writeSlice, clauseAnswer, clauseSlice, checkAnswer, decodeAnswer, decodeSlice, encodeAnswer, encodeSlice, textQuestions, readAnswer, readSlice, floorAnswer}
 use Rattle.claims.specs.Examples.{Claim}
 
 pub examples : Claim
-unfolding filled ask askEach decide lent withClauses instance adjacent index A B C D E F G clauses words condition1 condition2 condition3 occupantLeaves rests restTime cost true? named namedPlan planValuation instanceQuestions occupiedNumber planQuestions writeAnswer writeSlice clauseAnswer clauseSlice checkAnswer decodeAnswer decodeSlice encodeAnswer encodeSlice ahead behind token? value kind status? satisfiable? closing? complete? offset rightLine statusPlace literalsOf times inOrder textQuestions readAnswer readSlice within below floor H floorAnswer
+unfolding filled ask askEach decide lent withClauses instance adjacent index A B C D E F G clauses words condition1 condition2 condition3 occupantLeaves rests restTime cost true? named namedPlan planValuation instanceQuestions occupiedNumber planQuestions sizeAnswer writeAnswer writeSlice clauseAnswer clauseSlice checkAnswer decodeAnswer decodeSlice encodeAnswer encodeSlice ahead behind token? value kind status? satisfiable? closing? complete? offset rightLine statusPlace literalsOf times inOrder textQuestions readAnswer readSlice within below floor H floorAnswer
 examples = refl

@@ -11,8 +11,8 @@ use Rattle.lists.specs.Loop.{all}
 use Rattle.lists.proofs.Tests.{and-iff, ltb-iff}
 use Rattle.lists.proofs.Loops.{all-append}
 use Rattle.answers.specs.declared.Answer.{Answer}
-use Rattle.answers.specs.Answers.{Question, clear, decide, withClauses}
-use Rattle.answers.proofs.Laws.{numbered, clear-iff, decide-iff, decide-count, byNumber-accepted, ask-nil}
+use Rattle.answers.specs.Answers.{Question, clear, decide}
+use Rattle.answers.proofs.Laws.{numbered, clear-iff, decide-iff, decide-count, ask-nil}
 use Rattle.instance.specs.Instance.{Instance, instance, agents}
 use Rattle.formula.specs.Formula.{clauses, formula}
 use Rattle.formula.proofs.Counts.{count-A, count-B, count-C, count-D, count-E, count-F, count-G, words-A, words-B, words-C, words-D, words-E, words-F, words-G, clause-count, word-count, largest}
@@ -20,10 +20,11 @@ use Rattle.formula.proofs.Limits.{words-most, clause-most}
 use Rattle.plan.specs.Plan.{makespan}
 use Rattle.plan.specs.Passing.{Passes}
 use Rattle.instance.specs.Questions.{instanceQuestions}
-use Rattle.calls.specs.Calls.{writeQuestions, writeAnswer, clauseQuestions, clauseAnswer, checkAnswer, decodeQuestions, decodeAnswer, encodeQuestions, encodeAnswer, readQuestions, readAnswer}
+use Rattle.calls.specs.Calls.{clauseQuestions, clauseAnswer, checkAnswer, decodeQuestions, decodeAnswer, encodeQuestions, encodeAnswer, readQuestions, readAnswer}
 use Rattle.instance.proofs.Instance.{instance-iff, edges-known, limits}
 use Rattle.calls.proofs.Plan.{check-counts, check-iff}
-use Rattle.claims.proofs.Refusals.{numbered-write, numbered-clause, numbered-decode, numbered-encode, numbered-read}
+use Rattle.claims.proofs.Refusals.{numbered-clause, numbered-decode, numbered-encode, numbered-read}
+use Rattle.claims.proofs.Size.{size-call}
 use Rattle.claims.specs.Formula.{Counts, Claim}
 
 -- an acceptance holds its count
@@ -48,13 +49,10 @@ module _ (b : List ℕ) (m : ℕ) (ok : T (all clear (instanceQuestions b m))) w
       ap (λ (x : ℕ). x - 1) e ∙ d
 
   counts : Counts b m
-  unfolding instance writeAnswer withClauses clauseAnswer checkAnswer decodeAnswer encodeAnswer readAnswer
+  unfolding instance clauseAnswer checkAnswer decodeAnswer encodeAnswer readAnswer
   counts =
       record {
-        writer = λ size e. (
-          counted (writeQuestions formula b m size) _ (numbered-write b m formula size) e ∙ word-count I (edges-known b m ok),
-          byNumber-accepted _ _ 0 e ∙ clause-count I,
-        );
+        size = λ e. let c = size-call formula b m in (c .wordsCounted e ∙ word-count I (edges-known b m ok), c .clausesCounted e ∙ clause-count I);
         clause = λ c size e.
             let t = decide-iff (clauseQuestions b m c size) _ (numbered-clause b m c size) .0 e in
             let l = ltb-iff c (length (clauses I)) .0 (ask-nil _ _ .0 (next-clear b m _ _ t)) in (

@@ -7,3 +7,4 @@ pub mod Neighbours
 pub mod Occupied
 pub mod Reader
 pub mod Refusals
+pub mod Size

@@ -13,13 +13,13 @@ use Rattle.lists.proofs.Tests.{and-iff}
 use Rattle.lists.proofs.Loops.{all-append, unless-nil, for-nil}
 use Rattle.answers.specs.declared.Answer.{Answer}
 use Rattle.answers.specs.Answers.{Question, ask, askEach, decide, withClauses}
-use Rattle.answers.proofs.Laws.{numbered, ask-all, decide-iff, lent-refused, byNumber-refused, numbered-second}
+use Rattle.answers.proofs.Laws.{numbered, ask-all, decide-iff, lent-refused, numbered-second}
 use Rattle.instance.specs.Instance.{Instance, instance}
 use Rattle.instance.specs.Questions.{question10, bytesQuestions, instanceQuestions, instanceAnswer}
 use Rattle.instance.proofs.Instance.{numbered-instance}
 use Rattle.formula.specs.Formula.{Formula, formula}
 use Rattle.calls.specs.Questions.{question13, question14, question15, question16, question23, question24}
-use Rattle.calls.specs.Calls.{stepQuestions, planQuestions, writeQuestions, writeAnswer, writeSlice, clauseQuestions, clauseAnswer, clauseSlice, checkQuestions, checkAnswer, decodeQuestions, decodeAnswer, decodeSlice, encodeQuestions, encodeAnswer, encodeSlice, textQuestions, readQuestions, readAnswer, readSlice, goalQuestion, floorQuestions, floorAnswer}
+use Rattle.calls.specs.Calls.{stepQuestions, planQuestions, sizeQuestions, sizeAnswer, writeQuestions, writeAnswer, writeSlice, clauseQuestions, clauseAnswer, clauseSlice, checkQuestions, checkAnswer, decodeQuestions, decodeAnswer, decodeSlice, encodeQuestions, encodeAnswer, encodeSlice, textQuestions, readQuestions, readAnswer, readSlice, goalQuestion, floorQuestions, floorAnswer}
 use Rattle.calls.proofs.Plan.{numbered-plan}
 use Rattle.calls.proofs.Valuation.{numbered-valuation}
 use Rattle.calls.proofs.Text.{numbered-text}
@@ -173,13 +173,13 @@ module _ (b : List ℕ) (m : ℕ) where
   asked-text text = (one _ _, (many _ _ _, (one _ _, (one _ _, (many _ _ _, tt)))))
 
 pub refusals : Claim
-unfolding instanceAnswer writeAnswer writeSlice withClauses clauseAnswer clauseSlice checkAnswer decodeAnswer decodeSlice encodeAnswer encodeSlice readAnswer readSlice floorAnswer
+unfolding instanceAnswer sizeAnswer withClauses writeAnswer writeSlice clauseAnswer clauseSlice checkAnswer decodeAnswer decodeSlice encodeAnswer encodeSlice readAnswer readSlice floorAnswer
 refusals b m =
     record {
       instance = honest (instanceQuestions b m) 0 (numbered-instance b m) (asked-instance b m);
+      size = λ f. honest (sizeQuestions b m) _ (numbered-instance b m) (asked-instance b m);
       writer = λ f size. honest (writeQuestions f b m size) _ (numbered-write b m f size) (asked-more b m _ (one _ _, tt));
       writerSlice = λ f s d. lent-refused _ _ s d;
-      noClauses = λ f size d. byNumber-refused _ _ 0 d;
       clause = λ c size. honest (clauseQuestions b m c size) _ (numbered-clause b m c size) (asked-more b m _ (one _ _, (one _ _, tt)));
       clauseSlice = λ c s d. lent-refused _ _ s d;
       check = λ p. honest (checkQuestions b m p) _ (numbered-check b m p) (asked-more b m _ (one _ _, asked-plan b m p));

@@ -16,7 +16,7 @@ use Rattle.formula.specs.Formula.{formula, words}
 use Rattle.formula.specs.Pruned.{tooFar, fromStart, fromGoal, pruned, prunedClauses, prunedWords}
 use Rattle.plan.specs.Passing.{Passes}
 use Rattle.valuation.specs.Satisfying.{Valuation, Satisfies}
-use Rattle.calls.specs.Calls.{writeAnswer, checkAnswer, floorAnswer}
+use Rattle.calls.specs.Calls.{sizeAnswer, checkAnswer, floorAnswer}
 
 -- for the instance bytes b and the horizon m
 module _ (b : List ℕ) (m : ℕ) where
@@ -47,9 +47,9 @@ module _ (b : List ℕ) (m : ℕ) where
     pub wordTotal : length (words (pruned I)) ≡ prunedWords I
     -- none has more words than the largest formula and two for each of its variables
     pub mostWords : length (words (pruned I)) ≤ 7_692_880
-    -- the writer's counts
-    pub writer : (size : ℕ) → writeAnswer pruned b m size .number ≡ 0
-        → (writeAnswer pruned b m size .second ≡ prunedWords I) × (writeAnswer pruned b m size .clauses ≡ prunedClauses I)
+    -- the counts of its size call
+    pub size : sizeAnswer pruned b m .number ≡ 0
+        → (sizeAnswer pruned b m .second ≡ prunedWords I) × (sizeAnswer pruned b m .clauses ≡ prunedClauses I)
 
 -- a shortest walk from an agent's start to its goal has at most x edges, and that of some agent has x
 pub record Greatest (b : List ℕ) (x : ℕ) : Type 0 where

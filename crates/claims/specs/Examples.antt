@@ -6,11 +6,11 @@ use Prim.Native.Nat.{ℕ}
 use lib.ListN.{length, replicate}
 use lib.IntN.{ℤ, pos, negℤ}
 use Rattle.answers.specs.declared.Answer.{Answer}
-use Rattle.answers.specs.declared.Written.{Written}
+use Rattle.answers.specs.declared.Size.{Size}
 use Rattle.answers.specs.Answers.{accept, refuse}
 use Rattle.formula.specs.Formula.{formula}
 use Rattle.formula.specs.Pruned.{pruned}
-use Rattle.calls.specs.Calls.{writeAnswer, writeSlice, clauseAnswer, clauseSlice, checkAnswer, decodeAnswer, decodeSlice, encodeAnswer, encodeSlice, readAnswer, readSlice, floorAnswer}
+use Rattle.calls.specs.Calls.{sizeAnswer, writeAnswer, writeSlice, clauseAnswer, clauseSlice, checkAnswer, decodeAnswer, decodeSlice, encodeAnswer, encodeSlice, readAnswer, readSlice, floorAnswer}
 
 -- ---- instances
 -- two vertices, one edge, one agent from s to g; "pair" has s 0 and g 1
@@ -45,6 +45,8 @@ cutTwo g₀ g₁ = 3 ∷ 2 ∷ 1 ∷ 0 ∷ 0 ∷ 1 ∷ 0 ∷ 2 ∷ g₀ ∷ g₁
 
 -- ---- calls, and what is seen of them
 pub data Call : Type 0 where
+  size : Call
+  prunedSize : Call
   write : List ℤ → Call
   prune : List ℤ → Call
   clause : ℕ → List ℤ → Call
@@ -55,16 +57,18 @@ pub data Call : Type 0 where
   floor : Call
 
 pub data Seen : Type 0 where
-  words : Written → List ℤ → Seen
-  line : Answer → List ℤ → Seen
+  counts : Size → Seen
+  words : Answer → List ℤ → Seen
   answer : Answer → Seen
   plan : Answer → List ℕ → Seen
   valuation : Answer → List ℤ → Seen
 
 abbrev pub run : List ℕ → ℕ → Call → Seen
+run b m size = counts (sizeAnswer formula b m)
+run b m prunedSize = counts (sizeAnswer pruned b m)
 run b m (write s) = words (writeAnswer formula b m (length s)) (writeSlice formula b m s)
 run b m (prune s) = words (writeAnswer pruned b m (length s)) (writeSlice pruned b m s)
-run b m (clause c s) = line (clauseAnswer b m c (length s)) (clauseSlice b m c s)
+run b m (clause c s) = words (clauseAnswer b m c (length s)) (clauseSlice b m c s)
 run b m (check p) = answer (checkAnswer b m p)
 run b m (decode entries s) = plan (decodeAnswer b m entries (length s)) (decodeSlice b m entries s)
 run b m (encode p s) = valuation (encodeAnswer b m p (length s)) (encodeSlice b m p s)
@@ -85,16 +89,17 @@ abbrev neg : ℕ → ℤ
 neg x = negℤ (pos x)
 
 abbrev sevens : ℕ → List ℤ
-sevens size = replicate size (pos 7)
+sevens count = replicate count (pos 7)
 
 abbrev lentPlan : List ℕ
 lentPlan = replicate 4 7
 
-abbrev written : ℕ → ℕ → Written
-written count clauses = record { number = 0; second = count; clauses = clauses }
+-- a size call accepts with these words and clauses, or refuses with this number and place
+abbrev sized : ℕ → ℕ → Seen
+sized count clauses = counts (record { number = 0; second = count; clauses = clauses })
 
-abbrev unwritten : ℕ → ℕ → Written
-unwritten number place = record { number = number; second = place; clauses = 0 }
+abbrev unsized : ℕ → ℕ → Seen
+unsized number place = counts (record { number = number; second = place; clauses = 0 })
 
 -- ---- the words of formulas, a clause a line
 abbrev pairWords : List ℤ
@@ -211,20 +216,33 @@ zeroFirst = 118 ∷ 32 ∷ 48 ∷ 32 ∷ 49 ∷ 10 ∷ []
 
 abbrev pub table : List Example
 table =
-    -- the pair's eight clauses, 24 words: a slice of 24 is filled, one of 26 keeps its last two words, one of 23 is refused
-    example pair 1 (write (sevens 24)) (words (written 24 8) pairWords)
-    ∷ example pair 1 (write (sevens 26)) (words (written 24 8) (pairWords ++ sevens 2))
-    ∷ example pair 1 (write (sevens 23)) (words (unwritten 12 24) (sevens 23))
+    -- the pair's eight clauses, 24 words: a slice of 24 is filled, one of 26 keeps its last two words, one of 23 and an empty one are refused
+    example pair 1 size (sized 24 8)
+    ∷ example pair 1 (write (sevens 24)) (words (accept 0) pairWords)
+    ∷ example pair 1 (write (sevens 26)) (words (accept 0) (pairWords ++ sevens 2))
+    ∷ example pair 1 (write (sevens 23)) (words (refuse 12 24) (sevens 23))
+    ∷ example pair 1 (write (sevens 0)) (words (refuse 12 24) (sevens 0))
     -- with family H 10 clauses, 28 words: at time 0 it is not at 1, at time 1 not at 0
-    ∷ example pair 1 (prune (sevens 30)) (words (written 28 10) (pairWords ++ neg 2 ∷ pos 0 ∷ neg 3 ∷ pos 0 ∷ sevens 2))
-    ∷ example pair 1 (prune (sevens 27)) (words (unwritten 12 28) (sevens 27))
-    ∷ example pair 0 (prune (sevens 14)) (words (written 14 6) pairBelow)
-    ∷ example (pathOne 0 0) 1 (prune (sevens 51)) (words (written 51 17) pathPruned)
-    ∷ example (cutOne 0 0) 1 (prune (sevens 26)) (words (written 26 10) cutPruned)
-    -- its clause number 6, four words; there is no clause 8, with family H or without
-    ∷ example pair 1 (clause 6 (sevens 5)) (line (accept 4) (neg 1 ∷ pos 3 ∷ pos 4 ∷ pos 0 ∷ pos 7 ∷ []))
-    ∷ example pair 1 (clause 6 (sevens 3)) (line (refuse 12 4) (sevens 3))
-    ∷ example pair 1 (clause 8 (sevens 0)) (line (refuse 11 8) (sevens 0))
+    ∷ example pair 1 prunedSize (sized 28 10)
+    ∷ example pair 1 (prune (sevens 30)) (words (accept 0) (pairWords ++ neg 2 ∷ pos 0 ∷ neg 3 ∷ pos 0 ∷ sevens 2))
+    ∷ example pair 1 (prune (sevens 27)) (words (refuse 12 28) (sevens 27))
+    ∷ example pair 0 prunedSize (sized 14 6)
+    ∷ example pair 0 (prune (sevens 14)) (words (accept 0) pairBelow)
+    ∷ example (pathOne 0 0) 1 prunedSize (sized 51 17)
+    ∷ example (pathOne 0 0) 1 (prune (sevens 51)) (words (accept 0) pathPruned)
+    ∷ example (cutOne 0 0) 1 prunedSize (sized 26 10)
+    ∷ example (cutOne 0 0) 1 (prune (sevens 26)) (words (accept 0) cutPruned)
+    -- what a size call refuses, here the horizon and a start that is not on the map, the writer refuses alike
+    ∷ example pair 33 size (unsized 10 0)
+    ∷ example pair 33 prunedSize (unsized 10 0)
+    ∷ example pair 33 (write (sevens 24)) (words (refuse 10 0) (sevens 24))
+    ∷ example (pairWith 2 1) 1 size (unsized 8 6)
+    ∷ example (pairWith 2 1) 1 prunedSize (unsized 8 6)
+    ∷ example (pairWith 2 1) 1 (prune (sevens 0)) (words (refuse 8 6) (sevens 0))
+    -- the pair's clause number 6, four words; there is no clause 8, with family H or without
+    ∷ example pair 1 (clause 6 (sevens 5)) (words (accept 4) (neg 1 ∷ pos 3 ∷ pos 4 ∷ pos 0 ∷ pos 7 ∷ []))
+    ∷ example pair 1 (clause 6 (sevens 3)) (words (refuse 12 4) (sevens 3))
+    ∷ example pair 1 (clause 8 (sevens 0)) (words (refuse 11 8) (sevens 0))
     -- the pair's valuations
     ∷ example pair 1 (decode (pos 1 ∷ neg 2 ∷ neg 3 ∷ pos 4 ∷ []) lentPlan) (plan (accept 2) (0 ∷ 1 ∷ 7 ∷ 7 ∷ []))
     ∷ example pair 1 (encode (0 ∷ 1 ∷ []) (sevens 5)) (valuation (accept 4) (pos 1 ∷ neg 2 ∷ neg 3 ∷ pos 4 ∷ pos 7 ∷ []))
@@ -262,7 +280,8 @@ table =
     -- two agents exchange the ends of an edge; their formula has 24 clauses, 72 words
     ∷ example exchange 1 (check (0 ∷ 1 ∷ 1 ∷ 0 ∷ [])) (answer (refuse 25 2))
     ∷ example exchange 1 (encode (0 ∷ 1 ∷ 1 ∷ 0 ∷ []) (sevens 8)) (valuation (refuse 25 2) (sevens 8))
-    ∷ example exchange 1 (write (sevens 72)) (words (written 72 24) exchangeWords)
+    ∷ example exchange 1 size (sized 72 24)
+    ∷ example exchange 1 (write (sevens 72)) (words (accept 0) exchangeWords)
     -- on the path one agent closes up behind another, then waits for it, then drives into it where it stays
     ∷ example (pathTwo 0 1 1 2) 1 (check (0 ∷ 1 ∷ 1 ∷ 2 ∷ [])) (answer (refuse 26 2))
     ∷ example (pathTwo 0 1 1 2) 2 (check (0 ∷ 1 ∷ 0 ∷ 2 ∷ 1 ∷ 2 ∷ [])) (answer (accept 3))

@@ -13,7 +13,7 @@ use Rattle.plan.specs.Plan.{cost}
 use Rattle.plan.specs.Plan as plan
 use Rattle.plan.specs.Passing.{Passes}
 use Rattle.instance.specs.Questions.{instanceAnswer}
-use Rattle.calls.specs.Calls.{writeAnswer, clauseAnswer, checkAnswer, decodeAnswer, encodeAnswer, readAnswer}
+use Rattle.calls.specs.Calls.{sizeAnswer, clauseAnswer, checkAnswer, decodeAnswer, encodeAnswer, readAnswer}
 
 -- the numbers of the table are the lengths of the families
 pub record Lengths (numbers : Families) (length′ : List Clause → ℕ) (I : Instance) : Type 0 where
@@ -49,21 +49,21 @@ module _ (b : List ℕ) (m : ℕ) where
 
   -- the count of each acceptance
   pub record Counts : Type 0 where
-    -- the writer: words, and the clause count beside them
-    pub writer : (size : ℕ) → writeAnswer formula b m size .number ≡ 0
-        → (writeAnswer formula b m size .second ≡ wordCount (I .sizes)) × (writeAnswer formula b m size .clauses ≡ clauseCount (I .sizes))
+    -- the size call: words, and the clause count beside them (a writer's second number is 0: `claims/specs/Size`)
+    pub size : sizeAnswer formula b m .number ≡ 0
+        → (sizeAnswer formula b m .second ≡ wordCount (I .sizes)) × (sizeAnswer formula b m .clauses ≡ clauseCount (I .sizes))
     -- one clause: its words with the 0
-    pub clause : (c size : ℕ) → clauseAnswer b m c size .number ≡ 0
-        → (c < clauseCount (I .sizes)) × (clauseAnswer b m c size .second ≡ suc (length (getD (clauses I) c [])))
+    pub clause : (c room : ℕ) → clauseAnswer b m c room .number ≡ 0
+        → (c < clauseCount (I .sizes)) × (clauseAnswer b m c room .second ≡ suc (length (getD (clauses I) c [])))
     -- the plan check: the cost
     pub check : (p : List ℕ) → checkAnswer b m p .number ≡ 0 → checkAnswer b m p .second ≡ cost (I .sizes) p
     -- the decoder: (m+1)·k; the encoder and the reader: N
-    pub decoder : (entries : List ℤ) (size : ℕ) → decodeAnswer b m entries size .number ≡ 0
-        → decodeAnswer b m entries size .second ≡ (m + 1) * I .sizes .k
-    pub encoder : (p : List ℕ) (size : ℕ) → encodeAnswer b m p size .number ≡ 0
-        → encodeAnswer b m p size .second ≡ I .sizes .n * I .sizes .k * (m + 1)
-    pub reader : (text : List ℕ) (size : ℕ) → readAnswer b m text size .number ≡ 0
-        → readAnswer b m text size .second ≡ I .sizes .n * I .sizes .k * (m + 1)
+    pub decoder : (entries : List ℤ) (room : ℕ) → decodeAnswer b m entries room .number ≡ 0
+        → decodeAnswer b m entries room .second ≡ (m + 1) * I .sizes .k
+    pub encoder : (p : List ℕ) (room : ℕ) → encodeAnswer b m p room .number ≡ 0
+        → encodeAnswer b m p room .second ≡ I .sizes .n * I .sizes .k * (m + 1)
+    pub reader : (text : List ℕ) (room : ℕ) → readAnswer b m text room .number ≡ 0
+        → readAnswer b m text room .second ≡ I .sizes .n * I .sizes .k * (m + 1)
 
 -- for every accepted instance and horizon
 pub record Claim : Type 0 where

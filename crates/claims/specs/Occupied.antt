@@ -83,6 +83,6 @@ module _ (I : Instance) (p : List ℕ) where
 pub record Claim : Type 0 where
   pub check : (b : List ℕ) (m : ℕ) (p : List ℕ) → OneOfThree (checkAnswer b m p) → Tells (instance b m) p (checkAnswer b m p)
   pub checkGives : (b : List ℕ) (m : ℕ) (p : List ℕ) → instanceAnswer b m .number ≡ 0 → Meeting (instance b m) p → OneOfThree (checkAnswer b m p)
-  pub encoder : (b : List ℕ) (m : ℕ) (p : List ℕ) (size : ℕ) → OneOfThree (encodeAnswer b m p size) → Tells (instance b m) p (encodeAnswer b m p size)
-  pub encoderGives : (b : List ℕ) (m : ℕ) (p : List ℕ) (size : ℕ) → instanceAnswer b m .number ≡ 0 → formula (instance b m) .variables ≤ size
-      → Meeting (instance b m) p → OneOfThree (encodeAnswer b m p size)
+  pub encoder : (b : List ℕ) (m : ℕ) (p : List ℕ) (room : ℕ) → OneOfThree (encodeAnswer b m p room) → Tells (instance b m) p (encodeAnswer b m p room)
+  pub encoderGives : (b : List ℕ) (m : ℕ) (p : List ℕ) (room : ℕ) → instanceAnswer b m .number ≡ 0 → formula (instance b m) .variables ≤ room
+      → Meeting (instance b m) p → OneOfThree (encodeAnswer b m p room)

@@ -13,7 +13,7 @@ use Rattle.answers.specs.Answers.{Question, refuse, askEach, clear}
 use Rattle.instance.specs.Instance.{Instance}
 use Rattle.instance.specs.Questions.{instanceQuestions, instanceAnswer}
 use Rattle.formula.specs.Formula.{Formula}
-use Rattle.calls.specs.Calls.{writeQuestions, writeAnswer, writeSlice, clauseQuestions, clauseAnswer, clauseSlice, checkQuestions, checkAnswer, decodeQuestions, decodeAnswer, decodeSlice, encodeQuestions, encodeAnswer, encodeSlice, readQuestions, readAnswer, readSlice, floorQuestions, floorAnswer}
+use Rattle.calls.specs.Calls.{sizeQuestions, sizeAnswer, writeQuestions, writeAnswer, writeSlice, clauseQuestions, clauseAnswer, clauseSlice, checkQuestions, checkAnswer, decodeQuestions, decodeAnswer, decodeSlice, encodeQuestions, encodeAnswer, encodeSlice, readQuestions, readAnswer, readSlice, floorQuestions, floorAnswer}
 
 -- of items 0 to n - 1, each with a test and a refusal: the first that fails gives this answer, and every item before it passes
 pub record FirstItem (n : ℕ) (test : ℕ → Bool) (refusal : ℕ → Answer) (answer : Answer) : Type 0 where
@@ -48,22 +48,22 @@ Unchanged number found left = number ≢ 0 → left ≡ found
 module _ (b : List ℕ) (m : ℕ) where
   pub record Refusals : Type 0 where
     pub instance : Honest (instanceQuestions b m) (instanceAnswer b m .number) (instanceAnswer b m .second)
-    -- the writers: f is `formula` for the one, `pruned` for the other
-    pub writer : (f : Instance → Formula) (size : ℕ)
-        → Honest (writeQuestions f b m size) (writeAnswer f b m size .number) (writeAnswer f b m size .second)
+    -- the size calls and the writers, for any f, so for `formula` and `pruned`
+    pub size : (f : Instance → Formula) → Honest (sizeQuestions b m) (sizeAnswer f b m .number) (sizeAnswer f b m .second)
+    pub writer : (f : Instance → Formula) (room : ℕ)
+        → Honest (writeQuestions f b m room) (writeAnswer f b m room .number) (writeAnswer f b m room .second)
     pub writerSlice : (f : Instance → Formula) (s : List ℤ) → Unchanged (writeAnswer f b m (length s) .number) s (writeSlice f b m s)
-    pub noClauses : (f : Instance → Formula) (size : ℕ) → writeAnswer f b m size .number ≢ 0 → writeAnswer f b m size .clauses ≡ 0
-    pub clause : (c size : ℕ) → Honest (clauseQuestions b m c size) (clauseAnswer b m c size .number) (clauseAnswer b m c size .second)
+    pub clause : (c room : ℕ) → Honest (clauseQuestions b m c room) (clauseAnswer b m c room .number) (clauseAnswer b m c room .second)
     pub clauseSlice : (c : ℕ) (s : List ℤ) → Unchanged (clauseAnswer b m c (length s) .number) s (clauseSlice b m c s)
     pub check : (p : List ℕ) → Honest (checkQuestions b m p) (checkAnswer b m p .number) (checkAnswer b m p .second)
-    pub decoder : (entries : List ℤ) (size : ℕ)
-        → Honest (decodeQuestions b m entries size) (decodeAnswer b m entries size .number) (decodeAnswer b m entries size .second)
+    pub decoder : (entries : List ℤ) (room : ℕ)
+        → Honest (decodeQuestions b m entries room) (decodeAnswer b m entries room .number) (decodeAnswer b m entries room .second)
     pub decoderSlice : (entries : List ℤ) (s : List ℕ) → Unchanged (decodeAnswer b m entries (length s) .number) s (decodeSlice b m entries s)
-    pub encoder : (p : List ℕ) (size : ℕ)
-        → Honest (encodeQuestions b m p size) (encodeAnswer b m p size .number) (encodeAnswer b m p size .second)
+    pub encoder : (p : List ℕ) (room : ℕ)
+        → Honest (encodeQuestions b m p room) (encodeAnswer b m p room .number) (encodeAnswer b m p room .second)
     pub encoderSlice : (p : List ℕ) (s : List ℤ) → Unchanged (encodeAnswer b m p (length s) .number) s (encodeSlice b m p s)
-    pub reader : (text : List ℕ) (size : ℕ)
-        → Honest (readQuestions b m text size) (readAnswer b m text size .number) (readAnswer b m text size .second)
+    pub reader : (text : List ℕ) (room : ℕ)
+        → Honest (readQuestions b m text room) (readAnswer b m text room .number) (readAnswer b m text room .second)
     pub readerSlice : (text : List ℕ) (s : List ℤ) → Unchanged (readAnswer b m text (length s) .number) s (readSlice b m text s)
     -- the floor, which is given no horizon
     pub floor : Honest (floorQuestions b) (floorAnswer b .number) (floorAnswer b .second)

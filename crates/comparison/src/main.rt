@@ -1,8 +1,9 @@
-// Runs the eight calls on cases made elsewhere, at most a million of them. A case: the kind of call (1 byte: 1 the formula writer,
-// 2 one clause, 3 the plan check, 4 the decoder, 5 the encoder, 6 the reader, 7 the floor, 8 the pruned writer), the horizon and the
-// clause number (8 bytes each), the instance's length (2 bytes), the payload's length in bytes and the lent slice's length in elements
-// (4 bytes each), low bytes first; then the instance, then the payload: a plan, entries of 4 bytes, or a text. Each case prints a line: the answer's number, its second
-// number, the clauses, and a hash of the lent slice after the call; or "skip" where the slice is longer than the array here.
+// Runs the ten calls on cases made elsewhere, at most a million of them. A case: the kind of call (1 byte: 1 the formula writer,
+// 2 one clause, 3 the plan check, 4 the decoder, 5 the encoder, 6 the reader, 7 the floor, 8 the pruned writer, 9 the formula's size,
+// 10 the pruned formula's size), the horizon and the clause number (8 bytes each), the instance's length (2 bytes), the payload's
+// length in bytes and the lent slice's length in elements (4 bytes each), low bytes first; then the instance, then the payload: a
+// plan, entries of 4 bytes, or a text. Each case prints a line: the answer's number, its second number, the clauses (0 but for a
+// size), and a hash of the lent slice after the call; or "skip" where the slice is longer than the array here.
 mod case;
 mod lent;
 mod outcome;
@@ -11,6 +12,7 @@ mod words;
 
 use case::Head;
 use outcome::Outcome;
+use outcome::sized;
 use outcome::skipped;
 ghost use mathlib.Core.Path.{_≡_};
 ghost use Prim.Native.Nat.{_≤_, _<_};
@@ -30,6 +32,8 @@ fn run_case(h: Head, b: &[u8], s: &[u8], words: &mut [i32], plan: &mut [u8]) -> 
         6 => plans::read_valuation(h, b, s, &mut words[0..40000]),
         7 => plans::floor(b),
         8 => words::write_pruned(h, b, words),
+        9 => sized(formula_size::formula_size(b, h.m)),
+        10 => sized(formula_size::pruned_size(b, h.m)),
         _ => skipped(),
     }
 }

@@ -5,7 +5,6 @@ use crate::lent::hash_words;
 use crate::outcome::Outcome;
 use crate::outcome::answered;
 use crate::outcome::skipped;
-use crate::outcome::wrote;
 
 pub fn write_formula(h: Head, b: &[u8], words: &mut [i32]) -> Outcome {
     let lent = h.lent;
@@ -15,7 +14,7 @@ pub fn write_formula(h: Head, b: &[u8], words: &mut [i32]) -> Outcome {
     let z = &mut words[0..lent];
     fill_words(z);
     let r = formula_writer::write_formula(b, h.m, z);
-    wrote(r, hash_words(z))
+    answered(r, hash_words(z))
 }
 
 pub fn write_pruned(h: Head, b: &[u8], words: &mut [i32]) -> Outcome {
@@ -26,7 +25,7 @@ pub fn write_pruned(h: Head, b: &[u8], words: &mut [i32]) -> Outcome {
     let z = &mut words[0..lent];
     fill_words(z);
     let r = pruned_writer::write_pruned(b, h.m, z);
-    wrote(r, hash_words(z))
+    answered(r, hash_words(z))
 }
 
 pub fn clause(h: Head, b: &[u8], words: &mut [i32]) -> Outcome {

@@ -1,75 +1,52 @@
--- The words that are written are the formula's, and the answer is the definition's.
+-- The writer of any formula: what it answers and leaves, from the answers of the instance check and of 12.
 use mathlib.Core.Path.{_≡_, sym, _∙_, ap}
 use mathlib.Core.Logic.{_≢_}
-use mathlib.Core.List.{List, []}
-use Prim.Native.Nat.{ℕ, _≤_, _<_}
-use native.Mathlib.Omega.{arith}
+use mathlib.Core.List.{List, [], _∷_}
+use Prim.Native.Nat.{ℕ}
 use lib.IntN.{ℤ}
 use lib.ListN.{length}
-use lib.Dec.{leb}
-use Rattle.lists.specs.Loop.{for, each}
 use Rattle.lists.specs.Slice.{filled}
-use Rattle.lists.proofs.Tests.{leb-iff}
 use Rattle.answers.specs.declared.Answer.{Answer}
-use Rattle.answers.specs.Answers.{refuse, accept, decide, withClauses}
-use Rattle.answers.proofs.Laws.{ask-yes, ask-no, byNumber-accepted, byNumber-refused, lent-accepted, lent-refused}
+use Rattle.answers.specs.Answers.{Question, decide}
 use Rattle.instance.specs.declared.Checked.{Checked}
 use Rattle.instance.specs.Instance.{Instance, instance}
-use Rattle.instance.specs.Accepted.{Accepted, instanceOf}
-use Rattle.instance.proofs.Accepted.{sizes-same, graph}
-use Rattle.formula.specs.Formula.{Formula, clauses, formula, line, words}
-use Rattle.formula.specs.Counts.{clauseCount, wordCount}
-use Rattle.formula.specs.Blocks.{held, family}
-use Rattle.formula.proofs.Counts.{clause-count, word-count}
-use Rattle.formula.proofs.Held.{families-held}
-use Rattle.calls.specs.Calls.{writeRest, writeQuestions, writeAnswer, writeSlice}
+use Rattle.instance.specs.Questions.{instanceAnswer, instanceChecked}
+use Rattle.instance.specs.Accepted.{instanceOf}
+use Rattle.instance.proofs.Call.{horizon, instance-refuses, call-answers, slice-refused, slice-filled}
+use Rattle.formula.specs.Formula.{Formula, words}
+use Rattle.calls.specs.Questions.{question12}
+use Rattle.calls.specs.Calls.{writeRest, writeAnswer, writeSlice}
 
-module _ (b : List ℕ) (c : Checked) (w : Accepted b c) where
-  abbrev I : Instance
-  I = instanceOf b c
+-- the answer of the instance check is a, the checked instance c; the slice holds s
+module _ (f : Instance → Formula) (b : List ℕ) (m : ℕ) (a : Answer) (c : Checked) (ea : a ≡ instanceAnswer b m) (ec : c ≡ instanceChecked b m) (s : List ℤ) where
+  abbrev asks : Instance → List Question
+  asks I = writeRest (f I) (length s)
 
-  pub words-held : words (formula I) ≡ each line (for 7 (family (held c)))
-  unfolding words
-  words-held = ap (each line) (families-held b c w)
+  -- an answer r that is the call's, and what the slice then holds
+  module _ (r : Answer) (e : r ≡ writeAnswer f b m (length s)) where
+    unchanged : r .number ≢ 0 → s ≡ writeSlice f b m s
+    unfolding writeSlice
+    unchanged d = slice-refused (writeAnswer f b m (length s)) r e (words (f (instance b m))) s d
 
-  pub word-count-of : length (words (formula I)) ≡ wordCount (c .sizes)
-  word-count-of = word-count I (graph b c w) ∙ ap wordCount (sym (sizes-same b c w))
+    written : r .number ≡ 0 → filled (words (f (instance b m))) s ≡ writeSlice f b m s
+    unfolding writeSlice
+    written o = slice-filled (writeAnswer f b m (length s)) r e (words (f (instance b m))) s o
 
-  pub clause-count-of : length (clauses I) ≡ clauseCount (c .sizes)
-  clause-count-of = clause-count I ∙ ap clauseCount (sym (sizes-same b c w))
+  pub refuses : a .number ≢ 0 → (a ≡ writeAnswer f b m (length s)) × (s ≡ writeSlice f b m s)
+  unfolding writeAnswer
+  refuses d = let e = instance-refuses b m a c ea ec asks (λ I. 0) d in (e, unchanged a e d)
 
--- ---- any formula of so many words: 12, for a slice of the given size
-module _ (f : Formula) (needed : ℕ) (count : length (words f) ≡ needed) (size : ℕ) where
-  abbrev asked : Answer
-  asked = decide (writeRest f size) (length (words f))
+  -- so many words are needed, and r is the answer to 12
+  module _ (o : a .number ≡ 0) (needed : ℕ) (count : length (words (f (instanceOf b c))) ≡ needed) (r : Answer) (er : r ≡ decide (question12 needed (length s) ∷ []) 0) where
+    answers : r ≡ writeAnswer f b m (length s)
+    unfolding writeAnswer
+    answers =
+        call-answers b m a c ea ec asks (λ I. 0) o r
+        (er ∙ ap (λ (x : ℕ). decide (question12 x (length s) ∷ []) 0) (sym count))
 
-  pub stop-12 : size < needed → refuse 12 needed ≡ asked
-  stop-12 l =
-      ap (refuse 12) (sym count)
-      ∙ sym (ask-no (leb (length (words f)) size) _ [] _ (λ t. omega (arith, leb-iff (length (words f)) size .0 t, count)))
+    pub stops : r .number ≢ 0 → (r ≡ writeAnswer f b m (length s)) × (s ≡ writeSlice f b m s)
+    stops d = (answers, unchanged r answers d)
 
-  pub pass-12 : needed ≤ size → accept needed ≡ asked
-  unfolding decide
-  pass-12 l =
-      ap accept (sym count)
-      ∙ sym (ask-yes (leb (length (words f)) size) _ [] _ (leb-iff (length (words f)) size .1 (omega (arith, count))))
-
--- ---- from the answer to all questions, without the clause count, to the writer's
-module _ (F : Instance → Formula) (b : List ℕ) (m : ℕ) (s : List ℤ) (r : Answer) (e : r ≡ decide (writeQuestions F b m (length s)) (length (words (F (instance b m))))) where
-  pub refused : r .number ≢ 0
-      → (record { number = r .number; second = r .second; clauses = 0 } ≡ writeAnswer F b m (length s)) × (s ≡ writeSlice F b m s)
-  unfolding writeAnswer writeSlice withClauses
-  refused d =
-      rw (← e) (
-        ap (λ (q : ℕ). record { number = r .number; second = r .second; clauses = q }) (sym (byNumber-refused (r .number) (length (F (instance b m) .clauses)) 0 d)),
-        sym (lent-refused r _ s d),
-      )
-
-  pub done : r .number ≡ 0 → (count : ℕ) → count ≡ length (F (instance b m) .clauses) → (g : List ℤ) → g ≡ filled (words (F (instance b m))) s
-      → (record { number = r .number; second = r .second; clauses = count } ≡ writeAnswer F b m (length s)) × (g ≡ writeSlice F b m s)
-  unfolding writeAnswer writeSlice withClauses
-  done z count ec g eg =
-      rw (← e) (
-        ap (λ (q : ℕ). record { number = r .number; second = r .second; clauses = q }) (ec ∙ sym (byNumber-accepted (r .number) (length (F (instance b m) .clauses)) 0 z)),
-        eg ∙ sym (lent-accepted r _ s z),
-      )
+    pub writes : r .number ≡ 0 → (g : List ℤ) → g ≡ filled (words (f (instanceOf b c))) s
+        → (r ≡ writeAnswer f b m (length s)) × (g ≡ writeSlice f b m s)
+    writes z g eg = (answers, eg ∙ ap (λ (I : Instance). filled (words (f I)) s) (horizon b m a c ea ec o) ∙ written r answers z)

@@ -1,16 +1,18 @@
 // The formula writer: instance bytes, a horizon and a lent slice in, the words of the formula out.
-use answers::Written;
+use answers::Answer;
 use instance::Checked;
 use instance::Sizes;
 ghost use mathlib.Core.Path.{_≡_};
-ghost use mathlib.Core.List.{_++_};
+ghost use mathlib.Core.List.{[], _∷_, _++_};
 ghost use Prim.Native.Nat.{_+_, _≤_, _<_};
 ghost use lib.ListN.{length, take};
 ghost use Rattle.lists.specs.Loop.{for, each};
 ghost use Rattle.lists.specs.Slice.{Wrote};
+ghost use Rattle.answers.specs.Answers.{decide};
 ghost use Rattle.instance.specs.Ready.{Ready};
 ghost use Rattle.formula.specs.Formula.{formula, line};
 ghost use Rattle.formula.specs.Blocks.{heldIn, held, family};
+ghost use Rattle.calls.specs.Questions.{question12};
 ghost use Rattle.calls.specs.Calls.{writeAnswer, writeSlice};
 
 // A family, to the part of the slice from `at` on. The answer is where it ends.
@@ -63,35 +65,38 @@ pub fn write_words(f: &mut [i32], c: Checked) -> usize
     write_families(f, c.sizes, &starts, &goals, &c.near)
 }
 
+// Question 12, of a formula of so many words.
+pub fn ask_room(needed: usize, room: usize) -> Answer
+    ensures { λ r. ⌜ r ≡ decide (question12 needed room ∷ []) 0 ⌝ }
+{
+    if room < needed {
+        return Answer {
+            number: 12,
+            second: needed,
+        };
+    }
+    Answer {
+        number: 0,
+        second: 0,
+    }
+}
+
 // Questions 1 to 10 and 12. A refusal changes no word of the slice.
-pub fn write_formula(b: &[u8], m: usize, f: &mut [i32]) -> Written
+pub fn write_formula(b: &[u8], m: usize, f: &mut [i32]) -> Answer
     ensures { λ r. ⌜ r ≡ writeAnswer formula (now (b .entry)) m (length (now (f .entry))) ⌝ }
     ensures { λ _. ⌜ now (f .exit) ≡ writeSlice formula (now (b .entry)) m (now (f .entry)) ⌝ }
 {
     let i = instance_check::check_instance(b, m);
-    let answer = i.answer;
+    let first = i.answer;
     let c = i.checked;
-    if answer.number != 0 {
-        return Written {
-            number: answer.number,
-            second: answer.second,
-            clauses: 0,
-        };
+    if first.number != 0 {
+        return first;
     }
-    let s = c.sizes;
-    let needed = counts::word_count(s);
-    let clauses = counts::clause_count(s);
-    if f.len() < needed {
-        return Written {
-            number: 12,
-            second: needed,
-            clauses: 0,
-        };
+    let needed = counts::word_count(c.sizes);
+    let answer = ask_room(needed, f.len());
+    if answer.number != 0 {
+        return answer;
     }
     write_words(f, c);
-    Written {
-        number: 0,
-        second: needed,
-        clauses,
-    }
+    answer
 }

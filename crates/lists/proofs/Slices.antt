@@ -8,7 +8,7 @@ use native.Mathlib.Numerals.{add-one}
 use native.Mathlib.Omega.{arith}
 use borrow.Rule.Slice.PartMut.{putMid}
 use lib.ListN.{length, take, drop, set, length-set, length-append, length-take, length-drop, drop-of-length-le, take-append-drop}
-use lib.Seq.{drop-cons, set-at, take-at, drop-at, drop-drop, take-all, sets, sets-eq, take-append-seam}
+use lib.Seq.{drop-cons, set-at, take-at, drop-at, drop-drop, take-all, sets, sets-eq, take-append-seam, drop-append-seam}
 use lib.Arith.{le-zero}
 use Rattle.lists.specs.Loop.{for, each}
 use Rattle.lists.specs.Slice.{filled, Wrote}
@@ -32,6 +32,10 @@ module _ {A : Type 0} where
   pub take-filled : (out s : List A) → take (length out) (filled out s) ≡ out
   unfolding filled
   take-filled out s = take-append-seam out (drop (length out) s)
+
+  pub drop-filled : (out s : List A) → drop (length out) (filled out s) ≡ drop (length out) s
+  unfolding filled
+  drop-filled out s = drop-append-seam out (drop (length out) s)
 
   -- stores at 0, 1, 2, ..
   pub sets-filled : (out s : List A) → length out ≤ length s → sets s 0 out ≡ filled out s

@@ -1,11 +1,10 @@
 -- Family H as the code has it: the distances are the table's.
 use mathlib.Core.List.{List}
-use Prim.Native.Nat.{ℕ, _<_}
-use lib.ListN.{getD}
+use Prim.Native.Nat.{ℕ}
 use Rattle.lists.specs.Loop.{for}
 use Rattle.instance.specs.declared.Sizes.{Sizes}
 use Rattle.formula.specs.Formula.{Clause}
-use Rattle.formula.specs.Pruned.{blockH, H, countH}
+use Rattle.formula.specs.Pruned.{blockH, H}
 use Rattle.distances.specs.Table.{byTable}
 
 module _ (s : Sizes) (table : List (List ℕ)) (starts goals : List ℕ) where
@@ -13,13 +12,6 @@ module _ (s : Sizes) (table : List (List ℕ)) (starts goals : List ℕ) where
   abbrev pub stepByTable : ℕ → List Clause
   stepByTable t = for (s .k) λ a. blockH s (byTable table starts a) (byTable table goals a) t a
 
-  -- H, and how many clauses it has
+  -- H
   abbrev pub byTableH : List Clause
   byTableH = H s (byTable table starts) (byTable table goals)
-
-  abbrev pub countByTable : ℕ
-  countByTable = countH s (byTable table starts) (byTable table goals)
-
--- each agent has a start and a goal below n
-abbrev pub Inside : Sizes → List ℕ → List ℕ → Type 0
-Inside s starts goals = (a : ℕ) → a < s .k → (getD starts a 0 < s .n) × (getD goals a 0 < s .n)

@@ -1,6 +1,6 @@
 // The writer of the pruned formula: the seven families, then family H. Of an agent, `from` has the distances of the vertices from its
 // start, `to` those from its goal.
-use answers::Written;
+use answers::Answer;
 use instance::Checked;
 use instance::Sizes;
 use variables::Agent;
@@ -8,9 +8,9 @@ use variables::Step;
 use variables::Vertex;
 ghost use mathlib.Core.Path.{_≡_};
 ghost use mathlib.Core.List.{[], _∷_, _++_};
-ghost use Prim.Native.Nat.{suc, _+_, _≤_, _<_, min};
+ghost use Prim.Native.Nat.{_≤_, _<_};
 ghost use lib.ListN.{length, getD};
-ghost use Rattle.lists.specs.Loop.{for, when, each, sum};
+ghost use Rattle.lists.specs.Loop.{for, when, each};
 ghost use Rattle.lists.specs.Slice.{filled, Wrote};
 ghost use Rattle.instance.specs.Limits.{Limits};
 ghost use Rattle.instance.specs.Ready.{Ready};
@@ -19,7 +19,8 @@ ghost use Rattle.formula.specs.Formula.{line};
 ghost use Rattle.formula.specs.Blocks.{held, family};
 ghost use Rattle.formula.specs.Pruned.{tooFar, blockH, pruned};
 ghost use Rattle.calls.specs.Calls.{writeAnswer, writeSlice};
-ghost use Rattle.pruned_writer.specs.ByTable.{stepByTable, byTableH, countByTable, Inside};
+ghost use Rattle.formula_size.specs.ByTable.{Inside};
+ghost use Rattle.pruned_writer.specs.ByTable.{stepByTable, byTableH};
 
 // Is a vertex at distance x from the start and y from the goal too far at time t? The mark is more than any time.
 fn too_far(m: usize, t: usize, x: u8, y: u8) -> bool
@@ -104,49 +105,6 @@ fn write_h(
     at
 }
 
-// How many times from 0 to m are too early or too late for a vertex.
-fn times_far(m: usize, x: u8, y: u8) -> usize
-    requires { ⌜ m ≤ 32 ⌝ }
-    ensures { λ r. ⌜ (r ≡ min (suc m) (x + y)) × (r ≤ 33) ⌝ }
-{
-    let both = numbers::wide(x) + numbers::wide(y);
-    if both < m + 1 {
-        return both;
-    }
-    m + 1
-}
-
-// The clauses of H, of one agent.
-fn count_for(s: Sizes, from: &[u8; 64], to: &[u8; 64]) -> usize
-    requires { ⌜ Limits s ⌝ }
-    ensures { λ r. ⌜ (r ≡ sum (s .n) (λ v. min (suc (s .m)) (getD (now (from .entry)) v 0 + getD (now (to .entry)) v 0))) × (r ≤ 2112) ⌝ }
-{
-    let n = s.n;
-    let m = s.m;
-    let mut count: usize = 0;
-    for v in 0..n {
-        count += times_far(m, from[v], to[v]);
-    }
-    count
-}
-
-// The clauses of H.
-fn count_h(s: Sizes, starts: &[u8; 16], goals: &[u8; 16], table: &[[u8; 64]]) -> usize
-    requires { ⌜ Limits s ⌝ }
-    requires { ⌜ Inside s (now starts) (now goals) ⌝ }
-    requires { ⌜ length (now table) ≡ 64 ⌝ }
-    ensures { λ r. ⌜ (r ≡ countByTable s (now (table .entry)) (now (starts .entry)) (now (goals .entry))) × (r ≤ 33792) ⌝ }
-{
-    let k = s.k;
-    let mut count: usize = 0;
-    for a in 0..k {
-        let from = distance_table::row_for(table, starts, a);
-        let to = distance_table::row_for(table, goals, a);
-        count += count_for(s, &from, &to);
-    }
-    count
-}
-
 // The seven families of a checked instance, then H, to a slice with room for all.
 fn write_all(f: &mut [i32], c: Checked, table: &[[u8; 64]])
     requires { ⌜ Ready (c .sizes) (c .starts) (c .goals) (c .near) × (length (now table) ≡ 64) ⌝ }
@@ -160,38 +118,26 @@ fn write_all(f: &mut [i32], c: Checked, table: &[[u8; 64]])
 }
 
 // Questions 1 to 10 and 12. A refusal changes no word of the slice.
-pub fn write_pruned(b: &[u8], m: usize, f: &mut [i32]) -> Written
+pub fn write_pruned(b: &[u8], m: usize, f: &mut [i32]) -> Answer
     ensures { λ r. ⌜ r ≡ writeAnswer pruned (now (b .entry)) m (length (now (f .entry))) ⌝ }
     ensures { λ _. ⌜ now (f .exit) ≡ writeSlice pruned (now (b .entry)) m (now (f .entry)) ⌝ }
 {
     let i = instance_check::check_instance(b, m);
-    let answer = i.answer;
+    let first = i.answer;
     let c = i.checked;
-    if answer.number != 0 {
-        return Written {
-            number: answer.number,
-            second: answer.second,
-            clauses: 0,
-        };
+    if first.number != 0 {
+        return first;
     }
     let s = c.sizes;
     let starts = c.starts;
     let goals = c.goals;
     let table = distance_table::table_of(&c.near, s.n);
-    let more = count_h(s, &starts, &goals, &table);
-    let needed = counts::word_count(s) + 2 * more;
-    let clauses = counts::clause_count(s) + more;
-    if f.len() < needed {
-        return Written {
-            number: 12,
-            second: needed,
-            clauses: 0,
-        };
+    let more = formula_size::count_h(s, &starts, &goals, &table);
+    let needed = formula_size::pruned_words(s, more);
+    let answer = formula_writer::ask_room(needed, f.len());
+    if answer.number != 0 {
+        return answer;
     }
     write_all(f, c, &table);
-    Written {
-        number: 0,
-        second: needed,
-        clauses,
-    }
+    answer
 }

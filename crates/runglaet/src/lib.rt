@@ -1,18 +1,21 @@
-// The eight calls for programs in other languages; include/runglaet.h declares them for C.
+// The ten calls for programs in other languages; include/runglaet.h declares them for C.
 use answers::Answer;
-use answers::Written;
+use answers::Size;
 ghost use mathlib.Core.Path.{_≡_};
 ghost use lib.ListN.{length};
 ghost use Rattle.formula.specs.Formula.{formula};
 ghost use Rattle.formula.specs.Pruned.{pruned};
-ghost use Rattle.calls.specs.Calls.{writeAnswer, writeSlice, clauseAnswer, clauseSlice, checkAnswer, decodeAnswer, decodeSlice, encodeAnswer, encodeSlice, readAnswer, readSlice, floorAnswer};
+ghost use Rattle.calls.specs.Calls.{sizeAnswer, writeAnswer, writeSlice, clauseAnswer, clauseSlice, checkAnswer, decodeAnswer, decodeSlice, encodeAnswer, encodeSlice, readAnswer, readSlice, floorAnswer};
 
 #[no_mangle]
-pub extern "C" fn runglaet_write_formula(
-    instance: &[u8],
-    horizon: u64,
-    words: &mut [i32],
-) -> Written
+pub extern "C" fn runglaet_formula_size(instance: &[u8], horizon: u64) -> Size
+    ensures { λ r. ⌜ r ≡ sizeAnswer formula (now (instance .entry)) horizon ⌝ }
+{
+    formula_size::formula_size(instance, horizon as usize)
+}
+
+#[no_mangle]
+pub extern "C" fn runglaet_write_formula(instance: &[u8], horizon: u64, words: &mut [i32]) -> Answer
     ensures { λ r. ⌜ r ≡ writeAnswer formula (now (instance .entry)) horizon (length (now (words .entry))) ⌝ }
     ensures { λ _. ⌜ now (words .exit) ≡ writeSlice formula (now (instance .entry)) horizon (now (words .entry)) ⌝ }
 {
@@ -86,7 +89,14 @@ pub extern "C" fn runglaet_floor(instance: &[u8]) -> Answer
 }
 
 #[no_mangle]
-pub extern "C" fn runglaet_write_pruned(instance: &[u8], horizon: u64, words: &mut [i32]) -> Written
+pub extern "C" fn runglaet_pruned_size(instance: &[u8], horizon: u64) -> Size
+    ensures { λ r. ⌜ r ≡ sizeAnswer pruned (now (instance .entry)) horizon ⌝ }
+{
+    formula_size::pruned_size(instance, horizon as usize)
+}
+
+#[no_mangle]
+pub extern "C" fn runglaet_write_pruned(instance: &[u8], horizon: u64, words: &mut [i32]) -> Answer
     ensures { λ r. ⌜ r ≡ writeAnswer pruned (now (instance .entry)) horizon (length (now (words .entry))) ⌝ }
     ensures { λ _. ⌜ now (words .exit) ≡ writeSlice pruned (now (instance .entry)) horizon (now (words .entry)) ⌝ }
 {

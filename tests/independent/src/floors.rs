@@ -1,11 +1,11 @@
 //! Maps whose floors and families H are known beforehand, and what wrong
 //! programs might answer in their place.
 
+use crate::formula_size;
 use crate::parts::Parts;
 use crate::plain::{self, Distances};
 use crate::questions::Item;
 use crate::sample::{all_edges, grid_edges, instance_bytes, largest_instance, path_edges};
-use crate::write_formula;
 
 /// Instances, and what the floor call answers: worked out by hand.
 pub fn worked() -> Vec<(Vec<u8>, Item)> {
@@ -419,7 +419,7 @@ impl Told {
 
     /// Adds a formula that the pruned writer wrote.
     pub fn pruned(&mut self, instance: &[u8], m: u64, words: &[i32]) {
-        let first = write_formula(instance, m, &mut []).second as usize;
+        let first = formula_size(instance, m).second as usize;
         let map = Map::new(instance);
         for (times, (_, wrong)) in self.families_h.iter_mut().zip(FAMILIES_H) {
             let clauses = wrong(&map, m as usize).into_iter();

@@ -1,36 +1,63 @@
-//! The formula writers and one clause by number.
+//! The formulas' sizes, their writers, and one clause by number.
 
 use crate::distances::family_h;
 use crate::instance::Instance;
-use crate::{answer, refuse, Answer, Written};
+use crate::{answer, refuse, Answer, Size};
+
+/// The size of the formula.
+pub fn formula_size(instance: &[u8], horizon: u64) -> Size {
+    size(instance, horizon, without_h)
+}
+
+/// The size of the formula with family H.
+pub fn pruned_size(instance: &[u8], horizon: u64) -> Size {
+    size(instance, horizon, family_h)
+}
 
 /// Writes the whole formula. Family F looks the neighbours of each vertex up
 /// once in the edge arrays.
-pub fn write_formula(instance: &[u8], horizon: u64, words: &mut [i32]) -> Written {
-    written(write(instance, horizon, words, write_f))
+pub fn write_formula(instance: &[u8], horizon: u64, words: &mut [i32]) -> Answer {
+    answer(write(instance, horizon, words, write_f, without_h))
 }
 
 /// The same formula, but family F searches the edge arrays anew for each clause.
-pub fn write_formula_searching(instance: &[u8], horizon: u64, words: &mut [i32]) -> Written {
-    written(write(instance, horizon, words, write_f_searching))
+pub fn write_formula_searching(instance: &[u8], horizon: u64, words: &mut [i32]) -> Answer {
+    answer(write(
+        instance,
+        horizon,
+        words,
+        write_f_searching,
+        without_h,
+    ))
 }
 
 /// Writes the whole formula and family H after it.
-pub fn write_pruned(instance: &[u8], horizon: u64, words: &mut [i32]) -> Written {
-    written(write_with_h(instance, horizon, words))
+pub fn write_pruned(instance: &[u8], horizon: u64, words: &mut [i32]) -> Answer {
+    answer(write(instance, horizon, words, write_f, family_h))
 }
 
 type WriteF = fn(&Instance, &mut [i32]);
 
-/// Turns the word count and the clause count, or a refusal, into the answer.
-fn written(result: Result<(usize, usize), Answer>) -> Written {
-    match result {
-        Ok((count, clauses)) => Written {
-            number: 0,
-            second: count as u64,
-            clauses: clauses as u64,
-        },
-        Err(Answer { number, second }) => Written {
+/// The literals of the clauses after G, one a clause.
+type AfterG = fn(&Instance) -> Vec<i32>;
+
+fn without_h(_: &Instance) -> Vec<i32> {
+    Vec::new()
+}
+
+fn size(bytes: &[u8], horizon: u64, after_g: AfterG) -> Size {
+    match Instance::read(bytes, horizon) {
+        Ok(instance) => {
+            let added = after_g(&instance).len();
+            let words: usize = instance.word_counts().iter().sum();
+            let clauses: usize = instance.clause_counts().iter().sum();
+            Size {
+                number: 0,
+                second: (words + 2 * added) as u64,
+                clauses: (clauses + added) as u64,
+            }
+        }
+        Err(Answer { number, second }) => Size {
             number,
             second,
             clauses: 0,
@@ -38,24 +65,16 @@ fn written(result: Result<(usize, usize), Answer>) -> Written {
     }
 }
 
+/// Nothing is counted: an acceptance gives 0.
 fn write(
     bytes: &[u8],
     horizon: u64,
     words: &mut [i32],
     write_f: WriteF,
-) -> Result<(usize, usize), Answer> {
+    after_g: AfterG,
+) -> Result<usize, Answer> {
     let instance = Instance::read(bytes, horizon)?;
-    let needed = instance.word_counts().iter().sum();
-    if words.len() < needed {
-        return refuse(12, needed);
-    }
-    fill(&instance, words, write_f);
-    Ok((needed, instance.clause_counts().iter().sum()))
-}
-
-fn write_with_h(bytes: &[u8], horizon: u64, words: &mut [i32]) -> Result<(usize, usize), Answer> {
-    let instance = Instance::read(bytes, horizon)?;
-    let literals = family_h(&instance);
+    let literals = after_g(&instance);
     let first: usize = instance.word_counts().iter().sum();
     let needed = first + 2 * literals.len();
     if words.len() < needed {
@@ -66,8 +85,7 @@ fn write_with_h(bytes: &[u8], horizon: u64, words: &mut [i32]) -> Result<(usize,
         clause[0] = literal;
         clause[1] = 0;
     }
-    let clauses: usize = instance.clause_counts().iter().sum();
-    Ok((needed, clauses + literals.len()))
+    Ok(0)
 }
 
 /// Fills families A to G, for which there are words enough.

@@ -1,10 +1,10 @@
 //! A second, independent program for shuttle formulas, valuations and plans.
 //!
-//! The eight calls and `check_instance` work on raw bytes and never panic.
+//! The ten calls and `check_instance` work on raw bytes and never panic.
 //! `plain` generates the clauses slowly, `questions` asks one question at a
 //! time, `sample`, `parts` and `output` make test inputs, `costs` has plans with
-//! known costs, `floors` maps with known floors and families H, and `text`
-//! prints a formula as DIMACS CNF.
+//! known costs, `floors` maps with known floors and families H, `sizes` formulas
+//! with known sizes, and `text` prints a formula as DIMACS CNF.
 
 #![forbid(unsafe_code)]
 
@@ -20,6 +20,7 @@ mod plan;
 pub mod questions;
 mod reader;
 pub mod sample;
+pub mod sizes;
 pub mod text;
 mod valuation;
 
@@ -27,23 +28,26 @@ mod valuation;
 mod tests;
 
 pub use distances::floor;
-pub use formula::{clause, write_formula, write_formula_searching, write_pruned};
+pub use formula::{clause, formula_size, pruned_size};
+pub use formula::{write_formula, write_formula_searching, write_pruned};
 pub use instance::check_instance;
 pub use plan::check_plan;
 pub use reader::{read_valuation, LONGEST_TEXT};
 pub use valuation::{decode, encode};
 
-/// `number` 0: accepted, `second` is the count. Otherwise `number` tells which
-/// question was answered no, and `second` is its place.
+/// `number` 0: accepted, `second` is the count, 0 where a formula was written.
+/// Otherwise `number` tells which question was answered no, and `second` is its
+/// place.
 #[derive(Debug, Clone, Copy, PartialEq, Eq)]
 pub struct Answer {
     pub number: u32,
     pub second: u64,
 }
 
-/// The writers' answer; `clauses` is 0 at a refusal.
+/// The size calls' answer: `second` is the word count. At a refusal it is the
+/// place, and `clauses` is 0.
 #[derive(Debug, Clone, Copy, PartialEq, Eq)]
-pub struct Written {
+pub struct Size {
     pub number: u32,
     pub second: u64,
     pub clauses: u64,

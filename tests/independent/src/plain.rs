@@ -1,6 +1,6 @@
 //! The clause table as nested loops, slow on purpose, and the literal meaning
 //! of satisfaction, of passing, of the cost and of distances. Shares no code
-//! with the eight calls.
+//! with the ten calls.
 //! Instances and plans given here must be of the right form.
 
 #![allow(clippy::needless_range_loop)]

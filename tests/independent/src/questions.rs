@@ -1,10 +1,11 @@
 //! Each question by itself, whatever the others answer. Shares no code with
-//! the eight calls.
+//! the ten calls.
 
 use crate::plain;
 use std::collections::BTreeMap;
 
 /// What a call is handed; what it has none of is empty, 0 or none.
+#[derive(Default)]
 pub struct Handed<'a> {
     pub instance: &'a [u8],
     pub horizon: u64,
@@ -16,7 +17,7 @@ pub struct Handed<'a> {
     pub text: &'a [u8],
     /// Elements of the lent slice.
     pub lent: usize,
-    /// Is family H written too?
+    /// Does the formula have family H?
     pub pruned: bool,
 }
 
@@ -27,9 +28,9 @@ pub type Item = (u32, u64);
 pub const NUMBERS: usize = 31;
 
 /// The numbers that each call can give beside 0, in the order asked: the writer,
-/// one clause, the plan check, the decoder, the encoder, the reader, the floor
-/// and the pruned writer.
-pub const ASKED: [&[u32]; 8] = [
+/// one clause, the plan check, the decoder, the encoder, the reader, the floor,
+/// the pruned writer, and the sizes of the formula and of the pruned one.
+pub const ASKED: [&[u32]; 10] = [
     &[1, 2, 3, 4, 5, 6, 7, 8, 9, 10, 12],
     &[1, 2, 3, 4, 5, 6, 7, 8, 9, 10, 11, 12],
     &[
@@ -42,6 +43,8 @@ pub const ASKED: [&[u32]; 8] = [
     &[1, 2, 3, 4, 5, 6, 7, 8, 9, 10, 16, 27, 28, 29],
     &[1, 2, 3, 4, 5, 6, 7, 8, 9, 30],
     &[1, 2, 3, 4, 5, 6, 7, 8, 9, 10, 12],
+    &[1, 2, 3, 4, 5, 6, 7, 8, 9, 10],
+    &[1, 2, 3, 4, 5, 6, 7, 8, 9, 10],
 ];
 
 /// The question whose no gives this number: 20, 25 and 26 are of one.
@@ -348,7 +351,7 @@ fn printed_numbers(line: &[u8]) -> Option<Vec<i128>> {
     (format!("v{printed}").as_bytes() == line).then_some(numbers)
 }
 
-fn clause_counts(n: u128, k: u128, m: u128) -> [u128; 7] {
+pub(crate) fn clause_counts(n: u128, k: u128, m: u128) -> [u128; 7] {
     [
         k,
         k,

@@ -1,7 +1,7 @@
 //! The text of a formula, DIMACS CNF.
 
 use crate::instance::Instance;
-use crate::write_formula;
+use crate::{formula_size, write_formula};
 use std::io::{self, Write};
 
 /// Bytes of input the program reads at most.
@@ -19,14 +19,10 @@ pub fn print_formula(input: &[u8], out: &mut impl Write) -> io::Result<()> {
             return writeln!(out, "c refused {} {}", refusal.number, refusal.second);
         }
     };
-    let mut words = vec![0; instance.word_counts().iter().sum()];
-    let written = write_formula(bytes, horizon, &mut words);
-    writeln!(
-        out,
-        "p cnf {} {}",
-        instance.variable_count(),
-        written.clauses
-    )?;
+    let size = formula_size(bytes, horizon);
+    let mut words = vec![0; size.second as usize];
+    write_formula(bytes, horizon, &mut words);
+    writeln!(out, "p cnf {} {}", instance.variable_count(), size.clauses)?;
     for &word in &words {
         if word == 0 {
             out.write_all(b"0\n")?;

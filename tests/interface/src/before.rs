@@ -1,5 +1,6 @@
 //! The library beside an earlier one. Both export the same names, so this program is linked with each of them, and the
-//! two run in turn. For a call that the earlier one has not, absent.c stands in, and its rows are left out.
+//! two run in turn. For a call that the earlier one has not, absent.c stands in, and its rows are left out; a writer that
+//! answers its counts too is called by way of absent.c, which gives the rest of its answer.
 
 use crate::{inputs, time, times_within, Input, Table};
 use independent::output::output;
@@ -13,7 +14,7 @@ use std::process::{exit, Command, Stdio};
 use std::time::Duration;
 
 /// The most that a call may take of its time with the earlier library. A call that is not here has no target; each
-/// landing sets its own, and S-4 has none.
+/// landing sets its own, and S-5 has none.
 const TARGETS: [(&str, &str, f64); 0] = [];
 
 /// Each program runs so often for a call, and samples it for so long at least.
@@ -32,7 +33,7 @@ const NO_CALL: &str = "no such call";
 type Print = fn(&Row);
 
 /// The calls, in the order of the table.
-const CALLS: [(&str, Print); 9] = [
+const CALLS: [(&str, Print); 11] = [
     ("writer", writer),
     ("instance check", instance_check),
     ("plan check", plan_check),
@@ -42,6 +43,8 @@ const CALLS: [(&str, Print); 9] = [
     ("one clause F", clause),
     ("floor", floor),
     ("pruned writer", pruned_writer),
+    ("formula size", formula_size),
+    ("pruned size", pruned_size),
 ];
 
 /// The input that a call gets, and whether it is timed.
@@ -80,7 +83,7 @@ pub fn print_call(timed: bool, call: &str, instance: &str) {
 
 fn writer(row: &Row) {
     let (instance, m) = (&row.input.instance[..], row.input.m);
-    let needed = library::write_formula(instance, m, &mut []).second;
+    let needed = independent::formula_size(instance, m).second;
     row.print(vec![1; needed as usize], |words| {
         library::write_formula(black_box(instance), m, words)
     });
@@ -150,13 +153,29 @@ fn floor(row: &Row) {
 
 fn pruned_writer(row: &Row) {
     let (instance, m) = (&row.input.instance[..], row.input.m);
-    let needed = library::write_pruned(instance, m, &mut []);
-    if needed.number == ABSENT {
+    if library::write_pruned(instance, m, &mut []).number == ABSENT {
         return println!("{NO_CALL}");
     }
-    row.print(vec![1; needed.second as usize], |words| {
+    let needed = independent::pruned_size(instance, m).second;
+    row.print(vec![1; needed as usize], |words| {
         library::write_pruned(black_box(instance), m, words)
     });
+}
+
+fn formula_size(row: &Row) {
+    print_size(row, library::formula_size);
+}
+
+fn pruned_size(row: &Row) {
+    print_size(row, library::pruned_size);
+}
+
+fn print_size(row: &Row, call: fn(&[u8], u64) -> library::Size) {
+    let (instance, m) = (&row.input.instance[..], row.input.m);
+    if call(instance, m).number == ABSENT {
+        return println!("{NO_CALL}");
+    }
+    row.print::<u8, _>(Vec::new(), |_| call(black_box(instance), m));
 }
 
 /// The lines that a program prints for a call. It is copied first: where the pages of a file lie in memory may change a

@@ -1,33 +1,36 @@
-//! The eight calls of include/runglaet.h, safe to call from Rust.
+//! The ten calls of include/runglaet.h, safe to call from Rust.
 
-/// The answer of every call but the writers.
+/// The answer of every call but the size calls.
 #[repr(C)]
 #[derive(Debug, Clone, Copy, PartialEq, Eq)]
 pub struct Answer {
     /// 0 for accepted, or the number of the refusal.
     pub number: u32,
-    /// The count of an acceptance, or the place of a refusal.
+    /// The count of an acceptance, 0 where a formula was written, or the place of a refusal.
     pub second: u64,
 }
 
-/// The writers' answer.
+/// The size calls' answer.
 #[repr(C)]
 #[derive(Debug, Clone, Copy, PartialEq, Eq)]
-pub struct Written {
+pub struct Size {
     pub number: u32,
+    /// The words of the formula, or the place of a refusal.
     pub second: u64,
     /// The clause count, 0 at a refusal.
     pub clauses: u64,
 }
 
 extern "C" {
+    fn runglaet_formula_size(instance: *const u8, instance_len: usize, horizon: u64) -> Size;
+
     fn runglaet_write_formula(
         instance: *const u8,
         instance_len: usize,
         horizon: u64,
         words: *mut i32,
         words_len: usize,
-    ) -> Written;
+    ) -> Answer;
 
     fn runglaet_clause(
         instance: *const u8,
@@ -78,13 +81,15 @@ extern "C" {
 
     fn runglaet_floor(instance: *const u8, instance_len: usize) -> Answer;
 
+    fn runglaet_pruned_size(instance: *const u8, instance_len: usize, horizon: u64) -> Size;
+
     fn runglaet_write_pruned(
         instance: *const u8,
         instance_len: usize,
         horizon: u64,
         words: *mut i32,
         words_len: usize,
-    ) -> Written;
+    ) -> Answer;
 }
 
 /// The bytes of a solver's text that are read; a longer one is refused.
@@ -93,8 +98,13 @@ pub const TEXT_MAX: usize = 524_288;
 // Each pointer and length below come from one slice, which stays borrowed while the call runs, and the library keeps
 // no pointer.
 
-/// Writes the formula; the count is its words.
-pub fn write_formula(instance: &[u8], horizon: u64, words: &mut [i32]) -> Written {
+/// The size of the formula: its words and its clause count.
+pub fn formula_size(instance: &[u8], horizon: u64) -> Size {
+    unsafe { runglaet_formula_size(instance.as_ptr(), instance.len(), horizon) }
+}
+
+/// Writes the formula, as many words as [`formula_size`] says.
+pub fn write_formula(instance: &[u8], horizon: u64, words: &mut [i32]) -> Answer {
     unsafe {
         runglaet_write_formula(
             instance.as_ptr(),
@@ -183,8 +193,13 @@ pub fn floor(instance: &[u8]) -> Answer {
     unsafe { runglaet_floor(instance.as_ptr(), instance.len()) }
 }
 
-/// Writes the formula and after it family H, what the distances rule out; the count is all their words.
-pub fn write_pruned(instance: &[u8], horizon: u64, words: &mut [i32]) -> Written {
+/// The size of the pruned formula: the formula and after it family H, what the distances rule out.
+pub fn pruned_size(instance: &[u8], horizon: u64) -> Size {
+    unsafe { runglaet_pruned_size(instance.as_ptr(), instance.len(), horizon) }
+}
+
+/// Writes the pruned formula, as many words as [`pruned_size`] says.
+pub fn write_pruned(instance: &[u8], horizon: u64, words: &mut [i32]) -> Answer {
     unsafe {
         runglaet_write_pruned(
             instance.as_ptr(),

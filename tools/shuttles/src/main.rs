@@ -8,6 +8,7 @@ mod horizon;
 mod map;
 mod places;
 mod refusals;
+mod size;
 mod solver_form;
 mod solver_lines;
 mod streams;
@@ -25,6 +26,7 @@ use std::process::ExitCode;
 const USAGE: &str = "\
 shuttles instance DESCRIPTION                  instance bytes of a description, to standard output
 shuttles floor INSTANCE                        how short a plan could be: no plan of a smaller makespan passes
+shuttles size INSTANCE M                       how large the formula is, alone and with family H
 shuttles input INSTANCE M                      what the formula program reads: the byte M, then the instance bytes
 shuttles pruned INSTANCE M                     the formula with family H as DIMACS text, to standard output
 shuttles decode INSTANCE M < OUTPUT            the plan that a solver's output names, checked and shown
@@ -40,6 +42,7 @@ The cost of a plan is the sum of its agents' times until rest: from then on the 
 way counts.
 Family H forbids each agent, at each time, the vertices further from its start than the steps so far and those further
 from its goal than the steps left. The formula with it has the same satisfying valuations, so the same plans.
+The words of a formula are signed 32-bit numbers: the literals of its clauses, and a 0 behind each clause.
 OUTPUT is the text of the SAT competitions, as cadical and picosat print it. Minisat's result file is brought into that
 form first, and so is what cryptominisat prints where a v line ends with a space or it gave up; a note on standard error
 says so.
@@ -78,6 +81,7 @@ fn run(words: &[&str]) -> Outcome {
     match *words {
         ["instance", description] => make_instance(description),
         ["floor", instance] => floor(instance),
+        ["size", instance, horizon] => size(instance, horizon),
         ["input", instance, horizon] => input(instance, horizon),
         ["pruned", instance, horizon] => pruned(instance, horizon),
         ["decode", "--numbers", instance, horizon] => decode(instance, horizon, true),
@@ -129,10 +133,18 @@ fn floor(instance: &str) -> Outcome {
     said(format!("makespan at least {}\n", answer.second), DONE)
 }
 
+fn size(instance: &str, horizon: &str) -> Outcome {
+    let (map, horizon) = (map::read(instance)?, Horizon::read(horizon));
+    match size::told(&map, &horizon) {
+        Ok(text) => said(text, DONE),
+        Err(answer) => refused(answer, about(&map, &horizon)),
+    }
+}
+
 fn input(instance: &str, horizon: &str) -> Outcome {
     let (map, horizon) = (map::read(instance)?, Horizon::read(horizon));
-    let answer = instance_answer(&map, &horizon);
-    if answer.number != 0 {
+    // The size call asks just what the formula program will ask.
+    if let Err(answer) = size::formula(&map, &horizon) {
         return refused_aside(answer, about(&map, &horizon));
     }
     let mut bytes = vec![horizon.value as u8];
@@ -142,18 +154,16 @@ fn input(instance: &str, horizon: &str) -> Outcome {
 
 fn pruned(instance: &str, horizon: &str) -> Outcome {
     let (map, horizon) = (map::read(instance)?, Horizon::read(horizon));
-    // An empty slice is too small for every formula, so a 12 tells the words needed.
-    let mut words = Vec::new();
-    let mut answer = runglaet::write_pruned(&map.bytes, horizon.value, &mut words);
-    if answer.number == refusals::TOO_SMALL {
-        words = vec![0; answer.second as usize];
-        answer = runglaet::write_pruned(&map.bytes, horizon.value, &mut words);
+    let size = match size::pruned(&map, &horizon) {
+        Ok(size) => size,
+        Err(answer) => return refused_aside(answer, about(&map, &horizon)),
+    };
+    let mut words = vec![0; size.second as usize];
+    let answer = runglaet::write_pruned(&map.bytes, horizon.value, &mut words);
+    if answer.number != 0 {
+        return refused_aside(answer, about(&map, &horizon));
     }
-    let (number, second) = (answer.number, answer.second);
-    if number != 0 {
-        return refused_aside(Answer { number, second }, about(&map, &horizon));
-    }
-    let text = dimacs::text(map.variables(&horizon), answer.clauses, &words);
+    let text = dimacs::text(map.variables(&horizon), size.clauses, &words);
     Ok((text, DONE))
 }
 
@@ -242,11 +252,6 @@ fn refusal(number: &str, place: &str, subject: &[&str]) -> Outcome {
         ..Subject::default()
     };
     said(format!("{}\n", refusals::describe(answer, subject)), DONE)
-}
-
-/// The answer to questions 1 to 10: where all are answered yes, the formula has a clause 0.
-fn instance_answer(map: &Map, horizon: &Horizon) -> Answer {
-    runglaet::clause(&map.bytes, horizon.value, 0, &mut [0; 66])
 }
 
 fn about<'a>(map: &'a Map, horizon: &'a Horizon) -> Subject<'a> {

@@ -60,7 +60,8 @@ fn in_line(line: Option<&usize>) -> String {
     line.map_or(String::new(), |line| format!(" (line {line})"))
 }
 
-fn count(number: usize, one: &str, more: &str) -> String {
+/// `1 byte`, `2 bytes`.
+pub fn count(number: usize, one: &str, more: &str) -> String {
     format!("{number} {}", if number == 1 { one } else { more })
 }
 

@@ -41,9 +41,6 @@ pub const REFUSALS: &[(u32, &str, &str, Terms)] = &[
     (30, "an agent's goal cannot be reached from its start by any path", "a byte of the instance", places::unreachable),
 ];
 
-/// The refusal of a slice for words that is too small, which tells how many are needed.
-pub const TOO_SMALL: u32 = 12;
-
 /// The refusal of a verdict, which may say that there is no plan.
 pub const VERDICT: u32 = 28;
 

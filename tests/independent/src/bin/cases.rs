@@ -2,9 +2,9 @@
 //!
 //! `cases gate DIR` writes DIR/stdin and DIR/stdout, the stored set.
 //! `cases random SEED COUNT DIR` does the same for longer runs, and so do
-//! `small`, `clauses`, `plans`, `valuations`, `texts` and `floors`, which take all
-//! of some small set. Each prints a line "kind number times" for each answer that
-//! occurs.
+//! `small`, `clauses`, `plans`, `valuations`, `texts`, `floors` and `sizes`, which
+//! take all of some small set. Each prints a line "kind number times" for each
+//! answer that occurs.
 
 #![forbid(unsafe_code)]
 
@@ -16,9 +16,10 @@ use independent::parts::{enter_occupied, Parts};
 use independent::questions::{failing, question, Handed, Item, ASKED, NUMBERS};
 use independent::sample::{all_edges, instance_bytes, largest_instance, path_edges, refused_twice};
 use independent::sample::{grid_edges, Generator};
-use independent::LONGEST_TEXT;
+use independent::sizes;
 use independent::{check_plan, clause, decode, encode, floor, plain, read_valuation};
-use independent::{write_formula, write_pruned};
+use independent::{formula_size, pruned_size, write_formula, write_pruned};
+use independent::{Answer, Size, LONGEST_TEXT};
 use std::collections::BTreeSet;
 use std::fmt::Write;
 use std::{env, fs, process, slice};
@@ -31,6 +32,8 @@ const ENCODER: u8 = 5;
 const READER: u8 = 6;
 const FLOOR: u8 = 7;
 const PRUNED: u8 = 8;
+const SIZE: u8 = 9;
+const PRUNED_SIZE: u8 = 10;
 
 /// What the program's arrays hold.
 const WORDS: usize = 65_536;
@@ -91,13 +94,13 @@ impl Given {
         self.n() * self.plan_length()
     }
     fn words(&self) -> usize {
-        write_formula(&self.instance, self.m, &mut []).second as usize
+        formula_size(&self.instance, self.m).second as usize
     }
     fn pruned_words(&self) -> usize {
-        write_pruned(&self.instance, self.m, &mut []).second as usize
+        pruned_size(&self.instance, self.m).second as usize
     }
     fn clauses(&self) -> u64 {
-        clause(&self.instance, self.m, u64::MAX, &mut []).second
+        formula_size(&self.instance, self.m).clauses
     }
     fn starts(&self) -> &[u8] {
         let from = self.instance.len() - 2 * self.k();
@@ -109,7 +112,7 @@ struct Cases {
     random: Generator,
     input: Vec<u8>,
     output: String,
-    times: [[usize; NUMBERS]; 9],
+    times: [[usize; NUMBERS]; 1 + ASKED.len()],
     /// Kinds, with the numbers of two items that failed at once in a case that
     /// says so. Items that go step by step are of one step.
     twice: BTreeSet<(u8, u32, u32)>,
@@ -117,10 +120,25 @@ struct Cases {
     told: Told,
     /// What floors and families H tell from wrong ones.
     told_floors: floors::Told,
+    /// What sizes and writers' answers tell from wrong ones.
+    told_sizes: sizes::Told,
+}
+
+/// An answer with its clause count, 0 but for the size calls.
+fn uncounted(answer: Answer) -> Size {
+    Size {
+        number: answer.number,
+        second: answer.second,
+        clauses: 0,
+    }
+}
+
+fn item(size: Size) -> Item {
+    (size.number, size.second)
 }
 
 impl Cases {
-    /// Adds the case; gives the answer's number and second number, if it is not skipped.
+    /// Adds the case; gives the answer, if it is not skipped.
     fn put(
         &mut self,
         kind: u8,
@@ -128,7 +146,7 @@ impl Cases {
         number: u64,
         payload: &[u8],
         lent: usize,
-    ) -> Option<Item> {
+    ) -> Option<Size> {
         assert!(given.instance.len() + payload.len() <= INPUT);
         // The floor call gets no horizon.
         let m = if kind == FLOOR { 0 } else { given.m };
@@ -143,7 +161,7 @@ impl Cases {
         self.input.extend(payload);
         let room = match kind {
             WRITER | CLAUSE | PRUNED => lent <= WORDS,
-            PLAN | FLOOR => true,
+            PLAN | FLOOR | SIZE | PRUNED_SIZE => true,
             DECODER => lent <= PLAN_BYTES && payload.len() / 4 <= ENTRIES,
             _ => lent <= ENTRIES,
         };
@@ -153,63 +171,70 @@ impl Cases {
         }
         let b = &given.instance[..];
         let mut words = lent_words(if kind == DECODER { 0 } else { lent });
-        let mut clauses = 0;
         let mut hashed = None;
-        let (no, second) = match kind {
+        let said = match kind {
             WRITER => {
                 let r = write_formula(b, m, &mut words);
-                clauses = r.clauses;
-                (r.number, r.second)
+                self.told_sizes.writer(false, r, formula_size(b, m), lent);
+                uncounted(r)
             }
-            CLAUSE => {
-                let r = clause(b, m, number, &mut words);
-                (r.number, r.second)
-            }
+            CLAUSE => uncounted(clause(b, m, number, &mut words)),
             PLAN => {
-                hashed = Some(1);
                 let r = check_plan(b, m, payload);
                 if r.number == 0 {
                     self.told.add(given.k(), payload, r.second);
                 }
-                (r.number, r.second)
+                uncounted(r)
             }
             DECODER => {
                 let entries = entries_of(payload);
                 let mut plan: Vec<u8> = (0..lent).map(before).collect();
                 let r = decode(b, m, &entries, &mut plan);
                 hashed = Some(hash(plan.iter().map(|&x| u64::from(x))));
-                (r.number, r.second)
+                uncounted(r)
             }
-            ENCODER => {
-                let r = encode(b, m, payload, &mut words);
-                (r.number, r.second)
-            }
+            ENCODER => uncounted(encode(b, m, payload, &mut words)),
             FLOOR => {
-                hashed = Some(1);
                 let r = floor(b);
                 if matches!(r.number, 0 | 30) {
                     self.told_floors.floor(b, (r.number, r.second));
                 }
-                (r.number, r.second)
+                uncounted(r)
             }
             PRUNED => {
                 let r = write_pruned(b, m, &mut words);
-                clauses = r.clauses;
+                let size = pruned_size(b, m);
+                self.told_sizes.writer(true, r, size, lent);
                 if r.number == 0 {
-                    let words = &words[..r.second as usize];
+                    let words = &words[..size.second as usize];
                     self.told_floors.pruned(b, m, words);
                 }
-                (r.number, r.second)
+                uncounted(r)
             }
-            _ => {
-                let r = read_valuation(b, m, payload, &mut words);
-                (r.number, r.second)
+            SIZE | PRUNED_SIZE => {
+                let pruned = kind == PRUNED_SIZE;
+                let sizes = [formula_size(b, m), pruned_size(b, m)];
+                self.told_sizes.size(pruned, b, m, sizes);
+                sizes[usize::from(pruned)]
             }
+            _ => uncounted(read_valuation(b, m, payload, &mut words)),
         };
+        // An empty slice has 1.
         let hashed = hashed.unwrap_or_else(|| hash_words(&words));
+        let (no, second, clauses) = (said.number, said.second, said.clauses);
         writeln!(self.output, "{no} {second} {clauses} {hashed}").expect("a string takes all");
         self.times[usize::from(kind)][no as usize] += 1;
-        Some((no, second))
+        Some(said)
+    }
+
+    fn size(&mut self, kind: u8, given: &Given) -> Size {
+        let size = self.put(kind, given, 0, &[], 0);
+        size.expect("no size is skipped")
+    }
+
+    /// The sizes of the formula and of the pruned one.
+    fn sizes(&mut self, given: &Given) -> [Size; 2] {
+        [SIZE, PRUNED_SIZE].map(|kind| self.size(kind, given))
     }
 
     fn writer(&mut self, given: &Given, lent: usize) {
@@ -221,7 +246,7 @@ impl Cases {
     }
 
     fn plan(&mut self, given: &Given, plan: &[u8]) -> Option<Item> {
-        self.put(PLAN, given, 0, plan, 0)
+        self.put(PLAN, given, 0, plan, 0).map(item)
     }
 
     fn decoder(&mut self, given: &Given, entries: &[i32], lent: usize) {
@@ -233,15 +258,15 @@ impl Cases {
     }
 
     fn reader(&mut self, given: &Given, text: &[u8], lent: usize) -> Option<Item> {
-        self.put(READER, given, 0, text, lent)
+        self.put(READER, given, 0, text, lent).map(item)
     }
 
     fn floor(&mut self, given: &Given) -> Option<Item> {
-        self.put(FLOOR, given, 0, &[], 0)
+        self.put(FLOOR, given, 0, &[], 0).map(item)
     }
 
     fn pruned(&mut self, given: &Given, lent: usize) -> Option<Item> {
-        self.put(PRUNED, given, 0, &[], lent)
+        self.put(PRUNED, given, 0, &[], lent).map(item)
     }
 
     /// A plan for the plan check and, with a slice that turns, for the encoder.
@@ -287,8 +312,10 @@ impl Cases {
         self.clause(given, number, lent.min(200));
     }
 
-    /// The pruned writer, with a slice that fits, is short or is longer.
+    /// The pruned formula's size, and its writer, with a slice that fits, is short
+    /// or is longer.
     fn pruning(&mut self, given: &Given) {
+        self.size(PRUNED_SIZE, given);
         let words = given.pruned_words();
         let lent = match self.random.below(8) {
             0 => words - 1,
@@ -413,6 +440,7 @@ impl Cases {
         self.reader(&given, b"s SATISFIABLE\nv 1 -2 0\n", 4);
         self.floor(&given);
         self.pruned(&given, 5);
+        self.sizes(&given);
     }
 
     /// A case on which two items fail, each asked by itself; the first is the answer.
@@ -439,7 +467,7 @@ impl Cases {
             entries: &entries,
             text,
             lent,
-            pruned: kind == PRUNED,
+            pruned: matches!(kind, PRUNED | PRUNED_SIZE),
         };
         for (no, place) in items {
             let places = failing(no, &handed);
@@ -448,7 +476,7 @@ impl Cases {
                 "kind {kind}, {items:?}: {no} fails at {places:?}, not at {place}"
             );
         }
-        let answer = self.put(kind, given, number, payload, lent);
+        let answer = self.put(kind, given, number, payload, lent).map(item);
         assert_eq!(answer, Some(items[0]), "kind {kind}, {items:?}");
         let [(first, place), (second, other)] = items;
         let by_step = |no: u32| matches!(question(no), 19..=21);
@@ -473,6 +501,8 @@ impl Cases {
                 self.two(FLOOR, &given, 0, &[], 0, items);
             }
             self.two(PRUNED, &given, 0, &[], 5, items);
+            self.two(SIZE, &given, 0, &[], 0, items);
+            self.two(PRUNED_SIZE, &given, 0, &[], 0, items);
         }
         let given = |n: usize, edges: &[(u8, u8)], starts: &[u8], goals: &[u8], m: u64| Given {
             instance: instance_bytes(n, edges, starts, goals),
@@ -752,6 +782,7 @@ impl Cases {
             instance,
             m: m as u64,
         };
+        self.size(SIZE, &given);
         self.formula(&given);
         self.floor(&given);
         self.pruning(&given);
@@ -781,10 +812,41 @@ impl Cases {
             let given = Given { instance, m };
             let words = (given.words() + 2 * literals.len()) as u64;
             let accepted = self.pruned(&given, words as usize);
-            assert_eq!(accepted, Some((0, words)), "{:?}", given.instance);
+            assert_eq!(accepted, Some((0, 0)), "{:?}", given.instance);
             let refused = self.pruned(&given, words as usize - 1);
             assert_eq!(refused, Some((12, words)), "{:?}", given.instance);
         }
+    }
+
+    /// Formulas whose sizes are known beforehand, the largest one among them; the
+    /// writers too, as far as there is room.
+    fn worked_sizes(&mut self) {
+        for (instance, m, expected) in sizes::worked() {
+            let given = Given { instance, m };
+            let sizes = self.sizes(&given);
+            for (size, (words, clauses)) in sizes.into_iter().zip(expected) {
+                let counts = (size.number, size.second, size.clauses);
+                assert_eq!(counts, (0, words, clauses), "{:?}", given.instance);
+            }
+            let [words, pruned_words] = sizes.map(|size| size.second as usize);
+            for (kind, words) in [(WRITER, words), (PRUNED, pruned_words)] {
+                for lent in [words - 1, words, words + 1] {
+                    if lent <= WORDS {
+                        self.put(kind, &given, 0, &[], lent);
+                    }
+                }
+            }
+        }
+    }
+
+    /// Some map of any size, at any horizon: the formula may be longer than the
+    /// slices of the writers here.
+    fn any_size(&mut self) {
+        let n = 1 + self.random.below(64);
+        let k = 1 + self.random.below(n.min(16));
+        let instance = self.random.mapped(n, k);
+        let m = self.random.below(33) as u64;
+        self.sizes(&Given { instance, m });
     }
 
     /// Some map of up to `most` vertices; whole, and damaged.
@@ -908,7 +970,8 @@ impl Cases {
         comes.then_some((Given { instance, m }, plan))
     }
 
-    /// One instance of up to 20 vertices, for the writer and the clauses alone.
+    /// One instance of up to 20 vertices, for the size, the writer and the clauses
+    /// alone.
     fn formulas(&mut self) {
         let n = 1 + self.random.below(20);
         let k = 1 + self.random.below(n.min(16));
@@ -916,6 +979,7 @@ impl Cases {
         let percent = self.random.below(101);
         let instance = self.random.instance(n, k, percent);
         let given = Given { instance, m };
+        self.size(SIZE, &given);
         self.formula(&given);
         self.formula(&given);
     }
@@ -968,12 +1032,13 @@ impl Cases {
         self.decoder(given, &plain::valuation(n, &plan), plan.len());
     }
 
-    /// The pruned writer on one small instance, and the floor, which needs no
-    /// horizon and so comes once.
+    /// The size and the pruned formula of one small instance, and the floor, which
+    /// needs no horizon and so comes once.
     fn small_pruned(&mut self, given: &Given) {
         if given.m == 0 {
             self.floor(given);
         }
+        self.size(SIZE, given);
         self.pruning(given);
     }
 
@@ -1346,15 +1411,19 @@ fn gate(cases: &mut Cases) {
     for (n, m) in [(34, 32), (64, 9)] {
         cases.path(n, m);
     }
+    cases.worked_sizes();
+    for _ in 0..60 {
+        cases.any_size();
+    }
 }
 
 /// Fails where a kind never gives an answer that it can give, where the items of
 /// two numbers of neighbouring questions or of one question never fail at once,
 /// where no accepted plan tells a wrong count from the cost, or no answer a wrong
-/// floor or family H from the right one.
+/// floor, family H, size or writer from the right one.
 fn require_all(cases: &Cases) {
     let mut missing = Vec::new();
-    for kind in WRITER..=PRUNED {
+    for kind in 1..=ASKED.len() as u8 {
         let times = &cases.times[usize::from(kind)];
         for &number in [0].iter().chain(asked(kind)) {
             if times[number as usize] == 0 {
@@ -1372,7 +1441,9 @@ fn require_all(cases: &Cases) {
     for name in cases.told.missing() {
         missing.push(format!("no accepted plan tells from the cost: {name}"));
     }
-    for name in cases.told_floors.missing() {
+    let floors = cases.told_floors.missing();
+    let names = floors.into_iter().map(String::from);
+    for name in names.chain(cases.told_sizes.missing()) {
         missing.push(format!("no answer tells from the right one: {name}"));
     }
     if !missing.is_empty() {
@@ -1408,10 +1479,11 @@ fn main() {
         random: Generator::new(seed.wrapping_mul(0x9E37_79B9_7F4A_7C15) | 1),
         input: Vec::new(),
         output: String::new(),
-        times: [[0; NUMBERS]; 9],
+        times: [[0; NUMBERS]; 1 + ASKED.len()],
         twice: BTreeSet::new(),
         told: Told::default(),
         told_floors: floors::Told::default(),
+        told_sizes: sizes::Told::default(),
     };
     match mode {
         "gate" => {
@@ -1434,6 +1506,7 @@ fn main() {
                 cases.texts(if i % 4 == 0 { 12 } else { 4 });
                 cases.waiting(if i % 4 == 0 { 32 } else { 9 });
                 cases.maps(if i % 4 == 0 { 64 } else { 12 });
+                cases.any_size();
             }
             cases.costs();
             cases.largest(false);
@@ -1511,9 +1584,23 @@ fn main() {
                 }
             }
         }
+        "sizes" => {
+            cases.worked_sizes();
+            // Every number of vertices and agents, at the first and the last horizons and at one between.
+            for n in 1..=64usize {
+                for k in 1..=n.min(16) {
+                    let instance = cases.random.mapped(n, k);
+                    for m in [0, 1, 2 + cases.random.below(29) as u64, 31, 32] {
+                        let instance = instance.clone();
+                        cases.sizes(&Given { instance, m });
+                    }
+                }
+            }
+        }
         _ => {
             eprintln!(
-                "cases gate DIR, or cases random|small|clauses|plans|valuations|texts|floors SEED COUNT DIR"
+                "cases gate DIR, or \
+                 cases random|small|clauses|plans|valuations|texts|floors|sizes SEED COUNT DIR"
             );
             process::exit(2);
         }

@@ -1,27 +1,13 @@
 //! The calls against the plain clause table.
 
-use super::{says, unwritten, wrote};
+use super::{compare_words, says};
 use crate::sample::{all_edges, instance_bytes, largest_instance, Generator};
 use crate::*;
 use std::collections::BTreeSet;
 
-/// Writer and clause by number against the table.
+/// Size, writers and clause by number against the table.
 fn compare_formula(instance: &[u8], m: u64, clauses: &[Vec<i32>]) {
-    let expected = plain::words(clauses);
-    let needed = expected.len();
-    let accepted = wrote(needed as u64, clauses.len() as u64);
-    for writer in [write_formula, write_formula_searching] {
-        let mut words = vec![7; needed + 3];
-        assert_eq!(writer(instance, m, &mut words), accepted);
-        assert_eq!(words[..needed], expected);
-        assert_eq!(words[needed..], [7; 3]);
-        let mut words = vec![7; needed - 1];
-        assert_eq!(
-            writer(instance, m, &mut words),
-            unwritten(12, needed as u64)
-        );
-        assert!(words.iter().all(|&word| word == 7));
-    }
+    compare_words(instance, m, false, clauses);
     for (number, literals) in clauses.iter().enumerate() {
         let mut words = [7; 67];
         let length = literals.len() + 1;

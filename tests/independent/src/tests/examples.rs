@@ -1,6 +1,6 @@
 //! The examples of the document, with the values it gives.
 
-use super::{says, unwritten, wrote};
+use super::{counts, says, WROTE};
 use crate::sample::instance_bytes;
 use crate::*;
 
@@ -45,11 +45,12 @@ fn pair_bytes() {
 
 #[test]
 fn pair_formula() {
+    assert_eq!(formula_size(&PAIR, 1), counts(24, 8));
     let mut words = [7; 24];
-    assert_eq!(write_formula(&PAIR, 1, &mut words), wrote(24, 8));
+    assert_eq!(write_formula(&PAIR, 1, &mut words), WROTE);
     assert_eq!(words.to_vec(), PAIR_CLAUSES.concat());
     let mut words = [7; 23];
-    assert_eq!(write_formula(&PAIR, 1, &mut words), unwritten(12, 24));
+    assert_eq!(write_formula(&PAIR, 1, &mut words), says(12, 24));
     assert_eq!(words, [7; 23]);
 }
 
@@ -96,8 +97,7 @@ fn swap() {
         encode(&instance, 1, &[0, 1, 1, 0], &mut [7; 8]),
         says(25, 2)
     );
-    let mut words = [7; 72];
-    assert_eq!(write_formula(&instance, 1, &mut words), wrote(72, 24));
+    assert_eq!(formula_size(&instance, 1), counts(72, 24));
 }
 
 #[test]

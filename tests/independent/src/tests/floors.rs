@@ -1,6 +1,6 @@
-//! The floor and the pruned writer.
+//! The floor and the pruned formula.
 
-use super::{says, unwritten, wrote};
+use super::{compare_words, counts, says, uncounted, WROTE};
 use crate::floors::{worked, worked_h, Told};
 use crate::questions::{failing, Handed};
 use crate::sample::Generator;
@@ -35,20 +35,23 @@ fn the_pair_pruned() {
         1, 0, 4, 0, 1, 2, 0, 3, 4, 0, -1, -2, 0, -3, -4, 0, -1, 3, 4, 0, -2, 4, 3, 0,
     ];
     let mut words = [7; 29];
-    assert_eq!(write_pruned(&PAIR, 1, &mut words), wrote(28, 10));
+    assert_eq!(pruned_size(&PAIR, 1), counts(28, 10));
+    assert_eq!(write_pruned(&PAIR, 1, &mut words), WROTE);
     assert_eq!(words[..24], formula);
     assert_eq!(words[24..], [-2, 0, -3, 0, 7]);
     // Without family H it would fit.
     for length in [0, 24, 27] {
         let mut words = [7; 27];
         let refused = write_pruned(&PAIR, 1, &mut words[..length]);
-        assert_eq!(refused, unwritten(12, 28));
+        assert_eq!(refused, says(12, 28));
         assert_eq!(words, [7; 27]);
     }
-    assert_eq!(write_pruned(&PAIR, 33, &mut words), unwritten(10, 0));
+    assert_eq!(write_pruned(&PAIR, 33, &mut words), says(10, 0));
+    assert_eq!(pruned_size(&PAIR, 33), uncounted(says(10, 0)));
     // At m 0 it should be at 0 and at 1: all is ruled out.
     let mut words = [7; 14];
-    assert_eq!(write_pruned(&PAIR, 0, &mut words), wrote(14, 6));
+    assert_eq!(pruned_size(&PAIR, 0), counts(14, 6));
+    assert_eq!(write_pruned(&PAIR, 0, &mut words), WROTE);
     assert_eq!(words, [1, 0, 2, 0, 1, 2, 0, -1, -2, 0, -1, 0, -2, 0]);
 }
 
@@ -56,7 +59,7 @@ fn the_pair_pruned() {
 /// plain table.
 fn count_h(instance: &[u8], m: u64) -> usize {
     let words = compare_pruned(instance, m);
-    let formula = write_formula(instance, m, &mut []).second as usize;
+    let formula = formula_size(instance, m).second as usize;
     (words.len() - formula) / 2
 }
 
@@ -81,43 +84,19 @@ fn counts_of_family_h() {
     // All edges: at time 0 and at time m all vertices but one, for each of 16 agents.
     let largest = largest_instance();
     assert_eq!(count_h(&largest, 32), 2 * 16 * 63);
-    assert_eq!(
-        write_pruned(&largest, 32, &mut []),
-        unwritten(12, 7_629_328)
-    );
+    assert_eq!(pruned_size(&largest, 32).second, 7_629_328);
     assert_eq!(count_h(&largest, 0), 16 * 63);
     // No edges: all vertices but one at all times; with another goal all.
     assert_eq!(count_h(&instance_bytes(64, &[], &[5], &[5]), 32), 33 * 63);
     assert_eq!(count_h(&instance_bytes(64, &[], &[5], &[6]), 32), 33 * 64);
 }
 
-/// The pruned writer against the plain table; gives the words.
+/// Size and writer of the pruned formula against the plain table; gives the
+/// words.
 fn compare_pruned(instance: &[u8], m: u64) -> Vec<i32> {
     let mut clauses = plain::clauses(instance, m);
     clauses.extend(plain::family_h(instance, m));
-    let expected = plain::words(&clauses);
-    let needed = expected.len();
-    let mut words = vec![7; needed + 3];
-    let accepted = wrote(needed as u64, clauses.len() as u64);
-    assert_eq!(write_pruned(instance, m, &mut words), accepted);
-    assert!(words[..needed] == expected, "{instance:?}, m {m}");
-    assert_eq!(words[needed..], [7; 3]);
-    let refused = write_pruned(instance, m, &mut words[..needed - 1]);
-    assert_eq!(refused, unwritten(12, needed as u64));
-    assert!(words[..needed] == expected);
-    // The words needed, counted in a third way.
-    let handed = Handed {
-        instance,
-        horizon: m,
-        clause: None,
-        plan: &[],
-        entries: &[],
-        text: &[],
-        lent: 0,
-        pruned: true,
-    };
-    assert_eq!(failing(12, &handed), [needed as u64]);
-    expected
+    compare_words(instance, m, true, &clauses)
 }
 
 /// The floor against both slower ways; gives the answer.
@@ -125,13 +104,7 @@ fn compare_floor(instance: &[u8]) -> Answer {
     let answer = floor(instance);
     let handed = Handed {
         instance,
-        horizon: 0,
-        clause: None,
-        plan: &[],
-        entries: &[],
-        text: &[],
-        lent: 0,
-        pruned: false,
+        ..Handed::default()
     };
     match (plain::floor(instance), failing(30, &handed).first()) {
         (Some(least), None) => assert_eq!(answer, says(0, least as u64)),

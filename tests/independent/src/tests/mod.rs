@@ -3,27 +3,88 @@ mod examples;
 mod floors;
 mod questions;
 mod reader;
+mod sizes;
 
-use crate::{Answer, Written};
+use crate::questions::{failing, Handed};
+use crate::{formula_size, plain, pruned_size};
+use crate::{write_formula, write_formula_searching, write_pruned, Answer, Size};
 
 /// An answer; also what a refusal expects.
 fn says(number: u32, second: u64) -> Answer {
     Answer { number, second }
 }
 
-fn wrote(words: u64, clauses: u64) -> Written {
-    Written {
+/// What a writer says when it accepts.
+const WROTE: Answer = Answer {
+    number: 0,
+    second: 0,
+};
+
+/// What a size call says when it accepts.
+fn counts(words: u64, clauses: u64) -> Size {
+    Size {
         number: 0,
         second: words,
         clauses,
     }
 }
 
-/// What a writer says when it refuses.
-fn unwritten(number: u32, second: u64) -> Written {
-    Written {
-        number,
-        second,
+/// What a size call says when it refuses.
+fn uncounted(refusal: Answer) -> Size {
+    Size {
+        number: refusal.number,
+        second: refusal.second,
         clauses: 0,
     }
+}
+
+type SizeCall = fn(&[u8], u64) -> Size;
+type Writer = fn(&[u8], u64, &mut [i32]) -> Answer;
+
+/// The size call and the writers of the formula, and of the pruned one.
+const FORMULAS: [(SizeCall, &[Writer]); 2] = [
+    (formula_size, &[write_formula, write_formula_searching]),
+    (pruned_size, &[write_pruned]),
+];
+
+/// No word is this number.
+const UNWRITTEN: i32 = i32::MIN;
+
+/// Size call and writers of an accepted instance against the list of the
+/// clauses; gives the words.
+fn compare_words(instance: &[u8], m: u64, pruned: bool, clauses: &[Vec<i32>]) -> Vec<i32> {
+    let expected = plain::words(clauses);
+    let needed = expected.len();
+    let (size, writers) = FORMULAS[usize::from(pruned)];
+    let size = size(instance, m);
+    assert_eq!(size, counts(needed as u64, clauses.len() as u64));
+    assert_eq!(size, closed_counts(instance, m, pruned));
+    for writer in writers {
+        let mut words = vec![UNWRITTEN; needed + 3];
+        let refused = writer(instance, m, &mut words[..needed - 1]);
+        assert_eq!(refused, says(12, needed as u64));
+        assert!(words.iter().all(|&word| word == UNWRITTEN));
+        assert_eq!(writer(instance, m, &mut words), WROTE);
+        assert!(words[..needed] == expected, "{instance:?}, m {m}");
+        assert_eq!(words[needed..], [UNWRITTEN; 3]);
+    }
+    expected
+}
+
+/// The size by the counts of the questions: 12 is asked of an empty slice and 11
+/// of the highest number. Two words more than the formula has are a clause of H.
+fn closed_counts(instance: &[u8], horizon: u64, pruned: bool) -> Size {
+    let place = |number: u32, clause: Option<u64>, pruned: bool| {
+        let handed = Handed {
+            instance,
+            horizon,
+            clause,
+            pruned,
+            ..Handed::default()
+        };
+        failing(number, &handed)[0]
+    };
+    let words = place(12, None, pruned);
+    let added = (words - place(12, None, false)) / 2;
+    counts(words, place(11, Some(u64::MAX), false) + added)
 }

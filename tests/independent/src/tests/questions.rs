@@ -1,6 +1,6 @@
 //! Each question, its place, and which of two refusals comes first.
 
-use super::{says, unwritten};
+use super::{closed_counts, counts, says, uncounted, FORMULAS, WROTE};
 use crate::output::{some_text, some_valuation};
 use crate::parts::{enter_occupied, malform, Parts};
 use crate::questions::{failing, first_no, Handed, Item, ASKED, NUMBERS};
@@ -25,19 +25,19 @@ fn three_paths(starts: &[u8]) -> Vec<u8> {
 /// another agent comes from the first vertex.
 const WAYS: [(u32, u8); 3] = [(20, 1), (25, 0), (26, 2)];
 
-/// The answer of `check_instance`, after seeing that all eight calls refuse
-/// alike and change nothing.
+/// The answer of `check_instance`, after seeing that all ten calls refuse alike
+/// and change nothing.
 fn refused(instance: &[u8], horizon: u64) -> Answer {
     let answer = check_instance(instance, horizon);
     assert_ne!(answer.number, 0);
     let mut words = [7; 9];
     let mut bytes = [7; 9];
-    let written = write_formula(instance, horizon, &mut words);
-    assert_eq!(written, unwritten(answer.number, answer.second));
-    assert_eq!(
-        write_formula_searching(instance, horizon, &mut words),
-        written
-    );
+    for (size, writers) in FORMULAS {
+        assert_eq!(size(instance, horizon), uncounted(answer));
+        for writer in writers {
+            assert_eq!(writer(instance, horizon, &mut words), answer);
+        }
+    }
     assert_eq!(clause(instance, horizon, 0, &mut words), answer);
     assert_eq!(check_plan(instance, horizon, &[0, 1]), answer);
     assert_eq!(
@@ -47,7 +47,6 @@ fn refused(instance: &[u8], horizon: u64) -> Answer {
     assert_eq!(encode(instance, horizon, &[0, 1], &mut words), answer);
     let text = b"s SATISFIABLE\nv 1 -2 -3 4 0\n";
     assert_eq!(read_valuation(instance, horizon, text, &mut words), answer);
-    assert_eq!(write_pruned(instance, horizon, &mut words), written);
     if answer.number < 10 {
         assert_eq!(floor(instance), answer);
     } else {
@@ -126,7 +125,7 @@ fn questions_11_and_12() {
     assert_eq!(clause(&PAIR, 1, 1 << 32, &mut words), says(11, 8));
     assert_eq!(clause(&PAIR, 1, 7, &mut words), says(12, 4));
     assert_eq!(clause(&PAIR, 1, 0, &mut words[..1]), says(12, 2));
-    assert_eq!(write_formula(&PAIR, 1, &mut []), unwritten(12, 24));
+    assert_eq!(write_formula(&PAIR, 1, &mut []), says(12, 24));
     assert_eq!(words, [7; 3]);
     // The longest clause: 64 vertices, all of them neighbours, and the 0.
     let largest = largest_instance();
@@ -415,9 +414,11 @@ fn question_24_in_each_family() {
 fn smallest_instance() {
     let instance = [1, 1, 0, 0, 0, 0];
     let mut words = [7; 99];
-    assert_eq!(write_formula(&instance, 0, &mut words), super::wrote(6, 3));
+    assert_eq!(formula_size(&instance, 0), counts(6, 3));
+    assert_eq!(write_formula(&instance, 0, &mut words), WROTE);
     assert_eq!(words[..7], [1, 0, 1, 0, 1, 0, 7]);
-    assert_eq!(write_formula(&instance, 1, &mut words), super::wrote(11, 5));
+    assert_eq!(formula_size(&instance, 1), counts(11, 5));
+    assert_eq!(write_formula(&instance, 1, &mut words), WROTE);
     assert_eq!(words[..12], [1, 0, 2, 0, 1, 0, 2, 0, -1, 2, 0, 7]);
     assert_eq!(check_plan(&instance, 32, &[0; 33]), says(0, 0));
 }
@@ -442,8 +443,12 @@ fn any_bytes_get_an_answer() {
         let plan = random.bytes(length);
         let mut words = [7; 40];
         let mut bytes = [7; 40];
-        write_formula(&instance, horizon, &mut words);
-        write_formula_searching(&instance, horizon, &mut words);
+        for (size, writers) in FORMULAS {
+            size(&instance, horizon);
+            for writer in writers {
+                writer(&instance, horizon, &mut words);
+            }
+        }
         clause(&instance, horizon, number, &mut words);
         check_plan(&instance, horizon, &plan);
         decode(&instance, horizon, &entries, &mut bytes);
@@ -452,7 +457,6 @@ fn any_bytes_get_an_answer() {
         let text = some_text(&mut random, &[1, -2, -3, 4]);
         read_valuation(&instance, horizon, &text, &mut words);
         floor(&instance);
-        write_pruned(&instance, horizon, &mut words);
     }
 }
 
@@ -469,7 +473,7 @@ fn size_limits_are_accepted() {
 #[test]
 fn calls_answer_the_first_no() {
     let mut random = Generator::new(23);
-    let mut seen = [[false; NUMBERS]; 8];
+    let mut seen = [[false; NUMBERS]; ASKED.len()];
     for _ in 0..40_000 {
         let n = 1 + random.below(5);
         let k = 1 + random.below(n.min(3));
@@ -523,21 +527,19 @@ fn calls_answer_the_first_no() {
                 _ => 2_000,
             };
             let (mut words, mut bytes) = (vec![7; lent], vec![7; lent]);
+            let pruned = matches!(call, 7 | 9);
+            let (size, _) = FORMULAS[usize::from(pruned)];
+            let size = size(&instance, horizon);
             let answer = match call {
-                0 => {
-                    let written = write_formula(&instance, horizon, &mut words);
-                    says(written.number, written.second)
-                }
+                0 => write_formula(&instance, horizon, &mut words),
                 1 => clause(&instance, horizon, number, &mut words),
                 2 => check_plan(&instance, horizon, &plan),
                 3 => decode(&instance, horizon, &entries, &mut bytes),
                 4 => encode(&instance, horizon, &plan, &mut words),
                 5 => read_valuation(&instance, horizon, &text, &mut words),
                 6 => floor(&instance),
-                _ => {
-                    let written = write_pruned(&instance, horizon, &mut words);
-                    says(written.number, written.second)
-                }
+                7 => write_pruned(&instance, horizon, &mut words),
+                _ => says(size.number, size.second),
             };
             let handed = Handed {
                 instance: &instance,
@@ -547,11 +549,13 @@ fn calls_answer_the_first_no() {
                 entries: &entries,
                 text: &text,
                 lent,
-                pruned: call == 7,
+                pruned,
             };
-            match first_no(numbers, &handed) {
-                Some((number, place)) => assert_eq!(answer, says(number, place)),
-                None => assert_eq!(answer.number, 0),
+            match (first_no(numbers, &handed), call) {
+                (Some((number, place)), _) => assert_eq!(answer, says(number, place)),
+                (None, 0 | 7) => assert_eq!(answer, WROTE),
+                (None, 8 | 9) => assert_eq!(size, closed_counts(&instance, horizon, pruned)),
+                (None, _) => assert_eq!(answer.number, 0),
             }
             seen[call][answer.number as usize] = true;
         }

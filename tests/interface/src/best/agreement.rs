@@ -5,8 +5,9 @@ use independent::floors;
 use independent::output::{padded, some_text, worked};
 use independent::questions::{ASKED, NUMBERS};
 use independent::sample::Generator;
+use independent::sizes;
 use independent::text::print_formula;
-use independent::{Written, LONGEST_TEXT};
+use independent::{Answer, Size, LONGEST_TEXT};
 use interface::input::{
     long_horizon, malform, some_entries, some_length, some_plan, valuation, Parts,
 };
@@ -70,28 +71,29 @@ pub fn same<T: Clone + PartialEq, A: Debug + PartialEq>(
     answer
 }
 
-/// Compares the eight calls in so many random cases; gives the number of comparisons.
+/// Compares the ten calls in so many random cases; gives the number of comparisons.
 pub fn compare_calls(cases: usize) -> usize {
     let mut g = Generator::new(2026);
-    let mut hits = [[0; NUMBERS]; 8];
+    let mut hits = [[0; NUMBERS]; ASKED.len()];
     let mut falsified = [0; 7];
     let mut told = Told::default();
     let mut told_floors = floors::Told::default();
+    let mut told_sizes = sizes::Told::default();
     for _ in 0..cases {
         let case = draw(&mut g);
         let (instance, m) = (&case.instance[..], case.horizon);
         let rows = case.plan.len();
 
-        let Written { second: words, .. } = independent::write_formula(instance, m, &mut []);
-        let lent = vec![7; some_length(&mut g, words.min(1 << 18) as usize)];
+        let size = independent::formula_size(instance, m);
+        let lent = vec![7; some_length(&mut g, size.second.min(1 << 18) as usize)];
         for form in [super::write_formula, super::write_formula_straight] {
-            let number = same(
+            let answer = same(
                 &lent,
                 |words| form(instance, m, words),
                 |words| independent::write_formula(instance, m, words),
-            )
-            .number;
-            hits[0][number as usize] += 1;
+            );
+            hits[0][answer.number as usize] += 1;
+            told_sizes.writer(false, answer, size, lent.len());
         }
 
         // A clause of one family, or a number most likely beyond all of them.
@@ -155,10 +157,16 @@ pub fn compare_calls(cases: usize) -> usize {
         }
         for (instance, m) in [(instance, m), (&map, g.below(33) as u64)] {
             hits[6][compare_floors(instance, &mut told_floors)] += 3;
-            let needed = independent::write_pruned(instance, m, &mut []).second;
-            let lent = vec![7; some_length(&mut g, needed.min(1 << 18) as usize)];
-            let number = compare_pruned(instance, m, &lent, &mut told_floors);
-            hits[7][number] += 2;
+            let sizes = compare_sizes(instance, m);
+            for (pruned, size) in [false, true].into_iter().zip(sizes) {
+                hits[8 + usize::from(pruned)][size.number as usize] += 2;
+                told_sizes.size(pruned, instance, m, sizes);
+            }
+            let [_, size] = sizes;
+            let lent = vec![7; some_length(&mut g, size.second.min(1 << 18) as usize)];
+            let answer = compare_pruned(instance, m, size, &lent, &mut told_floors);
+            hits[7][answer.number as usize] += 2;
+            told_sizes.writer(true, answer, size, lent.len());
         }
     }
     // Of the pair: texts with known answers, and some of the greatest length.
@@ -182,11 +190,9 @@ pub fn compare_calls(cases: usize) -> usize {
     }
     assert!(falsified.iter().all(|&hits| hits > 0), "{falsified:?}");
     assert_eq!(told.missing(), [""; 0], "no plan tells these from the cost");
-    assert_eq!(
-        told_floors.missing(),
-        [""; 0],
-        "no answer tells these from the right one"
-    );
+    let floors = told_floors.missing().into_iter().map(String::from);
+    let missing: Vec<String> = floors.chain(told_sizes.missing()).collect();
+    assert_eq!(missing, [""; 0], "no answer tells these from the right one");
     hits.iter().flatten().sum()
 }
 
@@ -218,8 +224,36 @@ fn compare_floors(instance: &[u8], told: &mut floors::Told) -> usize {
     answer.number as usize
 }
 
-/// Compares both pruned writers; gives the answer's number.
-fn compare_pruned(instance: &[u8], m: u64, lent: &[i32], told: &mut floors::Told) -> usize {
+/// Compares both forms of each size call; gives the sizes of the formula and of the pruned one.
+fn compare_sizes(instance: &[u8], m: u64) -> [Size; 2] {
+    type SizeCall = fn(&[u8], u64) -> Size;
+    let compare = |model: SizeCall, forms: [SizeCall; 2]| {
+        let size = model(instance, m);
+        for form in forms {
+            assert_eq!(form(instance, m), size, "the sizes differ");
+        }
+        size
+    };
+    [
+        compare(
+            independent::formula_size,
+            [super::formula_size, super::formula_size_with_words],
+        ),
+        compare(
+            independent::pruned_size,
+            [super::pruned_size, super::pruned_size_by_table],
+        ),
+    ]
+}
+
+/// Compares both pruned writers; gives the answer.
+fn compare_pruned(
+    instance: &[u8],
+    m: u64,
+    size: Size,
+    lent: &[i32],
+    told: &mut floors::Told,
+) -> Answer {
     let mut written = lent.to_vec();
     let answer = independent::write_pruned(instance, m, &mut written);
     for form in [super::write_pruned, super::write_pruned_straight] {
@@ -233,9 +267,9 @@ fn compare_pruned(instance: &[u8], m: u64, lent: &[i32], told: &mut floors::Told
         );
     }
     if answer.number == 0 {
-        told.pruned(instance, m, &written[..answer.second as usize]);
+        told.pruned(instance, m, &written[..size.second as usize]);
     }
-    answer.number as usize
+    answer
 }
 
 /// Compares what the program prints in so many random cases.

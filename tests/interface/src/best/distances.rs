@@ -195,6 +195,66 @@ impl RuledOut {
     }
 }
 
+/// How many clauses family H has. Of the m + 1 times the first x and the last y are ruled out for a vertex that is x from
+/// the start and y from the goal.
+pub fn count_by_table(instance: &Instance) -> usize {
+    let table = table_by_words(instance);
+    let times = instance.m as u8 + 1;
+    let ends = instance.starts.iter().zip(instance.goals);
+    let counts = ends.map(|(&start, &goal)| {
+        let [from_start, from_goal] = [start, goal].map(|v| &table[usize::from(v & 63)]);
+        let distances = from_start.iter().zip(from_goal);
+        let ruled_out = distances.map(|(x, y)| x.saturating_add(*y).min(times));
+        ruled_out.map(u32::from).sum::<u32>() as usize
+    });
+    // What is no vertex is unreachable, and was counted at all times.
+    counts.sum::<usize>() - (64 - instance.n) * instance.rows()
+}
+
+/// The same without a table: an agent may be where the search from its start has been after t rounds and that from its goal
+/// after m - t. Between the last rounds in which something was new that is the same at all times.
+pub fn count_by_search(instance: &Instance) -> usize {
+    let m = instance.m;
+    let near = instance.neighbours();
+    let all = u64::MAX >> (64 - instance.n);
+    let (mut from_start, mut from_goal) = ([0; 64], [0; 64]);
+    let mut open = 0;
+    for (&start, &goal) in instance.starts.iter().zip(instance.goals) {
+        let x = rounds(&near, start, m, all, &mut from_start);
+        let y = rounds(&near, goal, m, all, &mut from_goal);
+        let count = |t: usize| {
+            let seen = from_start[t.min(x) & 63] & from_goal[(m - t).min(y) & 63];
+            seen.count_ones() as usize
+        };
+        let same = (m + 1).saturating_sub(x + y);
+        open += same * count(x);
+        for t in 0..x {
+            open += count(t);
+        }
+        for t in x + same..m + 1 {
+            open += count(t);
+        }
+    }
+    instance.n * instance.rows() - open
+}
+
+/// Keeps what a search has seen after each of m rounds, up to the last in which something was new, and gives its number.
+#[inline(always)]
+fn rounds(near: &[u64; 64], from: u8, m: usize, all: u64, seen: &mut [u64; 64]) -> usize {
+    let mut within = Within::new(from);
+    seen[0] = within.seen;
+    let mut round = 0;
+    while round < m && within.seen != all {
+        within.next(near);
+        if within.last == 0 {
+            break;
+        }
+        round += 1;
+        seen[round & 63] = within.seen;
+    }
+    round
+}
+
 /// The vertices within some rounds of one, and those of the last round.
 struct Within {
     seen: u64,

@@ -1,73 +1,107 @@
-//! The formula writers.
+//! The formulas' sizes and writers.
 
-use super::distances::RuledOut;
+use super::answer;
+use super::distances::{count_by_search, count_by_table, RuledOut};
 use super::instance::{refuse, Instance};
-use independent::{Answer, Written};
+use independent::{Answer, Size};
+use std::hint::black_box;
+
+pub fn formula_size(instance: &[u8], horizon: u64) -> Size {
+    size(instance, horizon, |_| 0)
+}
+
+/// With the words of neighbours, which no count needs.
+pub fn formula_size_with_words(instance: &[u8], horizon: u64) -> Size {
+    size(instance, horizon, |instance| {
+        black_box(&instance.neighbours());
+        0
+    })
+}
+
+/// Without a table of distances.
+pub fn pruned_size(instance: &[u8], horizon: u64) -> Size {
+    size(instance, horizon, count_by_search)
+}
+
+/// By a table from every vertex to every vertex.
+pub fn pruned_size_by_table(instance: &[u8], horizon: u64) -> Size {
+    size(instance, horizon, count_by_table)
+}
+
+/// `count_h` gives the clauses of family H, or 0 for the formula without it.
+#[inline(always)]
+fn size(bytes: &[u8], horizon: u64, count_h: impl FnOnce(&Instance) -> usize) -> Size {
+    match Instance::read(bytes, horizon) {
+        Ok(instance) => {
+            let added = count_h(&instance);
+            let words: usize = lengths(&instance).iter().sum();
+            let clauses: usize = instance.clause_counts().iter().sum();
+            Size {
+                number: 0,
+                second: (words + 2 * added) as u64,
+                clauses: (clauses + added) as u64,
+            }
+        }
+        Err(Answer { number, second }) => Size {
+            number,
+            second,
+            clauses: 0,
+        },
+    }
+}
 
 /// Fills the parts of the seven families.
 type Fill = fn(&Instance, [&mut [i32]; 7]);
 
-pub fn write_formula(instance: &[u8], horizon: u64, words: &mut [i32]) -> Written {
+pub fn write_formula(instance: &[u8], horizon: u64, words: &mut [i32]) -> Answer {
     written(instance, horizon, |instance| write(instance, words, fill))
 }
 
 /// The second form: straight loops.
-pub fn write_formula_straight(instance: &[u8], horizon: u64, words: &mut [i32]) -> Written {
+pub fn write_formula_straight(instance: &[u8], horizon: u64, words: &mut [i32]) -> Answer {
     let fill = super::straight::fill;
     written(instance, horizon, |instance| write(instance, words, fill))
 }
 
 /// Family H too.
-pub fn write_pruned(instance: &[u8], horizon: u64, words: &mut [i32]) -> Written {
+pub fn write_pruned(instance: &[u8], horizon: u64, words: &mut [i32]) -> Answer {
     written(instance, horizon, |instance| {
         write_with_h(instance, words, fill)
     })
 }
 
 /// The second form: straight loops for families A to G.
-pub fn write_pruned_straight(instance: &[u8], horizon: u64, words: &mut [i32]) -> Written {
+pub fn write_pruned_straight(instance: &[u8], horizon: u64, words: &mut [i32]) -> Answer {
     let fill = super::straight::fill;
     written(instance, horizon, |instance| {
         write_with_h(instance, words, fill)
     })
 }
 
-/// `write` gives the word count and the clause count.
+/// An acceptance counts nothing.
 #[inline(always)]
 fn written(
     instance: &[u8],
     horizon: u64,
-    write: impl FnOnce(&Instance) -> Result<(usize, usize), Answer>,
-) -> Written {
+    write: impl FnOnce(&Instance) -> Result<(), Answer>,
+) -> Answer {
     let written = Instance::read(instance, horizon).and_then(|instance| write(&instance));
-    let (number, second, clauses) = match written {
-        Ok((count, clauses)) => (0, count as u64, clauses as u64),
-        Err(refusal) => (refusal.number, refusal.second, 0),
-    };
-    Written {
-        number,
-        second,
-        clauses,
-    }
+    answer(written.map(|()| 0))
 }
 
 #[inline(always)]
-fn write(instance: &Instance, words: &mut [i32], fill: Fill) -> Result<(usize, usize), Answer> {
+fn write(instance: &Instance, words: &mut [i32], fill: Fill) -> Result<(), Answer> {
     let lengths = lengths(instance);
     let needed = lengths.iter().sum();
     if words.len() < needed {
         return refuse(12, needed);
     }
     fill(instance, parts(words, lengths));
-    Ok((needed, instance.clause_counts().iter().sum()))
+    Ok(())
 }
 
 #[inline(always)]
-fn write_with_h(
-    instance: &Instance,
-    words: &mut [i32],
-    fill: Fill,
-) -> Result<(usize, usize), Answer> {
+fn write_with_h(instance: &Instance, words: &mut [i32], fill: Fill) -> Result<(), Answer> {
     let lengths = lengths(instance);
     let first: usize = lengths.iter().sum();
     let ruled_out = RuledOut::new(instance);
@@ -78,8 +112,7 @@ fn write_with_h(
     let (formula, family_h) = words[..needed].split_at_mut(first);
     fill(instance, parts(formula, lengths));
     ruled_out.write(instance.n, family_h);
-    let clauses: usize = instance.clause_counts().iter().sum();
-    Ok((needed, clauses + ruled_out.clauses))
+    Ok(())
 }
 
 /// Word counts of the families A to G.

@@ -13,6 +13,7 @@ mod valuation;
 
 pub use clause::clause;
 pub use distances::{floor, floor_by_queue, floor_from_starts};
+pub use formula::{formula_size, formula_size_with_words, pruned_size, pruned_size_by_table};
 pub use formula::{write_formula, write_formula_straight, write_pruned, write_pruned_straight};
 pub use plan::{check_instance, check_plan};
 pub use reader::{read_valuation, read_valuation_straight};

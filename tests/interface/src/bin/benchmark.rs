@@ -42,6 +42,8 @@ type Encoder = fn(&[u8], u64, &[u8], &mut [i32]) -> Said;
 type Reader = fn(&[u8], u64, &[u8], &mut [i32]) -> Said;
 type OneClause = fn(&[u8], u64, u64, &mut [i32]) -> Said;
 type Floor = fn(&[u8]) -> Said;
+/// The clause count too.
+type SizeCall = fn(&[u8], u64) -> (u32, u64, u64);
 
 /// A call of the library, of the best Rust forms and of the independent program.
 macro_rules! forms {
@@ -62,6 +64,30 @@ const READERS: [Reader; 3] = forms!(read_valuation(instance, m, text, entries));
 const ONE_CLAUSES: [OneClause; 3] = forms!(clause(instance, m, number, words));
 const FLOORS: [Floor; 3] = forms!(floor(instance));
 const PRUNED_WRITERS: [Writer; 3] = forms!(write_pruned(instance, m, words));
+
+/// A size call.
+macro_rules! size {
+    ($module:ident::$call:ident) => {
+        |instance, m| {
+            let size = $module::$call(instance, m);
+            (size.number, size.second, size.clauses)
+        }
+    };
+}
+
+/// The library's, the form of the target, the independent program's, and the fastest form.
+const FORMULA_SIZES: [SizeCall; 4] = [
+    size!(library::formula_size),
+    size!(best::formula_size_with_words),
+    size!(independent::formula_size),
+    size!(best::formula_size),
+];
+const PRUNED_SIZES: [SizeCall; 4] = [
+    size!(library::pruned_size),
+    size!(best::pruned_size_by_table),
+    size!(independent::pruned_size),
+    size!(best::pruned_size),
+];
 
 struct Input {
     name: &'static str,
@@ -227,8 +253,7 @@ fn agree<T: Clone + PartialEq>(lent: &[T], call: impl Fn(usize, &mut [T]) -> Sai
 
 fn writer(table: &mut Table, input: &Input) {
     let (instance, m) = (&input.instance[..], input.m);
-    let [library, best, loops] = WRITERS;
-    let (_, needed) = loops(instance, m, &mut []);
+    let [library, best, _] = WRITERS;
     let searching: Writer = |instance, m, words| {
         let answer = independent::write_formula_searching(instance, m, words);
         (answer.number, answer.second)
@@ -238,7 +263,7 @@ fn writer(table: &mut Table, input: &Input) {
         (answer.number, answer.second)
     };
     let forms = [library, best, searching, straight];
-    let mut words = vec![1; needed as usize];
+    let mut words = vec![1; independent::formula_size(instance, m).second as usize];
     agree(&words, |form, words| forms[form](instance, m, words));
     same(
         &words,
@@ -454,9 +479,8 @@ fn pruned_writer(table: &mut Table, input: &Input, target: Option<f64>) {
         let answer = best::write_pruned_straight(instance, m, words);
         (answer.number, answer.second)
     };
-    let (_, needed) = independent(instance, m, &mut []);
     let forms = [library, best, independent, straight];
-    let mut words = vec![1; needed as usize];
+    let mut words = vec![1; independent::pruned_size(instance, m).second as usize];
     for form in forms {
         let model = |words: &mut [i32]| independent(instance, m, words);
         same(&words, |words| form(instance, m, words), model);
@@ -479,6 +503,31 @@ fn pruned_writer(table: &mut Table, input: &Input, target: Option<f64>) {
         None,
         note,
     );
+}
+
+/// A size call against the form that does what the library's instance check and table do, and against the fastest.
+fn size(
+    table: &mut Table,
+    call: &str,
+    input: &Input,
+    forms: [SizeCall; 4],
+    target: Option<f64>,
+    notes: [&str; 2],
+) {
+    let (instance, m) = (&input.instance[..], input.m);
+    let [library, _, independent, _] = forms.map(|form| form(instance, m));
+    for form in forms {
+        assert_eq!(form(instance, m), independent, "the sizes differ");
+    }
+    assert_eq!(library.0, 0);
+    let [ours, alike, independent, fastest] = times(|form| {
+        black_box(forms[form](black_box(instance), m));
+    });
+    let [note, fastest_note] = notes;
+    let row = [ours, alike, independent];
+    table.row(call, input, row, target, note);
+    let row = [ours, fastest, independent];
+    table.row(call, input, row, None, fastest_note);
 }
 
 /// The middle and the last clause of each family, summed; then the dearest against our own instance check.
@@ -586,9 +635,26 @@ fn main() {
     for input in &maps() {
         floor(&mut table, input, Some(1.2));
     }
-    for input in inputs.iter().chain([&across()]) {
-        let target = matches!(input.name, "largest" | "across").then_some(1.2);
-        pruned_writer(&mut table, input, target);
+    let across = across();
+    let large = |input: &Input| matches!(input.name, "largest" | "across").then_some(1.2);
+    for input in inputs.iter().chain([&across]) {
+        pruned_writer(&mut table, input, large(input));
+    }
+    let notes = [
+        "  with words of neighbours",
+        "  against a check without words",
+    ];
+    for input in &inputs {
+        let (call, forms) = ("formula size", FORMULA_SIZES);
+        size(&mut table, call, input, forms, Some(1.5), notes);
+    }
+    let notes = [
+        "  with a table, rounds as words",
+        "  no table, from starts and goals",
+    ];
+    for input in inputs.iter().chain([&across]) {
+        let (call, forms) = ("pruned size", PRUNED_SIZES);
+        size(&mut table, call, input, forms, large(input), notes);
     }
     let file = std::env::temp_dir().join(format!("runglaet_benchmark_{}", std::process::id()));
     for input in &inputs {

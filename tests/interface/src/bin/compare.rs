@@ -1,7 +1,7 @@
 //! Compares the library with the independent program, through the C interface.
 //!
-//! compare [SEED [COUNT [FIRST]]]: texts, plans and maps with known answers, every small instance, the largest one and
-//! COUNT random cases; with FIRST only COUNT random cases from that one on.
+//! compare [SEED [COUNT [FIRST]]]: texts, plans, maps and sizes with known answers, every small instance, the largest one
+//! and COUNT random cases; with FIRST only COUNT random cases from that one on.
 
 #![forbid(unsafe_code)]
 
@@ -11,14 +11,24 @@ use independent::output::{damaged, output, padded, some_output, some_text, worke
 use independent::questions::{ASKED, NUMBERS};
 use independent::sample::Generator;
 use independent::sample::{all_edges, grid_edges, instance_bytes, largest_instance, path_edges};
-use independent::LONGEST_TEXT;
+use independent::sizes;
+use independent::{Answer, Size, LONGEST_TEXT};
 use interface::input::*;
 use std::fmt::Debug;
 use std::hint::black_box;
 use std::time::Instant;
 
-const NAMES: [&str; 8] = [
-    "writer", "clause", "check", "decoder", "encoder", "reader", "floor", "pruned",
+const NAMES: [&str; 10] = [
+    "writer",
+    "clause",
+    "check",
+    "decoder",
+    "encoder",
+    "reader",
+    "floor",
+    "pruned",
+    "size",
+    "pruned size",
 ];
 const WRITER: usize = 0;
 const CLAUSE: usize = 1;
@@ -28,13 +38,17 @@ const ENCODER: usize = 4;
 const READER: usize = 5;
 const FLOOR: usize = 6;
 const PRUNED: usize = 7;
+const SIZE: usize = 8;
+const PRUNED_SIZE: usize = 9;
+
+type Writer<A> = fn(&[u8], u64, &mut [i32]) -> A;
 
 /// Can the call give this number? 0 is accepted.
 fn gives(call: usize, number: usize) -> bool {
     number == 0 || ASKED[call].contains(&(number as u32))
 }
 
-/// An answer of either program; its clauses are 0 but for the writers'.
+/// An answer of either program; its clauses are 0 but for the size calls'.
 #[derive(Clone, Copy, Debug, PartialEq)]
 struct Said {
     number: u32,
@@ -50,6 +64,21 @@ impl Said {
             clauses,
         }
     }
+
+    fn answer(self) -> Answer {
+        Answer {
+            number: self.number,
+            second: self.second,
+        }
+    }
+
+    fn size(self) -> Size {
+        Size {
+            number: self.number,
+            second: self.second,
+            clauses: self.clauses,
+        }
+    }
 }
 
 impl From<runglaet::Answer> for Said {
@@ -58,20 +87,20 @@ impl From<runglaet::Answer> for Said {
     }
 }
 
-impl From<runglaet::Written> for Said {
-    fn from(answer: runglaet::Written) -> Said {
+impl From<runglaet::Size> for Said {
+    fn from(answer: runglaet::Size) -> Said {
         Said::new(answer.number, answer.second, answer.clauses)
     }
 }
 
-impl From<independent::Answer> for Said {
-    fn from(answer: independent::Answer) -> Said {
+impl From<Answer> for Said {
+    fn from(answer: Answer) -> Said {
         Said::new(answer.number, answer.second, 0)
     }
 }
 
-impl From<independent::Written> for Said {
-    fn from(answer: independent::Written) -> Said {
+impl From<Size> for Said {
+    fn from(answer: Size) -> Said {
         Said::new(answer.number, answer.second, answer.clauses)
     }
 }
@@ -115,7 +144,8 @@ impl<T: Pattern> Input<T> {
     }
 }
 
-/// The inputs of one call, for the report of a difference.
+/// The inputs of one call, for the report of a difference; what it has none of is empty, 0 or none.
+#[derive(Default)]
 struct Asked<'a> {
     call: usize,
     instance: &'a [u8],
@@ -124,6 +154,8 @@ struct Asked<'a> {
     plan: Option<&'a [u8]>,
     entries: Option<&'a [i32]>,
     text: Option<&'a [u8]>,
+    /// The words of a writer's formula, which its own answer does not count.
+    words: usize,
 }
 
 struct Run {
@@ -133,7 +165,7 @@ struct Run {
     /// Items kept before each lent slice in this case.
     before: usize,
     /// Calls that gave each number.
-    hits: [[u64; NUMBERS]; 8],
+    hits: [[u64; NUMBERS]; NAMES.len()],
     /// By family: clauses given, and clauses that refusal 24 named.
     given: [u64; 7],
     falsified: [u64; 7],
@@ -141,6 +173,8 @@ struct Run {
     told: Told,
     /// What floors and families H tell from wrong ones.
     told_floors: floors::Told,
+    /// What sizes and writers' answers tell from wrong ones.
+    told_sizes: sizes::Told,
     /// Accepted plans and valuations that came back as they were.
     round_trips: u64,
 }
@@ -204,18 +238,24 @@ impl Run {
                 ),
             );
         }
-        let filled = match answer.number {
-            0 if !matches!(asked.call, CHECK | FLOOR) => answer.second as usize,
+        let filled = match asked.call {
+            _ if answer.number != 0 => 0,
+            WRITER | PRUNED => asked.words,
+            CLAUSE | DECODER | ENCODER | READER => answer.second as usize,
             _ => 0,
         };
         if filled > length {
-            self.fail(asked, &format!("slice {length}: {answer:?} counts more"));
-        }
-        let kept = |i: usize| left[i] == T::pattern(i);
-        if !(0..lent.start).all(kept) || !(lent.start + filled..left.len()).all(kept) {
             self.fail(
                 asked,
-                &format!("slice {length}, {answer:?}: touched beyond"),
+                &format!("slice {length}: {answer:?}, but {filled} to be filled"),
+            );
+        }
+        let filled = lent.start..lent.start + filled;
+        let kept = |i: usize| left[i] == T::pattern(i);
+        if !(0..left.len()).all(|i| kept(i) != filled.contains(&i)) {
+            self.fail(
+                asked,
+                &format!("slice {length}, {answer:?}: other places than the first are filled"),
             );
         }
         let number = answer.number as usize;
@@ -227,24 +267,91 @@ impl Run {
         (answer, left.split_off(lent.start))
     }
 
-    fn write(&mut self, instance: &[u8], horizon: u64, length: usize) -> (Said, Vec<i32>) {
-        let asked = Asked {
-            call: WRITER,
+    /// Both size calls: they refuse alike, or the pruned formula is longer by clauses of two words.
+    fn sizes(&mut self, instance: &[u8], horizon: u64) -> [Said; 2] {
+        let asked = |call: usize| Asked {
+            call,
             instance,
             horizon,
-            clause: None,
-            plan: None,
-            entries: None,
-            text: None,
+            ..Asked::default()
+        };
+        let (formula, _) = self.both::<u8, _, _>(
+            &asked(SIZE),
+            0,
+            |instance, _| runglaet::formula_size(instance, horizon),
+            |instance, _| independent::formula_size(instance, horizon),
+        );
+        let (pruned, _) = self.both::<u8, _, _>(
+            &asked(PRUNED_SIZE),
+            0,
+            |instance, _| runglaet::pruned_size(instance, horizon),
+            |instance, _| independent::pruned_size(instance, horizon),
+        );
+        let agree = match formula.number {
+            0 => {
+                let added = pruned.clauses.checked_sub(formula.clauses);
+                let longer = added.map(|clauses| formula.second + 2 * clauses);
+                pruned.number == 0 && longer == Some(pruned.second)
+            }
+            _ => pruned == formula && formula.clauses == 0,
+        };
+        if !agree {
+            self.fail(
+                &asked(PRUNED_SIZE),
+                &format!("{pruned:?} beside {formula:?}"),
+            );
+        }
+        let sizes = [formula.size(), pruned.size()];
+        for with_h in [false, true] {
+            self.told_sizes.size(with_h, instance, horizon, sizes);
+        }
+        [formula, pruned]
+    }
+
+    /// A writer, of the formula or of the pruned one. It accepts exactly where its size call does and the slice has so many
+    /// words or more, and fills so many.
+    fn write(
+        &mut self,
+        call: usize,
+        instance: &[u8],
+        horizon: u64,
+        length: usize,
+    ) -> (Said, Vec<i32>) {
+        let with_h = call == PRUNED;
+        let size = self.sizes(instance, horizon)[usize::from(with_h)];
+        let asked = Asked {
+            call,
+            instance,
+            horizon,
+            words: size.second as usize,
+            ..Asked::default()
+        };
+        let (ours, theirs): (Writer<runglaet::Answer>, Writer<Answer>) = match with_h {
+            false => (runglaet::write_formula, independent::write_formula),
+            true => (runglaet::write_pruned, independent::write_pruned),
         };
         let (answer, words) = self.both(
             &asked,
             length,
-            |instance, words| runglaet::write_formula(instance, horizon, words),
-            |instance, words| independent::write_formula(instance, horizon, words),
+            |instance, words| ours(instance, horizon, words),
+            |instance, words| theirs(instance, horizon, words),
         );
-        if answer.number != 0 && answer.clauses != 0 {
-            self.fail(&asked, "a refusal counts clauses");
+        let expected = match size.number {
+            0 if length as u64 >= size.second => Said::new(0, 0, 0),
+            0 => Said::new(12, size.second, 0),
+            number => Said::new(number, size.second, 0),
+        };
+        if answer != expected {
+            self.fail(
+                &asked,
+                &format!("slice {length}: {answer:?} beside {size:?}"),
+            );
+        }
+        self.told_sizes
+            .writer(with_h, answer.answer(), size.size(), length);
+        if with_h && answer.number == 0 && self.tells(instance) {
+            self.told_floors
+                .pruned(instance, horizon, &words[..asked.words]);
         }
         (answer, words)
     }
@@ -261,9 +368,7 @@ impl Run {
             instance,
             horizon,
             clause: Some(clause),
-            plan: None,
-            entries: None,
-            text: None,
+            ..Asked::default()
         };
         let result = self.both(
             &asked,
@@ -282,10 +387,8 @@ impl Run {
             call: CHECK,
             instance,
             horizon,
-            clause: None,
             plan: Some(plan),
-            entries: None,
-            text: None,
+            ..Asked::default()
         };
         let input = Input::new(self.before, plan);
         let (answer, _) = self.both::<u8, _, _>(
@@ -314,10 +417,8 @@ impl Run {
             call: DECODER,
             instance,
             horizon,
-            clause: None,
-            plan: None,
             entries: Some(entries),
-            text: None,
+            ..Asked::default()
         };
         let input = Input::new(self.before, entries);
         let result = self.both(
@@ -347,10 +448,8 @@ impl Run {
             call: ENCODER,
             instance,
             horizon,
-            clause: None,
             plan: Some(plan),
-            entries: None,
-            text: None,
+            ..Asked::default()
         };
         let input = Input::new(self.before, plan);
         let result = self.both(
@@ -376,10 +475,8 @@ impl Run {
             call: READER,
             instance,
             horizon,
-            clause: None,
-            plan: None,
-            entries: None,
             text: Some(text),
+            ..Asked::default()
         };
         let input = Input::new(self.before, text);
         let result = self.both(
@@ -399,10 +496,7 @@ impl Run {
             call: FLOOR,
             instance,
             horizon: 0,
-            clause: None,
-            plan: None,
-            entries: None,
-            text: None,
+            ..Asked::default()
         };
         let (answer, _) = self.both::<u8, _, _>(
             &asked,
@@ -422,57 +516,26 @@ impl Run {
         self.part != "random" || self.case.is_multiple_of(4) && instance[0] <= 16
     }
 
-    fn write_pruned(&mut self, instance: &[u8], horizon: u64, length: usize) -> (Said, Vec<i32>) {
-        let asked = Asked {
-            call: PRUNED,
-            instance,
-            horizon,
-            clause: None,
-            plan: None,
-            entries: None,
-            text: None,
-        };
-        let (answer, words) = self.both(
-            &asked,
-            length,
-            |instance, words| runglaet::write_pruned(instance, horizon, words),
-            |instance, words| independent::write_pruned(instance, horizon, words),
-        );
-        if answer.number != 0 && answer.clauses != 0 {
-            self.fail(&asked, "a refusal counts clauses");
-        }
-        if answer.number == 0 && self.tells(instance) {
-            let words = &words[..answer.second as usize];
-            self.told_floors.pruned(instance, horizon, words);
-        }
-        (answer, words)
-    }
-
     /// The pruned formula in an exact slice and in slices too short. It must begin with the formula, and what is after it
     /// be a clause of one negative literal each.
     fn pruned(&mut self, instance: &[u8], m: u64) {
-        let needed = self.write_pruned(instance, m, 0).0.second as usize;
-        self.write_pruned(instance, m, needed - 1);
-        let (pruned, all) = self.write_pruned(instance, m, needed);
-        let first = self.write(instance, m, 0).0.second as usize;
-        let (formula, words) = self.write(instance, m, first);
-        let family_h = all[first..].chunks_exact(2);
-        let clauses = formula.clauses + family_h.len() as u64;
+        let [first, needed] = self.sizes(instance, m).map(|size| size.second as usize);
+        self.write(PRUNED, instance, m, 0);
+        self.write(PRUNED, instance, m, needed - 1);
+        let (_, all) = self.write(PRUNED, instance, m, needed);
+        let (_, words) = self.write(WRITER, instance, m, first);
         let right = |clause: &[i32]| clause[0] < 0 && clause[1] == 0;
-        if all[..first] != words[..] || pruned.clauses != clauses || !family_h.clone().all(right) {
+        if all[..first] != words[..] || !all[first..].chunks_exact(2).all(right) {
             let asked = Asked {
                 call: PRUNED,
                 instance,
                 horizon: m,
-                clause: None,
-                plan: None,
-                entries: None,
-                text: None,
+                ..Asked::default()
             };
             self.fail(&asked, "it is not the formula and clauses of one literal");
         }
         // Without family H it would fit.
-        self.write_pruned(instance, m, first);
+        self.write(PRUNED, instance, m, first);
     }
 
     /// All calls that take a plan, and the way to a valuation and back.
@@ -486,10 +549,9 @@ impl Run {
             call: DECODER,
             instance,
             horizon,
-            clause: None,
             plan: Some(plan),
             entries: Some(&entries),
-            text: None,
+            ..Asked::default()
         };
         if checked.number != 0 {
             self.fail(&asked, "the encoder takes a plan that the check refuses");
@@ -513,10 +575,9 @@ impl Run {
             call: ENCODER,
             instance,
             horizon,
-            clause: None,
             plan: Some(plan),
             entries: Some(entries),
-            text: None,
+            ..Asked::default()
         };
         let (encoded, back) = self.encode(instance, horizon, plan, entries.len());
         if encoded.number != 0 || back != entries {
@@ -535,7 +596,8 @@ impl Run {
         }
     }
 
-    /// Texts with known answers, for the pair at m 1, plans with known costs, and maps with known floors and families H.
+    /// Texts with known answers, for the pair at m 1, plans with known costs, maps with known floors and families H, and
+    /// formulas with known sizes.
     fn worked(&mut self) {
         self.part = "worked";
         let pair = [2, 1, 1, 0, 0, 1, 0, 1];
@@ -559,13 +621,24 @@ impl Run {
         }
         for (instance, m, literals) in floors::worked_h() {
             self.case += 1;
-            let (formula, _) = self.write(&instance, m, 0);
-            let words = formula.second as usize + 2 * literals.len();
-            let (answer, written) = self.write_pruned(&instance, m, words + 1);
-            assert_eq!((answer.number, answer.second), (0, words as u64));
-            let family_h = written[formula.second as usize..words].iter().step_by(2);
+            let first = self.sizes(&instance, m)[0].second as usize;
+            let words = first + 2 * literals.len();
+            let (answer, written) = self.write(PRUNED, &instance, m, words + 1);
+            assert_eq!(answer, Said::new(0, 0, 0));
+            let family_h = written[first..words].iter().step_by(2);
             assert!(family_h.eq(&literals));
             self.pruned(&instance, m);
+        }
+        for (instance, m, expected) in sizes::worked() {
+            self.case += 1;
+            let expected = expected.map(|(words, clauses)| Said::new(0, words, clauses));
+            assert_eq!(self.sizes(&instance, m), expected);
+            for (call, size) in [WRITER, PRUNED].into_iter().zip(expected) {
+                let words = size.second as usize;
+                for length in [0, words - 1, words, words + 1] {
+                    self.write(call, &instance, m, length);
+                }
+            }
         }
     }
 
@@ -614,11 +687,13 @@ impl Run {
     /// The formula in an exact slice and every clause in its own, with `short` also in slices too short; the clauses
     /// must make the formula.
     fn formula(&mut self, instance: &[u8], m: u64, short: bool) {
-        let needed = self.write(instance, m, 0).0.second as usize;
-        self.write(instance, m, needed - 1);
-        let (answer, words) = self.write(instance, m, needed);
+        let [size, _] = self.sizes(instance, m);
+        let needed = size.second as usize;
+        self.write(WRITER, instance, m, 0);
+        self.write(WRITER, instance, m, needed - 1);
+        let (_, words) = self.write(WRITER, instance, m, needed);
         let mut at = 0;
-        for number in 0..answer.clauses {
+        for number in 0..size.clauses {
             let rest = &words[at..];
             let length = rest
                 .iter()
@@ -631,20 +706,18 @@ impl Run {
             let (given, clause) = self.clause(instance, m, number, length);
             let whole = given.number == 0 && clause[..] == rest[..length];
             at += length;
-            if !whole || (number + 1 == answer.clauses && at != words.len()) {
+            if !whole || (number + 1 == size.clauses && at != words.len()) {
                 let asked = Asked {
                     call: CLAUSE,
                     instance,
                     horizon: m,
                     clause: Some(number),
-                    plan: None,
-                    entries: None,
-                    text: None,
+                    ..Asked::default()
                 };
                 self.fail(&asked, "the clauses do not make the formula");
             }
         }
-        self.clause(instance, m, answer.clauses, 66);
+        self.clause(instance, m, size.clauses, 66);
         self.clause(instance, m, u64::MAX, 66);
     }
 
@@ -718,8 +791,8 @@ impl Run {
                 }
             }
         }
-        self.write(&instance, 33, 4);
-        self.write_pruned(&instance, 33, 4);
+        self.write(WRITER, &instance, 33, 4);
+        self.write(PRUNED, &instance, 33, 4);
     }
 
     /// n 64, k 16, 2016 edges, m 32.
@@ -731,16 +804,16 @@ impl Run {
         let (instance, plan) = g.walk(64, 16, 100, m);
         for instance in [&instance, &largest_instance()] {
             self.case += 1;
-            let needed = self.write(instance, 32, 0).0.second as usize;
-            assert_eq!(needed, 7_625_296);
-            self.write(instance, 32, needed - 1);
-            let (answer, words) = self.write(instance, 32, needed + 5);
-            assert_eq!(answer.clauses, 1_842_736);
+            let sizes = self.sizes(instance, 32);
             // At times 0 and 32 each agent can be at one vertex only.
-            let (answer, _) = self.write_pruned(instance, 32, needed);
-            assert_eq!(answer, Said::new(12, 7_625_296 + 4_032, 0));
-            let (answer, _) = self.write_pruned(instance, 32, needed + 4_032 + 5);
-            assert_eq!(answer, Said::new(0, 7_625_296 + 4_032, 1_842_736 + 2_016));
+            let formula = Said::new(0, 7_625_296, 1_842_736);
+            let pruned = Said::new(0, 7_625_296 + 4_032, 1_842_736 + 2_016);
+            assert_eq!(sizes, [formula, pruned]);
+            let [needed, pruned] = sizes.map(|size| size.second as usize);
+            self.write(WRITER, instance, 32, needed - 1);
+            let (_, words) = self.write(WRITER, instance, 32, needed + 5);
+            self.write(PRUNED, instance, 32, needed);
+            self.write(PRUNED, instance, 32, pruned + 5);
             self.floor(instance);
             let mut ends = Vec::new();
             let mut from = 0;
@@ -886,30 +959,26 @@ impl Run {
             _ => {}
         }
 
-        let needed = independent::write_formula(&instance, horizon, &mut []);
-        let words = match needed.number {
-            12 => needed.second as usize,
-            _ => 24,
-        };
+        let [words, pruned] = self
+            .sizes(&instance, horizon)
+            .map(|size| match size.number {
+                0 => size.second as usize,
+                _ => 24,
+            });
         let small = words < 200_000 || g.chance(5);
         for _ in 0..2 {
             let length = some_length(g, words);
             if small || length < words {
-                self.write(&instance, horizon, length);
+                self.write(WRITER, &instance, horizon, length);
             }
         }
         self.floor(&instance);
-        let needed = independent::write_pruned(&instance, horizon, &mut []);
-        let pruned = match needed.number {
-            12 => needed.second as usize,
-            _ => 28,
-        };
         let length = match g.below(6) {
             0 => words,
             _ => some_length(g, pruned),
         };
         if small || length < pruned {
-            self.write_pruned(&instance, horizon, length);
+            self.write(PRUNED, &instance, horizon, length);
         }
         self.some_map(g, n, k);
         let count = independent::clause(&instance, horizon, u64::MAX, &mut []).second;
@@ -959,9 +1028,11 @@ impl Run {
         }
     }
 
-    /// A map of some kind of this size: the floor, and the pruned writer at a horizon around it, or any.
+    /// A map of some kind of this size: the sizes at any horizon, the floor, and the pruned writer at a horizon around it,
+    /// or any.
     fn some_map(&mut self, g: &mut Generator, n: usize, k: usize) {
         let instance = g.mapped(n, k);
+        self.sizes(&instance, g.below(33) as u64);
         let answer = self.floor(&instance);
         let most = if n * k > 16 { 4 } else { 33 };
         let m = match (answer.number, g.below(4)) {
@@ -969,9 +1040,9 @@ impl Run {
             _ => g.below(most) as u64,
         };
         let m = m.min(most as u64 - 1);
-        let needed = independent::write_pruned(&instance, m, &mut []).second;
-        let length = some_length(g, needed as usize);
-        self.write_pruned(&instance, m, length);
+        let [_, size] = self.sizes(&instance, m);
+        let length = some_length(g, size.second as usize);
+        self.write(PRUNED, &instance, m, length);
     }
 
     /// The tables; true when each call gave every number it can, families all came, and wrong programs were all told.
@@ -1018,7 +1089,9 @@ impl Run {
             complete &= plans > 0;
         }
         println!("\n{:>8}  tell from the right answer", "answers");
-        for (name, answers) in self.told_floors.times() {
+        let floors = self.told_floors.times();
+        let floors = floors.map(|(name, answers)| (name.to_string(), answers));
+        for (name, answers) in floors.chain(self.told_sizes.times()) {
             println!("{answers:>8}  {name}");
             complete &= answers > 0;
         }
@@ -1100,11 +1173,12 @@ fn main() {
         part: "",
         case: 0,
         before: 1,
-        hits: [[0; NUMBERS]; 8],
+        hits: [[0; NUMBERS]; NAMES.len()],
         given: [0; 7],
         falsified: [0; 7],
         told: Told::default(),
         told_floors: floors::Told::default(),
+        told_sizes: sizes::Told::default(),
         round_trips: 0,
     };
     println!("seed {seed}, {count} random cases");

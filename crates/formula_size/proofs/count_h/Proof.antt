@@ -1,4 +1,4 @@
--- `pruned_writer::count_h` meets its contract. The loop keeps the sum over the agents passed. Assumes nothing.
+-- `formula_size::count_h` meets its contract. The loop keeps the sum over the agents passed. Assumes nothing.
 use mathlib.Core.Path.{_≡_, refl, _∙_, ap, ap₂}
 use mathlib.Core.List.{List}
 use Prim.Native.Nat.{ℕ, suc, _+_, _-_, _*_, _≤_, min}
@@ -10,8 +10,8 @@ use Rattle.instance.specs.declared.Sizes.{Sizes}
 use Rattle.formula.specs.Pruned.{countH}
 use Rattle.distances.specs.Table.{byTable}
 use borrow.Author.Needs.{needs}
-use Rattle.pruned_writer.proofs.count_h.Statement.{statement}
-use Rattle.pruned_writer.proofs.count_h.Tie as tie
+use Rattle.formula_size.proofs.count_h.Statement.{statement}
+use Rattle.formula_size.proofs.count_h.Tie as tie
 
 -- of one agent
 abbrev share : Sizes → (ℕ → ℕ) → (ℕ → ℕ) → ℕ

@@ -1,4 +1,4 @@
--- `pruned_writer::count_for` meets its contract. The loop keeps the sum over the vertices passed. Assumes nothing.
+-- `formula_size::count_for` meets its contract. The loop keeps the sum over the vertices passed. Assumes nothing.
 use mathlib.Core.Path.{_≡_, refl, _∙_, ap, ap₂}
 use Prim.Native.Nat.{ℕ, suc, _+_, _-_, _*_, _≤_, min}
 use native.Mathlib.Numerals.{add-one}
@@ -6,8 +6,8 @@ use native.Mathlib.Omega.{arith}
 use lib.ListN.{getD}
 use Rattle.lists.specs.Loop.{sum}
 use borrow.Author.Needs.{needs}
-use Rattle.pruned_writer.proofs.count_for.Statement.{statement}
-use Rattle.pruned_writer.proofs.count_for.Tie as tie
+use Rattle.formula_size.proofs.count_for.Statement.{statement}
+use Rattle.formula_size.proofs.count_for.Tie as tie
 
 abbrev Inv-loop : tie.InvT-loop
 Inv-loop from to n m count₀ v₀ count v =

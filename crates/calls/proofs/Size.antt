@@ -1,0 +1,66 @@
+-- The size of any formula, and its writer.
+use mathlib.Core.Path.{_≡_, refl, sym, _∙_, ap}
+use mathlib.Core.Logic.{_≢_, by-cases}
+use mathlib.Core.List.{List, [], _∷_}
+use Prim.Native.Nat.{ℕ, _≤_, _<_}
+use native.Mathlib.Decide.{decLt}
+use native.Mathlib.Omega.{arith}
+use lib.ListN.{length}
+use lib.Dec.{leb}
+use Rattle.lists.proofs.Tests.{leb-iff}
+use Rattle.answers.specs.declared.Answer.{Answer}
+use Rattle.answers.specs.Answers.{refuse, accept, decide, withClauses}
+use Rattle.answers.proofs.Laws.{ask-yes, ask-no, asked-all, count-free, decide-count, byNumber-refused}
+use Rattle.instance.specs.Instance.{Instance, instance}
+use Rattle.instance.specs.Questions.{instanceAnswer}
+use Rattle.instance.proofs.Instance.{instance-iff, first-refused, first-passed}
+use Rattle.formula.specs.Formula.{Formula, words}
+use Rattle.calls.specs.Questions.{question12}
+use Rattle.calls.specs.Calls.{writeRest, sizeQuestions, sizeAnswer, writeAnswer}
+
+-- 12, where so many words are needed, for a slice with so much room
+module _ (needed room : ℕ) where
+  pub stop-12 : room < needed → refuse 12 needed ≡ decide (question12 needed room ∷ []) 0
+  stop-12 l = sym (ask-no (leb needed room) _ [] 0 (λ t. omega (arith, leb-iff needed room .0 t)))
+
+  pub pass-12 : needed ≤ room → accept 0 ≡ decide (question12 needed room ∷ []) 0
+  pass-12 l = asked-all ∙ sym (ask-yes (leb needed room) _ [] 0 (leb-iff needed room .1 l))
+
+  -- a slice that is not refused has room
+  pub fits-12 : (r : Answer) → r ≡ decide (question12 needed room ∷ []) 0 → r .number ≡ 0 → needed ≤ room
+  fits-12 r e z =
+      by-cases (decLt room needed)
+      (λ l. let x : ⊥ = omega (arith, z, ap (λ (a : Answer). a .number) (e ∙ sym (stop-12 l))) in absurd x)
+      (λ l. omega arith)
+
+-- beside a refusal no clause count is seen
+no-clauses : (a : Answer) (count : ℕ) → a .number ≢ 0 → withClauses a 0 ≡ withClauses a count
+unfolding withClauses
+no-clauses a count d =
+    ap (λ (q : ℕ). record { number = a .number; second = a .second; clauses = q })
+    (byNumber-refused (a .number) 0 0 d ∙ sym (byNumber-refused (a .number) count 0 d))
+
+-- the answers, by that of the instance check
+module _ (f : Instance → Formula) (b : List ℕ) (m : ℕ) where
+  abbrev asked : Formula
+  asked = f (instance b m)
+
+  pub size-refused : instanceAnswer b m .number ≢ 0 → withClauses (instanceAnswer b m) 0 ≡ sizeAnswer f b m
+  unfolding sizeAnswer instanceAnswer
+  size-refused d =
+      no-clauses (instanceAnswer b m) (length (asked .clauses)) d
+      ∙ ap (λ (a : Answer). withClauses a (length (asked .clauses))) (count-free (sizeQuestions b m) 0 (length (words asked)) d)
+
+  pub size-accepted : instanceAnswer b m .number ≡ 0 → withClauses (accept (length (words asked))) (length (asked .clauses)) ≡ sizeAnswer f b m
+  unfolding sizeAnswer
+  size-accepted e =
+      ap (λ (a : Answer). withClauses a (length (asked .clauses)))
+      (sym (decide-count (sizeQuestions b m) (length (words asked)) (instance-iff b m .0 e)))
+
+  pub write-refused : instanceAnswer b m .number ≢ 0 → (room : ℕ) → instanceAnswer b m ≡ writeAnswer f b m room
+  unfolding writeAnswer
+  write-refused d room = first-refused b m _ refl (writeRest asked room) 0 d
+
+  pub write-passed : instanceAnswer b m .number ≡ 0 → (room : ℕ) → decide (writeRest asked room) 0 ≡ writeAnswer f b m room
+  unfolding writeAnswer
+  write-passed e room = first-passed b m _ refl (writeRest asked room) 0 e

@@ -1,0 +1,70 @@
+-- The size of any formula, from its counts; and the counts of the pruned formula, by the table.
+use mathlib.Core.Path.{_≡_, sym, _∙_, ap, ap₂, subst}
+use mathlib.Core.Logic.{_≢_}
+use mathlib.Core.List.{List}
+use Prim.Native.Nat.{ℕ, _+_, _*_, _<_}
+use native.Mathlib.Omega.{arith}
+use lib.ListN.{length}
+use Rattle.answers.specs.declared.Answer.{Answer}
+use Rattle.answers.specs.Answers.{accept, withClauses}
+use Rattle.instance.specs.declared.Sizes.{Sizes}
+use Rattle.instance.specs.declared.Checked.{Checked}
+use Rattle.instance.specs.Instance.{Instance}
+use Rattle.instance.specs.Questions.{instanceAnswer, instanceChecked}
+use Rattle.instance.specs.Accepted.{Accepted, instanceOf}
+use Rattle.instance.proofs.Accepted.{sizes-same, graph, limits-known, ready, shown}
+use Rattle.instance.proofs.Call.{horizon}
+use Rattle.distances.specs.Distance.{unreachable, distance}
+use Rattle.distances.specs.Table.{cell, TableOf, byTable}
+use Rattle.distances.proofs.Table.{table-distance}
+use Rattle.formula.specs.Formula.{Formula, words}
+use Rattle.formula.specs.Counts.{clauseCount, wordCount}
+use Rattle.formula.specs.Pruned.{countH, fromStart, fromGoal, pruned, prunedClauses, prunedWords}
+use Rattle.formula.proofs.Pruned.{count-H-ext, pruned-clause-count, pruned-word-count}
+use Rattle.calls.specs.Calls.{sizeAnswer}
+use Rattle.calls.proofs.Size.{size-refused, size-accepted}
+use Rattle.formula_size.specs.ByTable.{countByTable}
+
+-- the answer of the instance check is a, the checked instance c
+module _ (f : Instance → Formula) (b : List ℕ) (m : ℕ) (a : Answer) (c : Checked) (ea : a ≡ instanceAnswer b m) (ec : c ≡ instanceChecked b m) where
+  pub refuses : a .number ≢ 0 → withClauses a 0 ≡ sizeAnswer f b m
+  refuses d = ap (λ (x : Answer). withClauses x 0) ea ∙ size-refused f b m (subst (λ (x : Answer). x .number ≢ 0) ea d)
+
+  pub accepts : a .number ≡ 0 → (x y : ℕ) → length (words (f (instanceOf b c))) ≡ x → length (f (instanceOf b c) .clauses) ≡ y
+      → withClauses (accept x) y ≡ sizeAnswer f b m
+  accepts o x y ex ey =
+      ap₂ (λ (i j : ℕ). withClauses (accept i) j) (sym ex) (sym ey)
+      ∙ ap (λ (I : Instance). withClauses (accept (length (words (f I)))) (length (f I .clauses))) (horizon b m a c ea ec o)
+      ∙ size-accepted f b m (sym (ap (λ (x : Answer). x .number) ea) ∙ o)
+
+module _ (b : List ℕ) (c : Checked) (w : Accepted b c) (table : List (List ℕ)) (t : TableOf (c .sizes .n) (c .near) table) where
+  abbrev I : Instance
+  I = instanceOf b c
+
+  entry : (v u : ℕ) → v < c .sizes .n → u < c .sizes .n → cell table v u ≡ distance I v u
+  entry = table-distance I (c .sizes) (c .near) (shown b c w .graph) table t
+
+  pub from-start : (a : ℕ) → a < c .sizes .k → (v : ℕ) → v < c .sizes .n → byTable table (c .starts) a v ≡ fromStart I a v
+  from-start a l v r = entry _ v (ready b c w .starts-below a l) r ∙ ap (λ (x : ℕ). distance I x v) (shown b c w .starts-at a l)
+
+  pub from-goal : (a : ℕ) → a < c .sizes .k → (v : ℕ) → v < c .sizes .n → byTable table (c .goals) a v ≡ fromGoal I a v
+  from-goal a l v r = entry _ v (ready b c w .goals-below a l) r ∙ ap (λ (x : ℕ). distance I x v) (shown b c w .goals-at a l)
+
+  table-count : countByTable (c .sizes) table (c .starts) (c .goals) ≡ countH (I .sizes) (fromStart I) (fromGoal I)
+  table-count =
+      count-H-ext (c .sizes) (byTable table (c .starts)) (byTable table (c .goals)) (fromStart I) (fromGoal I) from-start from-goal
+      ∙ ap (λ (s : Sizes). countH s (fromStart I) (fromGoal I)) (sizes-same b c w)
+
+  short : I .sizes .m < unreachable
+  short = let e = ap (λ (s : Sizes). s .m) (sizes-same b c w) in omega (arith, limits-known b c w .m-most)
+
+  -- from what the code has counted
+  module _ (more : ℕ) (e : more ≡ countByTable (c .sizes) table (c .starts) (c .goals)) where
+    pub pruned-word-count-held : length (words (pruned I)) ≡ wordCount (c .sizes) + 2 * more
+    unfolding prunedWords
+    pruned-word-count-held =
+        pruned-word-count I short (graph b c w) ∙ ap₂ (λ (x y : ℕ). x + 2 * y) (ap wordCount (sym (sizes-same b c w))) (sym table-count ∙ sym e)
+
+    pub pruned-clause-count-held : length (pruned I .clauses) ≡ clauseCount (c .sizes) + more
+    unfolding prunedClauses
+    pruned-clause-count-held = pruned-clause-count I short ∙ ap₂ _+_ (ap clauseCount (sym (sizes-same b c w))) (sym table-count ∙ sym e)
