@@ -50,7 +50,7 @@ module _ (b : List ℕ) (c : Checked) (w : Accepted b c) (table : List (List ℕ
   pub from-goal : (a : ℕ) → a < c .sizes .k → (v : ℕ) → v < c .sizes .n → byTable table (c .goals) a v ≡ fromGoal I a v
   from-goal a l v r = entry _ v (ready b c w .goals-below a l) r ∙ ap (λ (x : ℕ). distance I x v) (shown b c w .goals-at a l)
 
-  table-count : countByTable (c .sizes) table (c .starts) (c .goals) ≡ countH (I .sizes) (fromStart I) (fromGoal I)
+  table-count : countByTable c table ≡ countH (I .sizes) (fromStart I) (fromGoal I)
   table-count =
       count-H-ext (c .sizes) (byTable table (c .starts)) (byTable table (c .goals)) (fromStart I) (fromGoal I) from-start from-goal
       ∙ ap (λ (s : Sizes). countH s (fromStart I) (fromGoal I)) (sizes-same b c w)
@@ -59,7 +59,7 @@ module _ (b : List ℕ) (c : Checked) (w : Accepted b c) (table : List (List ℕ
   short = let e = ap (λ (s : Sizes). s .m) (sizes-same b c w) in omega (arith, limits-known b c w .m-most)
 
   -- from what the code has counted
-  module _ (more : ℕ) (e : more ≡ countByTable (c .sizes) table (c .starts) (c .goals)) where
+  module _ (more : ℕ) (e : more ≡ countByTable c table) where
     pub pruned-word-count-held : length (words (pruned I)) ≡ wordCount (c .sizes) + 2 * more
     unfolding prunedWords
     pruned-word-count-held =

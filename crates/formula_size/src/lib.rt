@@ -1,6 +1,7 @@
 // How large a formula is, in words and in clauses. Nothing is lent.
 use answers::Answer;
 use answers::Size;
+use instance::Checked;
 use instance::Sizes;
 ghost use mathlib.Core.Path.{_≡_};
 ghost use mathlib.Core.Logic.{_≢_};
@@ -9,11 +10,12 @@ ghost use lib.ListN.{length, getD};
 ghost use Rattle.lists.specs.Loop.{sum};
 ghost use Rattle.answers.specs.Answers.{accept, withClauses};
 ghost use Rattle.instance.specs.Limits.{Limits};
+ghost use Rattle.instance.specs.Ready.{Ready};
 ghost use Rattle.formula.specs.Formula.{formula};
 ghost use Rattle.formula.specs.Counts.{wordCount};
 ghost use Rattle.formula.specs.Pruned.{pruned};
 ghost use Rattle.calls.specs.Calls.{sizeAnswer};
-ghost use Rattle.formula_size.specs.ByTable.{countByTable, Inside};
+ghost use Rattle.formula_size.specs.ByTable.{countByTable};
 
 // What was refused has no clauses.
 fn refused(a: Answer) -> Size
@@ -51,16 +53,16 @@ pub fn formula_size(b: &[u8], m: usize) -> Size
     accepted(counts::word_count(s), counts::clause_count(s))
 }
 
-// How many times from 0 to m are too early or too late for a vertex.
-fn times_far(m: usize, x: u8, y: u8) -> usize
-    requires { ⌜ m ≤ 32 ⌝ }
-    ensures { λ r. ⌜ (r ≡ min (suc m) (x + y)) × (r ≤ 33) ⌝ }
+// Of so many times, how many are too early or too late for a vertex. 16 bits, so that several vertices are taken at once.
+fn times_far(times: u16, x: u8, y: u8) -> u16
+    requires { ⌜ times ≤ 33 ⌝ }
+    ensures { λ r. ⌜ (r ≡ min times (x + y)) × (r ≤ 33) ⌝ }
 {
-    let both = numbers::wide(x) + numbers::wide(y);
-    if both < m + 1 {
+    let both = x as u16 + y as u16;
+    if both < times {
         return both;
     }
-    m + 1
+    times
 }
 
 // The clauses of H, of one agent.
@@ -69,26 +71,27 @@ fn count_for(s: Sizes, from: &[u8; 64], to: &[u8; 64]) -> usize
     ensures { λ r. ⌜ (r ≡ sum (s .n) (λ v. min (suc (s .m)) (getD (now (from .entry)) v 0 + getD (now (to .entry)) v 0))) × (r ≤ 2112) ⌝ }
 {
     let n = s.n;
-    let m = s.m;
-    let mut count: usize = 0;
+    let times = (s.m + 1) as u16;
+    let mut count: u16 = 0;
     for v in 0..n {
-        count += times_far(m, from[v], to[v]);
+        count += times_far(times, from[v], to[v]);
     }
-    count
+    count as usize
 }
 
-// The clauses of H.
-pub fn count_h(s: Sizes, starts: &[u8; 16], goals: &[u8; 16], table: &[[u8; 64]]) -> usize
-    requires { ⌜ Limits s ⌝ }
-    requires { ⌜ Inside s (now starts) (now goals) ⌝ }
-    requires { ⌜ length (now table) ≡ 64 ⌝ }
-    ensures { λ r. ⌜ (r ≡ countByTable s (now (table .entry)) (now (starts .entry)) (now (goals .entry))) × (r ≤ 33792) ⌝ }
+// The clauses of H, of a checked instance and its table.
+pub fn count_h(c: Checked, table: &[[u8; 64]]) -> usize
+    requires { ⌜ Ready (c .sizes) (c .starts) (c .goals) (c .near) × (length (now table) ≡ 64) ⌝ }
+    ensures { λ r. ⌜ (r ≡ countByTable c (now (table .entry))) × (r ≤ 33792) ⌝ }
 {
+    let s = c.sizes;
+    let starts = c.starts;
+    let goals = c.goals;
     let k = s.k;
     let mut count: usize = 0;
     for a in 0..k {
-        let from = distance_table::row_for(table, starts, a);
-        let to = distance_table::row_for(table, goals, a);
+        let from = distance_table::row_for(table, &starts, a);
+        let to = distance_table::row_for(table, &goals, a);
         count += count_for(s, &from, &to);
     }
     count
@@ -113,9 +116,7 @@ pub fn pruned_size(b: &[u8], m: usize) -> Size
         return refused(answer);
     }
     let s = c.sizes;
-    let starts = c.starts;
-    let goals = c.goals;
     let table = distance_table::table_of(&c.near, s.n);
-    let more = count_h(s, &starts, &goals, &table);
+    let more = count_h(c, &table);
     accepted(pruned_words(s, more), counts::clause_count(s) + more)
 }

@@ -1,6 +1,7 @@
 -- Family H as the code has it: the distances are the table's.
 use mathlib.Core.List.{List}
-use Prim.Native.Nat.{ℕ}
+use Prim.Native.Nat.{ℕ, _<_}
+use lib.ListN.{getD}
 use Rattle.lists.specs.Loop.{for}
 use Rattle.instance.specs.declared.Sizes.{Sizes}
 use Rattle.formula.specs.Formula.{Clause}
@@ -15,3 +16,7 @@ module _ (s : Sizes) (table : List (List ℕ)) (starts goals : List ℕ) where
   -- H
   abbrev pub byTableH : List Clause
   byTableH = H s (byTable table starts) (byTable table goals)
+
+-- each agent has a start and a goal below n
+abbrev pub Inside : Sizes → List ℕ → List ℕ → Type 0
+Inside s starts goals = (a : ℕ) → a < s .k → (getD starts a 0 < s .n) × (getD goals a 0 < s .n)

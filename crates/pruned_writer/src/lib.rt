@@ -19,8 +19,7 @@ ghost use Rattle.formula.specs.Formula.{line};
 ghost use Rattle.formula.specs.Blocks.{held, family};
 ghost use Rattle.formula.specs.Pruned.{tooFar, blockH, pruned};
 ghost use Rattle.calls.specs.Calls.{writeAnswer, writeSlice};
-ghost use Rattle.formula_size.specs.ByTable.{Inside};
-ghost use Rattle.pruned_writer.specs.ByTable.{stepByTable, byTableH};
+ghost use Rattle.pruned_writer.specs.ByTable.{stepByTable, byTableH, Inside};
 
 // Is a vertex at distance x from the start and y from the goal too far at time t? The mark is more than any time.
 fn too_far(m: usize, t: usize, x: u8, y: u8) -> bool
@@ -129,10 +128,8 @@ pub fn write_pruned(b: &[u8], m: usize, f: &mut [i32]) -> Answer
         return first;
     }
     let s = c.sizes;
-    let starts = c.starts;
-    let goals = c.goals;
     let table = distance_table::table_of(&c.near, s.n);
-    let more = formula_size::count_h(s, &starts, &goals, &table);
+    let more = formula_size::count_h(c, &table);
     let needed = formula_size::pruned_words(s, more);
     let answer = formula_writer::ask_room(needed, f.len());
     if answer.number != 0 {

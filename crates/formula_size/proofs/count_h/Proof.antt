@@ -18,36 +18,39 @@ abbrev share : Sizes → (ℕ → ℕ) → (ℕ → ℕ) → ℕ
 share s from to = sum (s .n) λ v. min (suc (s .m)) (from v + to v)
 
 abbrev Inv-loop : tie.InvT-loop
-Inv-loop s starts goals table k count₀ a₀ count a =
+Inv-loop table s starts goals k count₀ a₀ count a =
     (a ≤ k) × ((count ≡ sum a (λ i. share s (byTable table starts i) (byTable table goals i))) × (count ≤ a * 2112))
 
 abbrev μ-loop : tie.MeasureT-loop
-μ-loop s starts goals table k count₀ a₀ count a = k - a
+μ-loop table s starts goals k count₀ a₀ count a = k - a
 
 loop-holds : tie.Need-loop-holds Inv-loop μ-loop
 loop-holds c = (omega arith, (refl, omega arith))
 
 row-for-requires : tie.Need-row-for-requires Inv-loop μ-loop
-row-for-requires c κs = (omega (arith, c .before .before .pre .0 .k-most, c .loop-test .taken), omega (arith, c .before .before .pre .1 .0 (c .before .loop .a) (c .loop-test .taken) .0, c .before .before .pre .0 .n-most, c .before .before .pre .1 .1))
+row-for-requires c κs = (omega (arith, c .before .before .before .before .before .before .pre .0 .limits .k-most, c .before .loop-test .taken), omega (arith, c .before .before .before .before .before .before .pre .0 .starts-below (c .before .before .loop .a) (c .before .loop-test .taken), c .before .before .before .before .before .before .pre .0 .limits .n-most, c .before .before .before .before .before .before .pre .1))
 
 row-for-requires-2 : tie.Need-row-for-requires-2 Inv-loop μ-loop
-row-for-requires-2 c κs = (omega (arith, c .before .before .before .pre .0 .k-most, c .before .loop-test .taken), omega (arith, c .before .before .before .pre .1 .0 (c .before .before .loop .a) (c .before .loop-test .taken) .1, c .before .before .before .pre .0 .n-most, c .before .before .before .pre .1 .1))
+row-for-requires-2 c κs = (omega (arith, c .before .before .before .before .before .before .before .before .pre .0 .limits .k-most, c .before .before .before .loop-test .taken), omega (arith, c .before .before .before .before .before .before .before .before .pre .0 .goals-below (c .before .before .before .before .loop .a) (c .before .before .before .loop-test .taken), c .before .before .before .before .before .before .before .before .pre .0 .limits .n-most, c .before .before .before .before .before .before .before .before .pre .1))
+
+count-for-requires : tie.Need-count-for-requires Inv-loop μ-loop
+count-for-requires c κs = c .before .before .before .before .before .before .before .before .before .before .before .pre .0 .limits
 
 add-count : tie.Need-add-count Inv-loop μ-loop
-add-count c = omega (arith, c .count-for .ensures .1, c .before .before .before .before .before .before .before .pre .0 .k-most, c .before .before .before .before .before .before .loop .inv .1 .1)
+add-count c = omega (arith, c .count-for .ensures .1, c .before .before .before .before .before .before .before .before .before .before .before .before .pre .0 .limits .k-most, c .before .before .before .before .before .before .before .before .loop .inv .1 .1)
 
 loop-again : tie.Need-loop-again Inv-loop μ-loop
 loop-again c =
-    let e = ap₂ (λ (from to : List ℕ). share (c .before .before .before .before .before .before .before .args .s) (λ v. getD from v 0) (λ v. getD to v 0)) (c .before .before .before .before .row-for .ensures) (c .before .before .before .row-for2 .ensures) in (
+    let e = ap₂ (λ (from to : List ℕ). share (c .before .before .before .before .before .before .before .before .before .before .before .before .args .c .sizes) (λ v. getD from v 0) (λ v. getD to v 0)) (c .before .before .before .before .before .row-for .ensures) (c .before .before .before .row-for2 .ensures) in (
       omega arith,
-      (rw (add-one (c .before .before .before .before .before .before .loop .a)) (ap₂ _+_ (c .before .before .before .before .before .before .loop .inv .1 .0) (c .count-for .ensures .0 ∙ e)), omega (arith, c .count-for .ensures .1, c .before .before .before .before .before .before .loop .inv .1 .1)),
+      (rw (add-one (c .before .before .before .before .before .before .before .before .loop .a)) (ap₂ _+_ (c .before .before .before .before .before .before .before .before .loop .inv .1 .0) (c .count-for .ensures .0 ∙ e)), omega (arith, c .count-for .ensures .1, c .before .before .before .before .before .before .before .before .loop .inv .1 .1)),
     )
 
 returns : tie.Need-returns Inv-loop μ-loop
 unfolding countH
 returns c =
-    let e : c .before .loop .a ≡ c .before .before .args .s .k = omega arith in
-    (c .before .loop .inv .1 .0 ∙ ap (λ (j : ℕ). sum j (λ i. share (c .before .before .args .s) (byTable (c .before .before .args .table .now) (c .before .before .args .starts .now) i) (byTable (c .before .before .args .table .now) (c .before .before .args .goals .now) i))) e, omega (arith, c .before .before .pre .0 .k-most, c .before .loop .inv .1 .1))
+    let e : c .before .loop .a ≡ c .before .before .before .before .before .args .c .sizes .k = omega arith in
+    (c .before .loop .inv .1 .0 ∙ ap (λ (j : ℕ). sum j (λ i. share (c .before .before .before .before .before .args .c .sizes) (byTable (c .before .before .before .before .before .args .table .now) (c .before .before .before .before .before .args .c .starts) i) (byTable (c .before .before .before .before .before .args .table .now) (c .before .before .before .before .before .args .c .goals) i))) e, omega (arith, c .before .before .before .before .before .pre .0 .limits .k-most, c .before .loop .inv .1 .1))
 
 pub count-h-spec : {M : Type 1} → statement M
 count-h-spec =
@@ -58,7 +61,7 @@ count-h-spec =
     loop-holds
     row-for-requires
     row-for-requires-2
-    (λ c κs. search needs)
+    count-for-requires
     add-count
     (λ c. search needs)
     (λ c. search needs)

@@ -22,43 +22,40 @@ known : (c : tie.Else1) → Accepted (c .before .before .before .before .before 
 known c = passed (c .before .before .before .before .before .before .args .b .now) (c .before .before .before .before .before .before .args .m) (c .before .before .before .before .check-instance .result .answer) (c .before .before .before .before .check-instance .result .checked) (c .before .before .before .before .check-instance .ensures .0) (c .before .before .before .before .check-instance .ensures .1) (c .if1 .left)
 
 -- the words that are needed
-needed : (c : tie.After-pruned-words) → length (words (pruned (instanceOf (c .before .before .before .before .before .before .before .before .before .before .before .before .before .before .before .before .before .args .b .now) (c .before .before .before .before .before .before .before .before .before .before .before .before .before .before .before .check-instance .result .checked)))) ≡ c .pruned-words .result
-needed c =
-    omega (arith, pruned-word-count-held _ _ (known (c .before .before .before .before .before .before .before .before .before .before .before)) (c .before .before .before .before .before .table-of .result) (c .before .before .before .before .before .table-of .ensures .1) (c .before .count-h .result) (c .before .count-h .ensures .0), c .pruned-words .ensures)
+needed : (c : tie.After-pruned-words) → length (words (pruned (instanceOf (c .before .before .before .before .before .before .before .before .before .before .before .before .before .args .b .now) (c .before .before .before .before .before .before .before .before .before .before .before .check-instance .result .checked)))) ≡ c .pruned-words .result
+needed c = omega (arith, c .pruned-words .ensures, pruned-word-count-held _ _ (known (c .before .before .before .before .before .before .before)) (c .before .before .before .table-of .result) (c .before .before .before .table-of .ensures .1) (c .before .count-h .result) (c .before .count-h .ensures .0))
 
 returns : tie.Need-returns
 returns c = refuses pruned (c .before .before .before .before .before .before .args .b .now) (c .before .before .before .before .before .before .args .m) (c .before .before .before .before .check-instance .result .answer) (c .before .before .before .before .check-instance .result .checked) (c .before .before .before .before .check-instance .ensures .0) (c .before .before .before .before .check-instance .ensures .1) (c .before .before .before .before .before .before .args .f .now) (c .if1 .taken)
 
 table-of-requires : tie.Need-table-of-requires
-table-of-requires c κs = let r = ready _ _ (known (c .before .before .before .before .before)) in (r .limits .n-most, r .words-below)
+table-of-requires c κs = let r = ready _ _ (known (c .before .before .before)) in (r .limits .n-most, r .words-below)
 
 count-h-requires : tie.Need-count-h-requires
-count-h-requires c κs =
-    let r = ready _ _ (known (c .before .before .before .before .before .before .before .before .before)) in
-    (r .limits, ((λ a l. (r .starts-below a l, r .goals-below a l)), c .before .before .before .table-of .ensures .0))
+count-h-requires c κs = (ready _ _ (known (c .before .before .before .before .before)), c .before .table-of .ensures .0)
 
 pruned-words-requires : tie.Need-pruned-words-requires
-pruned-words-requires c κs = (limits-known _ _ (known (c .before .before .before .before .before .before .before .before .before .before)), omega (arith, c .count-h .ensures .1))
+pruned-words-requires c κs = (limits-known _ _ (known (c .before .before .before .before .before .before)), omega (arith, c .count-h .ensures .1))
 
 returns-2 : tie.Need-returns-2
 returns-2 c =
-    stops pruned (c .before .before .before .before .before .before .before .before .before .before .before .before .before .before .before .before .before .before .before .before .args .b .now) (c .before .before .before .before .before .before .before .before .before .before .before .before .before .before .before .before .before .before .before .before .args .m) (c .before .before .before .before .before .before .before .before .before .before .before .before .before .before .before .before .before .before .check-instance .result .answer) (c .before .before .before .before .before .before .before .before .before .before .before .before .before .before .before .before .before .before .check-instance .result .checked) (c .before .before .before .before .before .before .before .before .before .before .before .before .before .before .before .before .before .before .check-instance .ensures .0) (c .before .before .before .before .before .before .before .before .before .before .before .before .before .before .before .before .before .before .check-instance .ensures .1) (c .before .before .before .before .before .before .before .before .before .before .before .before .before .before .before .before .before .before .before .before .args .f .now) (c .before .before .before .before .before .before .before .before .before .before .before .before .before .before .if1 .left) (c .before .before .before .pruned-words .result) (needed (c .before .before .before))
+    stops pruned (c .before .before .before .before .before .before .before .before .before .before .before .before .before .before .before .before .args .b .now) (c .before .before .before .before .before .before .before .before .before .before .before .before .before .before .before .before .args .m) (c .before .before .before .before .before .before .before .before .before .before .before .before .before .before .check-instance .result .answer) (c .before .before .before .before .before .before .before .before .before .before .before .before .before .before .check-instance .result .checked) (c .before .before .before .before .before .before .before .before .before .before .before .before .before .before .check-instance .ensures .0) (c .before .before .before .before .before .before .before .before .before .before .before .before .before .before .check-instance .ensures .1) (c .before .before .before .before .before .before .before .before .before .before .before .before .before .before .before .before .args .f .now) (c .before .before .before .before .before .before .before .before .before .before .if1 .left) (c .before .before .before .pruned-words .result) (needed (c .before .before .before))
     (c .before .before .ask-room .result) (c .before .before .ask-room .ensures) (c .if2 .taken)
 
 write-all-requires : tie.Need-write-all-requires
 write-all-requires c κs =
-    let w = known (c .before .before .before .before .before .before .before .before .before .before .before .before .before .before .before .before) in (
-      (ready _ _ w, c .before .before .before .before .before .before .before .before .before .before .table-of .ensures .0),
-      rw (← (words-held (c .before .before .before .before .before .before .before .before .before .before .before .before .before .before .before .before .before .before .before .before .before .before .args .b .now) (c .before .before .before .before .before .before .before .before .before .before .before .before .before .before .before .before .before .before .before .before .check-instance .result .checked) w (c .before .before .before .before .before .before .before .before .before .before .table-of .result) (c .before .before .before .before .before .before .before .before .before .before .table-of .ensures .1)))
-          (omega (arith, needed (c .before .before .before .before .before), fits-12 (c .before .before .before .before .before .pruned-words .result) (length (c .before .before .before .before .before .before .before .before .before .before .before .before .before .before .before .before .before .before .before .before .before .before .args .f .now)) (c .before .before .before .before .ask-room .result) (c .before .before .before .before .ask-room .ensures) (c .before .before .if2 .left))),
+    let w = known (c .before .before .before .before .before .before .before .before .before .before .before .before) in (
+      (ready _ _ w, c .before .before .before .before .before .before .before .before .table-of .ensures .0),
+      rw (← (words-held (c .before .before .before .before .before .before .before .before .before .before .before .before .before .before .before .before .before .before .args .b .now) (c .before .before .before .before .before .before .before .before .before .before .before .before .before .before .before .before .check-instance .result .checked) w (c .before .before .before .before .before .before .before .before .table-of .result) (c .before .before .before .before .before .before .before .before .table-of .ensures .1)))
+          (omega (arith, needed (c .before .before .before .before .before), fits-12 (c .before .before .before .before .before .pruned-words .result) (length (c .before .before .before .before .before .before .before .before .before .before .before .before .before .before .before .before .before .before .args .f .now)) (c .before .before .before .before .ask-room .result) (c .before .before .before .before .ask-room .ensures) (c .before .before .if2 .left))),
     )
 
 returns-3 : tie.Need-returns-3
 returns-3 c =
-    writes pruned (c .before .before .before .before .before .before .before .before .before .before .before .before .before .before .before .before .before .before .before .before .before .before .before .before .args .b .now) (c .before .before .before .before .before .before .before .before .before .before .before .before .before .before .before .before .before .before .before .before .before .before .before .before .args .m) (c .before .before .before .before .before .before .before .before .before .before .before .before .before .before .before .before .before .before .before .before .before .before .check-instance .result .answer) (c .before .before .before .before .before .before .before .before .before .before .before .before .before .before .before .before .before .before .before .before .before .before .check-instance .result .checked) (c .before .before .before .before .before .before .before .before .before .before .before .before .before .before .before .before .before .before .before .before .before .before .check-instance .ensures .0) (c .before .before .before .before .before .before .before .before .before .before .before .before .before .before .before .before .before .before .before .before .before .before .check-instance .ensures .1) (c .before .before .before .before .before .before .before .before .before .before .before .before .before .before .before .before .before .before .before .before .before .before .before .before .args .f .now) (c .before .before .before .before .before .before .before .before .before .before .before .before .before .before .before .before .before .before .if1 .left) (c .before .before .before .before .before .before .before .pruned-words .result) (needed (c .before .before .before .before .before .before .before))
+    writes pruned (c .before .before .before .before .before .before .before .before .before .before .before .before .before .before .before .before .before .before .before .before .args .b .now) (c .before .before .before .before .before .before .before .before .before .before .before .before .before .before .before .before .before .before .before .before .args .m) (c .before .before .before .before .before .before .before .before .before .before .before .before .before .before .before .before .before .before .check-instance .result .answer) (c .before .before .before .before .before .before .before .before .before .before .before .before .before .before .before .before .before .before .check-instance .result .checked) (c .before .before .before .before .before .before .before .before .before .before .before .before .before .before .before .before .before .before .check-instance .ensures .0) (c .before .before .before .before .before .before .before .before .before .before .before .before .before .before .before .before .before .before .check-instance .ensures .1) (c .before .before .before .before .before .before .before .before .before .before .before .before .before .before .before .before .before .before .before .before .args .f .now) (c .before .before .before .before .before .before .before .before .before .before .before .before .before .before .if1 .left) (c .before .before .before .before .before .before .before .pruned-words .result) (needed (c .before .before .before .before .before .before .before))
     (c .before .before .before .before .before .before .ask-room .result) (c .before .before .before .before .before .before .ask-room .ensures) (c .before .before .before .before .if2 .left) _
     (c .before .write-all .ensures
-    ∙ ap (λ (l : List ℤ). filled l (c .before .before .before .before .before .before .before .before .before .before .before .before .before .before .before .before .before .before .before .before .before .before .before .before .args .f .now)) (sym (words-held (c .before .before .before .before .before .before .before .before .before .before .before .before .before .before .before .before .before .before .before .before .before .before .before .before .args .b .now) (c .before .before .before .before .before .before .before .before .before .before .before .before .before .before .before .before .before .before .before .before .before .before .check-instance .result .checked) (known (c .before .before .before .before .before .before .before .before .before .before .before .before .before .before .before .before .before .before)) (c .before .before .before .before .before .before .before .before .before .before .before .before .table-of .result) (c .before .before .before .before .before .before .before .before .before .before .before .before .table-of .ensures .1))))
+    ∙ ap (λ (l : List ℤ). filled l (c .before .before .before .before .before .before .before .before .before .before .before .before .before .before .before .before .before .before .before .before .args .f .now)) (sym (words-held (c .before .before .before .before .before .before .before .before .before .before .before .before .before .before .before .before .before .before .before .before .args .b .now) (c .before .before .before .before .before .before .before .before .before .before .before .before .before .before .before .before .before .before .check-instance .result .checked) (known (c .before .before .before .before .before .before .before .before .before .before .before .before .before .before)) (c .before .before .before .before .before .before .before .before .before .before .table-of .result) (c .before .before .before .before .before .before .before .before .before .before .table-of .ensures .1))))
 
 pub write-pruned-spec : {M : Type 1} → statement M
 write-pruned-spec =
