@@ -15,7 +15,7 @@ use Rattle.lists.proofs.Tests.{and-iff}
 use Rattle.lists.proofs.Loops.{all-append, for-all, for-nil, for-split, unless-nil, unless-all, unless-one}
 use Rattle.lists.proofs.Slices.{take-filled}
 use Rattle.answers.specs.declared.Answer.{Answer}
-use Rattle.answers.specs.Answers.{Question, ask, askEach, clear, accept, decide, byNumber, lent}
+use Rattle.answers.specs.Answers.{Question, ask, askEach, clear, accept, decide, byNumber, lent, withClauses}
 use Rattle.answers.specs.Fault.{FirstFault}
 use Rattle.answers.proofs.Faults.{fault-of}
 
@@ -173,6 +173,13 @@ module _ {A : Type 0} where
   pub byNumber-refused : (q : ℕ) (x y : A) → q ≢ 0 → byNumber q x y ≡ y
   byNumber-refused zero x y d = absurd (d refl)
   byNumber-refused (suc q) x y d = refl
+
+-- beside a refusal no clause count is seen
+pub no-clauses : (a : Answer) (count : ℕ) → a .number ≢ 0 → withClauses a 0 ≡ withClauses a count
+unfolding withClauses
+no-clauses a count d =
+    ap (λ (q : ℕ). record { number = a .number; second = a .second; clauses = q })
+    (byNumber-refused (a .number) 0 0 d ∙ sym (byNumber-refused (a .number) count 0 d))
 
 pub lent-refused : {A : Type 0} (r : Answer) (out s : List A) → r .number ≢ 0 → lent r out s ≡ s
 unfolding lent

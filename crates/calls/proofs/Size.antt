@@ -10,7 +10,7 @@ use lib.Dec.{leb}
 use Rattle.lists.proofs.Tests.{leb-iff}
 use Rattle.answers.specs.declared.Answer.{Answer}
 use Rattle.answers.specs.Answers.{refuse, accept, decide, withClauses}
-use Rattle.answers.proofs.Laws.{ask-yes, ask-no, asked-all, count-free, decide-count, byNumber-refused}
+use Rattle.answers.proofs.Laws.{ask-yes, ask-no, asked-all, count-free, decide-count, no-clauses}
 use Rattle.instance.specs.Instance.{Instance, instance}
 use Rattle.instance.specs.Questions.{instanceAnswer}
 use Rattle.instance.proofs.Instance.{instance-iff, first-refused, first-passed}
@@ -32,13 +32,6 @@ module _ (needed room : ℕ) where
       by-cases (decLt room needed)
       (λ l. let x : ⊥ = omega (arith, z, ap (λ (a : Answer). a .number) (e ∙ sym (stop-12 l))) in absurd x)
       (λ l. omega arith)
-
--- beside a refusal no clause count is seen
-no-clauses : (a : Answer) (count : ℕ) → a .number ≢ 0 → withClauses a 0 ≡ withClauses a count
-unfolding withClauses
-no-clauses a count d =
-    ap (λ (q : ℕ). record { number = a .number; second = a .second; clauses = q })
-    (byNumber-refused (a .number) 0 0 d ∙ sym (byNumber-refused (a .number) count 0 d))
 
 -- the answers, by that of the instance check
 module _ (f : Instance → Formula) (b : List ℕ) (m : ℕ) where

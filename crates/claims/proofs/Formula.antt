@@ -53,16 +53,16 @@ module _ (b : List ℕ) (m : ℕ) (ok : T (all clear (instanceQuestions b m))) w
   counts =
       record {
         size = λ e. let c = size-call formula b m in (c .wordsCounted e ∙ word-count I (edges-known b m ok), c .clausesCounted e ∙ clause-count I);
-        clause = λ c size e.
-            let t = decide-iff (clauseQuestions b m c size) _ (numbered-clause b m c size) .0 e in
+        clause = λ c room e.
+            let t = decide-iff (clauseQuestions b m c room) _ (numbered-clause b m c room) .0 e in
             let l = ltb-iff c (length (clauses I)) .0 (ask-nil _ _ .0 (next-clear b m _ _ t)) in (
               rw (clause-count I) at l,
-              counted (clauseQuestions b m c size) _ (numbered-clause b m c size) e ∙ length-append (getD (clauses I) c []) _ ∙ add-one _,
+              counted (clauseQuestions b m c room) _ (numbered-clause b m c room) e ∙ length-append (getD (clauses I) c []) _ ∙ add-one _,
             );
         check = λ p e. check-counts b m p e .count;
-        decoder = λ entries size e. counted (decodeQuestions b m entries size) _ (numbered-decode b m entries size) e ∙ ap (λ (x : ℕ). x * I .sizes .k) (sym (add-one m));
-        encoder = λ p size e. counted (encodeQuestions b m p size) _ (numbered-encode b m p size) e ∙ ap (λ (x : ℕ). I .sizes .n * I .sizes .k * x) (sym (add-one m));
-        reader = λ text size e. counted (readQuestions b m text size) _ (numbered-read b m text size) e ∙ ap (λ (x : ℕ). I .sizes .n * I .sizes .k * x) (sym (add-one m));
+        decoder = λ entries room e. counted (decodeQuestions b m entries room) _ (numbered-decode b m entries room) e ∙ ap (λ (x : ℕ). x * I .sizes .k) (sym (add-one m));
+        encoder = λ p room e. counted (encodeQuestions b m p room) _ (numbered-encode b m p room) e ∙ ap (λ (x : ℕ). I .sizes .n * I .sizes .k * x) (sym (add-one m));
+        reader = λ text room e. counted (readQuestions b m text room) _ (numbered-read b m text room) e ∙ ap (λ (x : ℕ). I .sizes .n * I .sizes .k * x) (sym (add-one m));
       }
 
 pub formula-claim : Claim

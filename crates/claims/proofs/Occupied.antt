@@ -186,8 +186,8 @@ occupied =
     record {
       check = λ b m p. tells-call b m p [] _ (simp (and-iff, ask-all) ((λ f. tt), tt));
       checkGives = λ b m p ok. gives-call b m p [] _ ok tt;
-      encoder = λ b m p size.
-          tells-call b m p (question16 (formula (instance b m)) size ∷ []) _ (simp (and-iff, ask-all) ((λ f. tt), ((λ f. tt), tt)));
-      encoderGives = λ b m p size ok l.
-          gives-call b m p (question16 (formula (instance b m)) size ∷ []) _ ok (simp (and-iff, clear-iff, ask-nil, leb-iff) (l, tt));
+      encoder = λ b m p room.
+          tells-call b m p (question16 (formula (instance b m)) room ∷ []) _ (simp (and-iff, ask-all) ((λ f. tt), ((λ f. tt), tt)));
+      encoderGives = λ b m p room ok l.
+          gives-call b m p (question16 (formula (instance b m)) room ∷ []) _ ok (simp (and-iff, clear-iff, ask-nil, leb-iff) (l, tt));
     }

@@ -144,29 +144,29 @@ module _ (b : List ℕ) (m : ℕ) where
     ),
   )
 
-  pub numbered-write : (f : Instance → Formula) (size : ℕ) → T (all numbered (writeQuestions f b m size))
-  numbered-write f size = numbered-more b m _ (simp (and-iff, ask-all) ((λ f. tt), tt))
+  pub numbered-write : (f : Instance → Formula) (room : ℕ) → T (all numbered (writeQuestions f b m room))
+  numbered-write f room = numbered-more b m _ (simp (and-iff, ask-all) ((λ f. tt), tt))
 
-  pub numbered-clause : (c size : ℕ) → T (all numbered (clauseQuestions b m c size))
-  numbered-clause c size = numbered-more b m _ (simp (and-iff, ask-all) ((λ f. tt), ((λ f. tt), tt)))
+  pub numbered-clause : (c room : ℕ) → T (all numbered (clauseQuestions b m c room))
+  numbered-clause c room = numbered-more b m _ (simp (and-iff, ask-all) ((λ f. tt), ((λ f. tt), tt)))
 
   pub numbered-check : (p : List ℕ) → T (all numbered (checkQuestions b m p))
   numbered-check p = numbered-more b m _ (numbered-plan I p)
 
-  pub numbered-decode : (entries : List ℤ) (size : ℕ) → T (all numbered (decodeQuestions b m entries size))
-  numbered-decode entries size =
+  pub numbered-decode : (entries : List ℤ) (room : ℕ) → T (all numbered (decodeQuestions b m entries room))
+  numbered-decode entries room =
       numbered-more b m _
-      (numbered-second (question14 F entries) (question15 I size) (question23 F entries ∷ question24 F entries ∷ [])
+      (numbered-second (question14 F entries) (question15 I room) (question23 F entries ∷ question24 F entries ∷ [])
       (simp ask-all (λ f. tt)) (numbered-valuation F entries))
 
-  pub numbered-encode : (p : List ℕ) (size : ℕ) → T (all numbered (encodeQuestions b m p size))
-  numbered-encode p size =
+  pub numbered-encode : (p : List ℕ) (room : ℕ) → T (all numbered (encodeQuestions b m p room))
+  numbered-encode p room =
       numbered-more b m _
-      (numbered-second (question13 I p) (question16 F size) (planQuestions I p) (simp ask-all (λ f. tt)) (numbered-plan I p))
+      (numbered-second (question13 I p) (question16 F room) (planQuestions I p) (simp ask-all (λ f. tt)) (numbered-plan I p))
 
-  pub numbered-read : (text : List ℕ) (size : ℕ) → T (all numbered (readQuestions b m text size))
-  numbered-read text size =
-      numbered-more b m _ (and-iff (numbered (question16 F size)) _ .1 (simp ask-all (λ f. tt), numbered-text (F .variables) text))
+  pub numbered-read : (text : List ℕ) (room : ℕ) → T (all numbered (readQuestions b m text room))
+  numbered-read text room =
+      numbered-more b m _ (and-iff (numbered (question16 F room)) _ .1 (simp ask-all (λ f. tt), numbered-text (F .variables) text))
 
   asked-text : (text : List ℕ) → EachAsked (textQuestions (F .variables) text)
   unfolding textQuestions
@@ -178,20 +178,20 @@ refusals b m =
     record {
       instance = honest (instanceQuestions b m) 0 (numbered-instance b m) (asked-instance b m);
       size = λ f. honest (sizeQuestions b m) _ (numbered-instance b m) (asked-instance b m);
-      writer = λ f size. honest (writeQuestions f b m size) _ (numbered-write b m f size) (asked-more b m _ (one _ _, tt));
+      writer = λ f room. honest (writeQuestions f b m room) _ (numbered-write b m f room) (asked-more b m _ (one _ _, tt));
       writerSlice = λ f s d. lent-refused _ _ s d;
-      clause = λ c size. honest (clauseQuestions b m c size) _ (numbered-clause b m c size) (asked-more b m _ (one _ _, (one _ _, tt)));
+      clause = λ c room. honest (clauseQuestions b m c room) _ (numbered-clause b m c room) (asked-more b m _ (one _ _, (one _ _, tt)));
       clauseSlice = λ c s d. lent-refused _ _ s d;
       check = λ p. honest (checkQuestions b m p) _ (numbered-check b m p) (asked-more b m _ (one _ _, asked-plan b m p));
-      decoder = λ entries size.
-          honest (decodeQuestions b m entries size) _ (numbered-decode b m entries size)
+      decoder = λ entries room.
+          honest (decodeQuestions b m entries room) _ (numbered-decode b m entries room)
           (asked-more b m _ (one _ _, (one _ _, (many _ _ _, (many _ _ _, tt)))));
       decoderSlice = λ entries s d. lent-refused _ _ s d;
-      encoder = λ p size.
-          honest (encodeQuestions b m p size) _ (numbered-encode b m p size) (asked-more b m _ (one _ _, (one _ _, asked-plan b m p)));
+      encoder = λ p room.
+          honest (encodeQuestions b m p room) _ (numbered-encode b m p room) (asked-more b m _ (one _ _, (one _ _, asked-plan b m p)));
       encoderSlice = λ p s d. lent-refused _ _ s d;
-      reader = λ text size.
-          honest (readQuestions b m text size) _ (numbered-read b m text size) (asked-more b m _ (one _ _, asked-text b m text));
+      reader = λ text room.
+          honest (readQuestions b m text room) _ (numbered-read b m text room) (asked-more b m _ (one _ _, asked-text b m text));
       readerSlice = λ text s d. lent-refused _ _ s d;
       floor = honest (floorQuestions b) _ (numbered-floor b) (asked-append (bytesQuestions b) (goalQuestion b ∷ []) (asked-bytes b m) (many _ _ _, tt));
     }

@@ -27,7 +27,7 @@ module _ (f : Instance → Formula) (b : List ℕ) (m : ℕ) where
 
   -- the size call
   pub record SizeCall : Type 0 where
-    -- it accepts exactly what the instance check accepts; a refusal is that of the instance check, with no clauses, and so never 12
+    -- it accepts exactly what the instance check accepts; a refusal is that of the instance check, so never 12, and has no clauses
     pub accepts : (size .number ≡ 0) ↔ (instanceAnswer b m .number ≡ 0)
     pub refusal : size .number ≢ 0 → refuse (size .number) (size .second) ≡ instanceAnswer b m
     pub noClauses : size .number ≢ 0 → size .clauses ≡ 0

@@ -1,4 +1,4 @@
--- `formula_size::pruned_size` meets its contract: the instance check decides, or the counts are those of the formula. Assumes nothing.
+-- `formula_size::pruned_size` meets its contract: the instance check decides, or the counts are those of the pruned formula. Assumes nothing.
 use mathlib.Core.Path.{_∙_}
 use native.Mathlib.Omega.{arith}
 use Rattle.instance.specs.Accepted.{Accepted}
