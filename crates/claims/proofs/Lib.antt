@@ -5,6 +5,7 @@ pub mod Examples
 pub mod Formula
 pub mod Neighbours
 pub mod Occupied
+pub mod Pairs
 pub mod Reader
 pub mod Refusals
 pub mod Size

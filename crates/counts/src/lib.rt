@@ -2,12 +2,13 @@
 // a family.
 use instance::Sizes;
 ghost use mathlib.Core.Path.{_≡_};
-ghost use Prim.Native.Nat.{_*_, _-_, _/_, _≤_, _<_};
+ghost use Prim.Native.Nat.{_≤_, _<_};
 ghost use Rattle.formula.specs.Variables.{variableCount};
 ghost use Rattle.formula.specs.Blocks.{times, blocksAt};
 ghost use Rattle.plan.specs.Plan.{planBytes};
 ghost use Rattle.formula.specs.Counts.{clausesBy, clauseCount, wordCount};
 ghost use Rattle.lists.specs.Loop.{pairs};
+ghost use Rattle.lists.specs.Pairs.{pairsBelow};
 ghost use Rattle.instance.specs.Limits.{Limits};
 
 // A number for each family.
@@ -73,6 +74,14 @@ pub fn pair_count(n: usize) -> usize
         return 0;
     }
     n * (n - 1) / 2
+}
+
+// Pairs of two numbers below n that begin with a number lower than v.
+pub fn pairs_below(n: usize, v: usize) -> usize
+    requires { ⌜ (v < n) × (n ≤ 64) ⌝ }
+    ensures { λ r. ⌜ (r ≡ pairsBelow n v) × (r ≤ 2016) ⌝ }
+{
+    v * (2 * n - v - 1) / 2
 }
 
 // Clauses by family.

@@ -10,7 +10,7 @@ use lib.Dec.{eqb}
 use Rattle.lists.specs.Loop.{for, when, each, pairs}
 use Rattle.lists.proofs.Loops.{each-for, each-when}
 use Rattle.lists.proofs.Blocks.{for1-length}
-use Rattle.lists.proofs.Sums.{above-length}
+use Rattle.lists.proofs.Pairs.{above-length}
 use Rattle.instance.specs.declared.Sizes.{Sizes}
 use Rattle.instance.specs.Limits.{Limits}
 use Rattle.formula.specs.Variables.{Literal, X, ¬X}

@@ -9,7 +9,8 @@ use lib.ListN.{length, length-append}
 use Rattle.lists.specs.Loop.{for, each, pairs}
 use Rattle.lists.proofs.Loops.{for-length, each-for, each-append, each-when}
 use Rattle.lists.proofs.Blocks.{for1-length}
-use Rattle.lists.proofs.Sums.{for-sum, sum-ext, sum-const, sum-add, above-length, others-length}
+use Rattle.lists.proofs.Sums.{for-sum, sum-ext, sum-const, sum-add, others-length}
+use Rattle.lists.proofs.Pairs.{above-length}
 use Rattle.instance.specs.declared.Sizes.{Sizes}
 use Rattle.instance.specs.Instance.{Instance, adjacent, degree, Edges}
 use Rattle.instance.proofs.Graph.{for-neighbours, handshake}

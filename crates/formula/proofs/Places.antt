@@ -7,10 +7,12 @@ use native.Mathlib.Nat.{mul-one}
 use native.Mathlib.Decide.{decLt}
 use native.Mathlib.Omega.{arith}
 use lib.ListN.{length, getD}
-use Rattle.lists.specs.Loop.{for, sum, pairs}
+use Rattle.lists.specs.Loop.{for, pairs}
+use Rattle.lists.specs.Pairs.{pairsBelow}
 use Rattle.lists.proofs.Loops.{for-length, for-getD}
 use Rattle.lists.proofs.Blocks.{for1-length, for1-getD, cell-at}
-use Rattle.lists.proofs.Sums.{above-length, above-getD, others-length, others-below, others-above}
+use Rattle.lists.proofs.Sums.{others-length, others-below, others-above}
+use Rattle.lists.proofs.Pairs.{above-length, above-getD}
 use Rattle.instance.specs.declared.Sizes.{Sizes}
 use Rattle.formula.specs.Variables.{Literal, ¬X}
 use Rattle.formula.specs.Formula.{Clause, noTwo, blockG}
@@ -22,10 +24,8 @@ module _ (n : ℕ) (¬x : ℕ → Literal) where
   pub two-length : length (noTwo n ¬x) ≡ pairs n
   two-length = above-length n 1 _ (λ v w. refl) ∙ mul-one (pairs n)
 
-  pub two-getD : (v w : ℕ) → v < w → w < n → getD (noTwo n ¬x) (sum v (λ u. n - suc u) + (w - suc v)) [] ≡ ¬x v ∷ ¬x w ∷ []
-  two-getD v w o l =
-      let e : suc v + (w - suc v) ≡ w = omega arith in
-      above-getD n (λ v w. ¬x v ∷ ¬x w ∷ []) [] v (w - suc v) (omega arith) (omega arith) ∙ ap (λ (u : ℕ). ¬x v ∷ ¬x u ∷ []) e
+  pub two-getD : (v w : ℕ) → v < w → w < n → getD (noTwo n ¬x) (pairsBelow n v + (w - suc v)) [] ≡ ¬x v ∷ ¬x w ∷ []
+  two-getD = above-getD n (λ v w. ¬x v ∷ ¬x w ∷ []) []
 
 -- G: the agents other than a, in order: those below a keep their places, those above move up by one
 module _ (s : Sizes) (t a : ℕ) (q : a < s .k) where

@@ -3,4 +3,5 @@ pub mod Tests
 pub mod Loops
 pub mod Blocks
 pub mod Sums
+pub mod Pairs
 pub mod Slices

@@ -1,20 +1,20 @@
--- Sums, and lists whose blocks have different lengths: pairs v < w, and the numbers other than one.
+-- Sums, and lists whose blocks have different lengths; the numbers other than one.
 use mathlib.Core.Path.{_≡_, refl, sym, _∙_, ap, ap₂, subst}
 use mathlib.Core.Logic.{_↔_, ⊎-elim, by-cases}
 use mathlib.Core.List.{List, [], _∷_}
 use mathlib.Core.Bool.{Bool, true, false, not, _&&_, _||_}
-use Prim.Native.Nat.{ℕ, zero, suc, _+_, _*_, _-_, _/_, _≤_, _<_, max}
-use native.Mathlib.Nat.{suc-mul, mul-suc, zero-mul, mul-zero, add-mul, le-refl, not-suc-le-zero, eq-or-lt-of-le, le-of-suc-le-suc, mul-div-cancel-left, zero-lt-suc, add-zero}
+use Prim.Native.Nat.{ℕ, zero, suc, _+_, _*_, _-_, _≤_, _<_, max}
+use native.Mathlib.Nat.{suc-mul, zero-mul, mul-zero, add-mul, le-refl, not-suc-le-zero, eq-or-lt-of-le, le-of-suc-le-suc, add-zero}
 use native.Mathlib.Decide.{decLe}
 use native.Mathlib.Omega.{arith}
 use borrow.Author.Tests.{eq-eqb, ne-eqb}
 use lib.ListN.{length, getD, length-append, List·getD-append}
 use lib.Seq.{getD-append-add}
-use lib.Dec.{T, ltb, eqb}
+use lib.Dec.{T, eqb}
 use Rattle.lists.specs.Loop.{for, when, unless, sum, some, greatest}
 use Rattle.lists.proofs.Tests.{some-iff}
-use Rattle.lists.proofs.Loops.{for-length, for-getD, for-ext, for-above, for-others}
-use Rattle.lists.proofs.Blocks.{place-lt, for1-length, for1-getD}
+use Rattle.lists.proofs.Loops.{for-length, for-getD, for-others}
+use Rattle.lists.proofs.Blocks.{place-lt}
 
 pub sum-ext : (n : ℕ) (f g : ℕ → ℕ) → ((i : ℕ) → i < n → f i ≡ g i) → sum n f ≡ sum n g
 sum-ext zero f g h = refl
@@ -78,46 +78,11 @@ module _ {A : Type 0} where
       ∙ for-at n f d i j b r)
       (eq-or-lt-of-le (le-of-suc-le-suc l))
 
--- ---- pairs v < w below n: how many begin below v
-pub pairs-double : (n v : ℕ) → v ≤ n → 2 * sum v (λ u. n - suc u) ≡ v * (2 * n - v - 1)
-pairs-double n zero h = sym (zero-mul _)
-pairs-double n (suc v) h =
-    let y : ℕ = 2 * n - v - 2 in
-    let e : 2 * n - v - 1 ≡ suc (2 * n - v - 2) = omega arith in
-    let e′ : 2 * n - suc v - 1 ≡ 2 * n - v - 2 = omega arith in
-    rw e′ (omega (arith, rw e at (pairs-double n v (omega arith)), mul-suc v (2 * n - v - 2), suc-mul v (2 * n - v - 2)))
-
-pub pairs-below : (n v : ℕ) → v ≤ n → sum v (λ u. n - suc u) ≡ v * (2 * n - v - 1) / 2
-pairs-below n v h = sym (ap (λ x. x / 2) (sym (pairs-double n v h)) ∙ mul-div-cancel-left (sum v (λ u. n - suc u)) (zero-lt-suc 1))
-
-pub pairs-all : (n : ℕ) → sum n (λ u. n - suc u) ≡ n * (n - 1) / 2
-pairs-all n =
-    let e : 2 * n - n - 1 ≡ n - 1 = omega arith in
-    rw (← e) (pairs-below n n (le-refl n))
-
--- ---- the two guarded loops
+-- ---- the numbers other than one
 sum-others : {a k : ℕ} → a < k → a + (k - suc a) ≡ k - 1
 sum-others l = omega arith
 
 module _ {L : Type 0} where
-  pub above-length : (n c : ℕ) (f : ℕ → ℕ → List L) → ((v w : ℕ) → length (f v w) ≡ c) → length (for n λ v. for n λ w. when (ltb v w) (f v w)) ≡ n * (n - 1) / 2 * c
-  above-length n c f h =
-      for-sum n _
-      ∙ sum-ext n _ _ (λ v l. ap length (for-above v n (f v)) ∙ for-length (n - suc v) c _ (λ i r. h v (suc v + i)))
-      ∙ sum-mul n (λ v. n - suc v) c
-      ∙ ap (λ x. x * c) (pairs-all n)
-
-  pub above-getD : (n : ℕ) (f : ℕ → ℕ → L) (d : L) (v i : ℕ) → v < n → suc v + i < n
-      → getD (for n λ v. for n λ w. when (ltb v w) (f v w ∷ [])) (sum v (λ u. n - suc u) + i) d ≡ f v (suc v + i)
-  above-getD n f d v i r s =
-      let g : ℕ → List L = λ v. for (n - suc v) λ i. f v (suc v + i) ∷ [] in
-      let len : (u : ℕ) → length (g u) ≡ n - suc u = λ u. for1-length (n - suc u) (λ i. f u (suc u + i)) in
-      let b : i < n - suc v = omega arith in
-      ap (λ l. getD l (sum v (λ u. n - suc u) + i) d) (for-ext n _ g (λ v l. for-above v n (λ w. f v w ∷ [])))
-      ∙ ap (λ x. getD (for n g) (x + i) d) (sum-ext v _ _ (λ u h. sym (len u)))
-      ∙ for-at n g d v i r (omega (arith, len v))
-      ∙ for1-getD (n - suc v) (λ i. f v (suc v + i)) d i b
-
   pub others-length : (k c a : ℕ) → a < k → (f : ℕ → List L) → ((b : ℕ) → b < k → length (f b) ≡ c) → length (for k λ b. when (not (eqb a b)) (f b)) ≡ (k - 1) * c
   others-length k c a l f h =
       ap length (for-others a k l f)

@@ -1,4 +1,3 @@
-pub mod Pairs
 pub mod Clauses
 pub mod Stands
 pub mod Out

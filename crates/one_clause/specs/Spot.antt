@@ -5,6 +5,7 @@ use Prim.Native.Nat.{ℕ, suc, _+_, _*_, _-_, _<_}
 use lib.ListN.{getD}
 use lib.IntN.{ℤ}
 use Rattle.lists.specs.Loop.{sum, pairs}
+use Rattle.lists.specs.Pairs.{pairsBelow}
 use Rattle.instance.specs.declared.Sizes.{Sizes}
 use Rattle.formula.specs.Formula.{Clause, line}
 use Rattle.formula.specs.Counts.{clausesBy}
@@ -33,7 +34,7 @@ pub record Stands (s : Sizes) (c j each place : ℕ) : Type 0 where
 pub record PairAt (n p low high : ℕ) : Type 0 where
   pub order : low < high
   pub below : high < n
-  pub at : p ≡ sum low (λ u. n - suc u) + (high - suc low)
+  pub at : p ≡ pairsBelow n low + (high - suc low)
 
 -- the line of the clause at a place
 abbrev pub lineAt : List Clause → ℕ → List ℤ

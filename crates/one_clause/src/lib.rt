@@ -78,20 +78,24 @@ fn spot_of(s: Sizes, number: usize) -> Spot
     spot_from(s, number, e, f, f + count.f)
 }
 
-// Pair number p of the numbers below n.
+// Pair number p of the numbers below n: `low` is the greatest below which no more than p pairs begin.
 fn pair_of(n: usize, p: usize) -> Pair
-    requires { ⌜ p < pairs n ⌝ }
+    requires { ⌜ (n ≤ 64) × (p < pairs n) ⌝ }
     ensures { λ r. ⌜ PairAt n p (r .low) (r .high) ⌝ }
 {
     let mut low: usize = 0;
-    let mut left = p;
-    while n - 1 - low <= left {
-        left -= n - 1 - low;
-        low += 1;
+    let mut end = n;
+    while low + 1 < end {
+        let middle = (low + end) / 2;
+        if counts::pairs_below(n, middle) <= p {
+            low = middle;
+        } else {
+            end = middle;
+        }
     }
     Pair {
         low,
-        high: low + 1 + left,
+        high: low + 1 + (p - counts::pairs_below(n, low)),
     }
 }
 

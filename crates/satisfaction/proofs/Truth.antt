@@ -16,7 +16,9 @@ use Rattle.lists.proofs.Tests.{or-imp, not-iff, eqb-iff}
 use Rattle.lists.proofs.Loops.{for-all, one-all, when-all, for-any, when-any, any-one, any-two, for-length, for-ext}
 use Rattle.lists.proofs.Blocks.{for1-length, place-lt}
 use Rattle.lists.proofs.Slices.{for-room}
-use Rattle.lists.proofs.Sums.{above-length, others-length}
+use Rattle.lists.specs.Pairs.{pairsBelow}
+use Rattle.lists.proofs.Sums.{others-length}
+use Rattle.lists.proofs.Pairs.{above-length}
 use Rattle.answers.specs.Fault.{FirstFault}
 use Rattle.instance.specs.declared.Sizes.{Sizes}
 use Rattle.formula.specs.Variables.{Literal, X, ¬X, index, variableCount}
@@ -151,7 +153,7 @@ module _ (s : Sizes) (es : List ℤ) (w : Valuation (variableCount s) es) where
             omega (arith, skip-le es (v + 1) (b + n) u (b + u′) h (omega arith) (says-q u′ r′ j))
 
         pub here-D : Stop (denies es) (v + 1) ((t * k + a) * n + n) u
-            → Fault es (for k (blockD s t)) (a * (n * (n - 1) / 2) + ((v - (t * k + a) * n) * (2 * n - (v - (t * k + a) * n) - 1) / 2 + (u - v - 1)))
+            → Fault es (for k (blockD s t)) (a * (n * (n - 1) / 2) + (pairsBelow n (v - (t * k + a) * n) + (u - v - 1)))
         unfolding index
         here-D h =
             let l = agent-D in
@@ -171,7 +173,7 @@ module _ (s : Sizes) (es : List ℤ) (w : Valuation (variableCount s) es) where
             let c = says-q y (omega arith) z in
             let k₁ = skip-le es b (b + n) v (b + y) g (omega arith) c in
             by-cases (decLt v (b + y)) (λ lt′. let k₂ = skip-le es (v + 1) (b + n) u (b + y) h (omega arith) c in absurd (let z : ⊥ = omega arith in z)) (λ lt′. omega arith)) in
-            let at : ℕ = (v - b) * (2 * n - (v - b) - 1) / 2 in
+            let at : ℕ = pairsBelow n (v - b) in
             blocks-stop es (blockD s t) (n * (n - 1) / 2) k a (at + (u - v - 1)) (length-D s t) l (passed-D a (omega arith) below-D)
             (subst (λ (y : ℕ). Fault es (blockD s t a) (at + y)) e′ (two .0))
             (omega (arith, two .1, length-D s t a, e′))
@@ -207,7 +209,7 @@ module _ (s : Sizes) (es : List ℤ) (w : Valuation (variableCount s) es) (P : �
 
       -- a is the first agent on v, and b counts the agents from there to the next
       pub here-E : v ≢ n → (z a b : ℕ) → z ≡ v → FirstFault k (λ i. not (eqb (P t i) z)) a → FirstFault (k - a - 1) (λ i. not (eqb (P t (a + 1 + i)) z)) b
-          → Fault es (for n (blockE s t)) (v * (k * (k - 1) / 2) + (a * (2 * k - a - 1) / 2 + b))
+          → Fault es (for n (blockE s t)) (v * (k * (k - 1) / 2) + (pairsBelow k a + b))
       here-E d z a b e g h =
           let l : v < n = omega (arith, f .within) in
           let (a′, b′, o, r, i, j) = f .here l in
@@ -227,9 +229,9 @@ module _ (s : Sizes) (es : List ℤ) (w : Valuation (variableCount s) es) (P : �
           let q′ = sym (c .here t y v x (omega arith) l .0 q) in
           by-cases (decLt y a) (λ p. absurd (before-a y p q′)) (λ p. by-cases (decLt a y) (λ p′. absurd (before-b y p′ lt q′)) (λ p′. omega arith))) in
           let e′ : a + 1 + b - a - 1 ≡ b = omega arith in
-          blocks-stop es (blockE s t) (k * (k - 1) / 2) n v (a * (2 * k - a - 1) / 2 + b) (length-E s t) l
+          blocks-stop es (blockE s t) (k * (k - 1) / 2) n v (pairsBelow k a + b) (length-E s t) l
           (for-all satP v (blockE s t) .1 below-E)
-          (subst (λ (y : ℕ). Fault es (blockE s t v) (a * (2 * k - a - 1) / 2 + y)) e′ (two .0))
+          (subst (λ (y : ℕ). Fault es (blockE s t v) (pairsBelow k a + y)) e′ (two .0))
           (omega (arith, two .1, length-E s t v, e′))
 
   module _ (near : ℕ → ℕ → Bool) (t : ℕ) (x : t < m) where
