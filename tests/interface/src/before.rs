@@ -14,8 +14,8 @@ use std::process::{exit, Command, Stdio};
 use std::time::Duration;
 
 /// The most that a call may take of its time with the earlier library. A call that is not here has no target; each
-/// landing sets its own, and S-5 has none.
-const TARGETS: [(&str, &str, f64); 0] = [];
+/// landing sets its own, and S-6 has this one.
+const TARGETS: [(&str, &str, f64); 1] = [("one clause D", "largest", 1.0)];
 
 /// Each program runs so often for a call, and samples it for so long at least.
 const TURNS: usize = 20;
@@ -33,13 +33,14 @@ const NO_CALL: &str = "no such call";
 type Print = fn(&Row);
 
 /// The calls, in the order of the table.
-const CALLS: [(&str, Print); 11] = [
+const CALLS: [(&str, Print); 12] = [
     ("writer", writer),
     ("instance check", instance_check),
     ("plan check", plan_check),
     ("decoder", decoder),
     ("encoder", encoder),
     ("reader", reader),
+    ("one clause D", clause_d),
     ("one clause F", clause),
     ("floor", floor),
     ("pruned writer", pruned_writer),
@@ -70,7 +71,14 @@ impl Row {
     }
 }
 
-/// What a program that is asked for a call does: it prints a line, or two for both clauses.
+/// The pairs whose clauses of family D are measured, in the order of their lines. On the largest instance each has a row.
+const PAIRS: [&str; 3] = [
+    "first pair of a block",
+    "middle pair of a block",
+    "last pair of a block",
+];
+
+/// What a program that is asked for a call does: it prints a line, or one for each clause.
 pub fn print_call(timed: bool, call: &str, instance: &str) {
     let (_, print) = CALLS.iter().find(|known| known.0 == call).expect("a call");
     let mut inputs = inputs().into_iter();
@@ -129,6 +137,22 @@ fn reader(row: &Row) {
     row.print(vec![0; entries.len()], |entries| {
         library::read_valuation(black_box(instance), m, black_box(&text), entries)
     });
+}
+
+/// The first, the middle and the last pair of the last block of family D, a line for each; one where there is one pair.
+fn clause_d(row: &Row) {
+    let (instance, m) = (&row.input.instance[..], row.input.m);
+    let counts = Parts::of(instance).clause_counts(m as usize);
+    let n = u64::from(instance[0]);
+    let pairs = n * (n - 1) / 2;
+    let first = counts[..4].iter().sum::<u64>() - pairs;
+    let mut numbers = vec![first, first + pairs / 2, first + pairs - 1];
+    numbers.dedup();
+    for number in numbers {
+        row.print(vec![1; 66], |words| {
+            library::clause(black_box(instance), m, black_box(number), words)
+        });
+    }
 }
 
 /// The middle and the last clause of family F, a line for each.
@@ -242,20 +266,26 @@ pub fn compare(now: &Path, before: &Path, had: &[Names]) {
     let mut table = Table::default();
     let mut targets = 0;
     for &(call, instance) in had {
-        // Of both clauses of family F the one that is dearer now.
         let best = best_times([now, before], call, instance);
-        let dearer = best.into_iter().max_by(|x, y| x[0].total_cmp(&y[0]));
-        let [now, before] = dearer.expect("a time");
+        let rows: Vec<([f64; 2], &str)> = if (call, instance) == ("one clause D", "largest") {
+            best.into_iter().zip(PAIRS).collect()
+        } else {
+            // Of several clauses the one that is dearest now.
+            let dearest = best.into_iter().max_by(|x, y| x[0].total_cmp(&y[0]));
+            vec![(dearest.expect("a time"), "")]
+        };
         let target = TARGETS.iter().find(|x| (x.0, x.1) == (call, instance));
         targets += usize::from(target.is_some());
-        let (target, verdict) = table.judge(now / before, target.map(|x| x.2));
-        let row = format!(
-            "{call:<14} {instance:<8} {:>9} {:>9} {:>6.2} {target:>6} {verdict}",
-            time(now),
-            time(before),
-            now / before
-        );
-        println!("{}", row.trim_end());
+        for ([now, before], note) in rows {
+            let (target, verdict) = table.judge(now / before, target.map(|x| x.2));
+            let row = format!(
+                "{call:<14} {instance:<8} {:>9} {:>9} {:>6.2} {target:>6} {verdict:<4}  {note}",
+                time(now),
+                time(before),
+                now / before
+            );
+            println!("{}", row.trim_end());
+        }
     }
     assert_eq!(targets, TARGETS.len(), "a target is of no row");
     let missed = table.missed;

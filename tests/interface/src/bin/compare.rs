@@ -1,13 +1,14 @@
 //! Compares the library with the independent program, through the C interface.
 //!
-//! compare [SEED [COUNT [FIRST]]]: texts, plans, maps and sizes with known answers, every small instance, the largest one
-//! and COUNT random cases; with FIRST only COUNT random cases from that one on.
+//! compare [SEED [COUNT [FIRST]]]: texts, plans, maps and sizes with known answers, every pair of a block, every small
+//! instance, the largest one and COUNT random cases; with FIRST only COUNT random cases from that one on.
 
 #![forbid(unsafe_code)]
 
 use independent::costs::{self, Told};
 use independent::floors;
 use independent::output::{damaged, output, padded, some_output, some_text, worked, WORKED};
+use independent::plain;
 use independent::questions::{ASKED, NUMBERS};
 use independent::sample::Generator;
 use independent::sample::{all_edges, grid_edges, instance_bytes, largest_instance, path_edges};
@@ -684,6 +685,120 @@ impl Run {
         }
     }
 
+    /// Every pair of a block of family D for every n, and of family E for every k, against the list of all clauses. Gives
+    /// how many of these clauses 24 was to name.
+    fn pairs(&mut self) -> usize {
+        self.part = "pairs";
+        self.case = 0;
+        let mut named = 0;
+        for n in 1..=64 {
+            named += self.vertex_pairs(n);
+        }
+        for k in 1..=16 {
+            for n in [k, 64] {
+                named += self.agent_pairs(n, k);
+            }
+        }
+        named
+    }
+
+    /// The first and the last block of family D: of agent 0 at time 0, and of agent 1 at time m, 1. Both agents stay at
+    /// the vertices of the pair, and one of them is at the other's too.
+    fn vertex_pairs(&mut self, n: usize) -> usize {
+        let m = 1;
+        let edges = path_edges(n as u8);
+        let ends: Vec<u8> = (0..n.min(2) as u8).collect();
+        let instance = instance_bytes(n, &edges, &ends, &ends);
+        let last_row = ends.len() * (m + 1) - 1;
+        let mut named = 0;
+        // Other starts and goals leave family D and its numbers as they are.
+        for (number, clause) in listed(&instance, m, 3) {
+            let [x, y] = indexes(&clause);
+            if ![0, last_row].contains(&(x / n)) {
+                continue;
+            }
+            let ends = [x, y].map(|i| (i % n) as u8);
+            let instance = instance_bytes(n, &edges, &ends, &ends);
+            let mut entries = valuation(n, &ends.repeat(m + 1));
+            for i in [x, y] {
+                entries[i] = i as i32 + 1;
+            }
+            self.pair(&instance, m as u64, number, &clause, Some(&entries));
+            named += 1;
+        }
+        assert_eq!(named, n * (n - 1), "pairs in two blocks, n {n}");
+        named
+    }
+
+    /// The first and the last block of family E at m 2, and those of time 1. At times 0 and m families A, B and D keep
+    /// agents apart, so 24 can name those of time 1 only.
+    fn agent_pairs(&mut self, n: usize, k: usize) -> usize {
+        let m = 2;
+        let ends: Vec<u8> = (0..k as u8).collect();
+        let instance = instance_bytes(n, &path_edges(n as u8), &ends, &ends);
+        let [mut asked, mut named] = [0, 0];
+        for (number, clause) in listed(&instance, m, 4) {
+            let [x, y] = indexes(&clause);
+            let (t, v) = (x / n / k, x % n);
+            let meet = [x, y].map(|i| i / n % k);
+            if !(v == 0 && t < m || v == n - 1 && t > 0) {
+                continue;
+            }
+            let entries = (t == 1).then(|| {
+                // The others are elsewhere, each by itself.
+                let mut elsewhere = (0..n as u8).filter(|&w| usize::from(w) != v);
+                let row = (0..k).map(|a| match meet.contains(&a) {
+                    true => v as u8,
+                    false => elsewhere.next().expect("n is k or more"),
+                });
+                let row: Vec<u8> = row.collect();
+                valuation(n, &[&ends[..], &row, &ends].concat())
+            });
+            self.pair(&instance, m as u64, number, &clause, entries.as_deref());
+            asked += 1;
+            named += usize::from(entries.is_some());
+        }
+        assert_eq!(asked, 2 * k * (k - 1), "pairs in four blocks, k {k}");
+        assert_eq!(named, k * (k - 1), "pairs in two blocks, k {k}");
+        named
+    }
+
+    /// A clause of two literals by its number, and entries for which it is the first without a true literal.
+    fn pair(
+        &mut self,
+        instance: &[u8],
+        m: u64,
+        number: u64,
+        clause: &[i32],
+        entries: Option<&[i32]>,
+    ) {
+        self.case += 1;
+        self.before = 1 + self.case as usize % 16;
+        let asked = Asked {
+            call: CLAUSE,
+            instance,
+            horizon: m,
+            clause: Some(number),
+            entries,
+            ..Asked::default()
+        };
+        let (given, words) = self.clause(instance, m, number, 3);
+        if given != Said::new(0, 3, 0) || words[..2] != *clause || words[2] != 0 {
+            self.fail(&asked, &format!("{given:?} {words:?}, listed {clause:?}"));
+        }
+        if let Some(entries) = entries {
+            let rows = entries.len() / usize::from(instance[0]);
+            let (decoded, _) = self.decode(instance, m, entries, rows);
+            if decoded != Said::new(24, number, 0) {
+                let asked = Asked {
+                    call: DECODER,
+                    ..asked
+                };
+                self.fail(&asked, &format!("{decoded:?}, listed {number}"));
+            }
+        }
+    }
+
     /// The formula in an exact slice and every clause in its own, with `short` also in slices too short; the clauses
     /// must make the formula.
     fn formula(&mut self, instance: &[u8], m: u64, short: bool) {
@@ -1110,6 +1225,18 @@ fn whole_plan(parts: &Parts, m: usize, plan: &[u8]) -> Vec<u8> {
     }
 }
 
+/// The clauses of a family, from 0, with their numbers in the list of all clauses.
+fn listed(instance: &[u8], m: usize, family: usize) -> impl Iterator<Item = (u64, Vec<i32>)> {
+    let parts = Parts::of(instance);
+    let all = (0..).zip(plain::clauses(instance, m as u64));
+    all.filter(move |(number, _)| parts.family(m, *number) == family)
+}
+
+/// Where the variables of a clause of two negative literals stand among the entries.
+fn indexes(clause: &[i32]) -> [usize; 2] {
+    [0, 1].map(|i| (-clause[i] - 1) as usize)
+}
+
 /// All rows of `k` vertices below `n`, k 1 or 2.
 fn rows(n: usize, k: usize) -> Vec<Vec<u8>> {
     let n = n as u8;
@@ -1188,6 +1315,12 @@ fn main() {
         println!("known answers: {} ({:.1?})", run.case, clock.elapsed());
         run.maps();
         println!("maps: {} ({:.1?})", run.case, clock.elapsed());
+        let named = run.pairs();
+        println!(
+            "pairs: {} clauses, {named} of them by 24 too ({:.1?})",
+            run.case,
+            clock.elapsed()
+        );
         run.small();
         println!("small instances: {} ({:.1?})", run.case, clock.elapsed());
         run.largest(&mut Generator::new(mix(seed, u64::MAX - 1)));
