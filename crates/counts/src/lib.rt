@@ -1,5 +1,5 @@
 // What is worked out from the sizes: how many bytes a plan has, how many variables, clauses and words a formula, and how many blocks
-// a family.
+// a family. And how many pairs there are of so many vertices or agents.
 use instance::Sizes;
 ghost use mathlib.Core.Path.{_≡_};
 ghost use Prim.Native.Nat.{_≤_, _<_};
@@ -76,7 +76,7 @@ pub fn pair_count(n: usize) -> usize
     n * (n - 1) / 2
 }
 
-// Pairs of two numbers below n that begin with a number lower than v.
+// How many of these pairs, the lower number first, begin with a number lower than v.
 pub fn pairs_below(n: usize, v: usize) -> usize
     requires { ⌜ (v < n) × (n ≤ 64) ⌝ }
     ensures { λ r. ⌜ (r ≡ pairsBelow n v) × (r ≤ 2016) ⌝ }

@@ -2,15 +2,15 @@
 use mathlib.Core.Path.{_≡_, refl, sym, _∙_, ap, ap₂}
 use mathlib.Core.List.{[], _∷_, append-nil}
 use Prim.Native.Nat.{ℕ, suc, _+_, _*_, _-_}
-use native.Mathlib.Nat.{mul-one, mul-comm, mul-assoc, mul-left-comm}
+use native.Mathlib.Nat.{mul-comm, mul-assoc, mul-left-comm}
 use native.Mathlib.Numerals.{add-one}
 use native.Mathlib.Omega.{arith}
 use lib.ListN.{length, length-append}
-use Rattle.lists.specs.Loop.{for, each, pairs}
+use Rattle.lists.specs.Loop.{each, pairs}
 use Rattle.lists.proofs.Loops.{for-length, each-for, each-append, each-when}
 use Rattle.lists.proofs.Blocks.{for1-length}
 use Rattle.lists.proofs.Sums.{for-sum, sum-ext, sum-const, sum-add, others-length}
-use Rattle.lists.proofs.Pairs.{above-length}
+use Rattle.lists.proofs.Pairs.{above-length, above-one}
 use Rattle.instance.specs.declared.Sizes.{Sizes}
 use Rattle.instance.specs.Instance.{Instance, adjacent, degree, Edges}
 use Rattle.instance.proofs.Graph.{for-neighbours, handshake}
@@ -44,13 +44,13 @@ module _ (I : Instance) where
   pub count-D : length (D (I .sizes)) ≡ clausesBy sizes .D
   unfolding D
   count-D =
-      for-length (suc m) _ _ (λ t l. for-length k (pairs n) _ (λ a l. above-length n 1 _ (λ v w. refl) ∙ mul-one _))
+      for-length (suc m) _ _ (λ t l. for-length k (pairs n) _ (λ a l. above-one n _))
       ∙ sym (mul-assoc (suc m) k (pairs n))
 
   pub count-E : length (E (I .sizes)) ≡ clausesBy sizes .E
   unfolding E
   count-E =
-      for-length (suc m) _ _ (λ t l. for-length n (pairs k) _ (λ v l. above-length k 1 _ (λ a b. refl) ∙ mul-one _))
+      for-length (suc m) _ _ (λ t l. for-length n (pairs k) _ (λ v l. above-one k _))
       ∙ sym (mul-assoc (suc m) n (pairs k))
 
   pub count-F : length (F (I .sizes) (adjacent I)) ≡ clausesBy sizes .F

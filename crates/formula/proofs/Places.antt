@@ -1,9 +1,8 @@
 -- Where a clause stands: at a place of a block, and at a place of its family, whose blocks all have the same number of clauses.
-use mathlib.Core.Path.{_≡_, refl, _∙_, ap}
+use mathlib.Core.Path.{_≡_, _∙_, ap}
 use mathlib.Core.Logic.{by-cases}
 use mathlib.Core.List.{List, [], _∷_}
 use Prim.Native.Nat.{ℕ, suc, _+_, _*_, _-_, _/_, _%_, _≤_, _<_}
-use native.Mathlib.Nat.{mul-one}
 use native.Mathlib.Decide.{decLt}
 use native.Mathlib.Omega.{arith}
 use lib.ListN.{length, getD}
@@ -12,7 +11,7 @@ use Rattle.lists.specs.Pairs.{pairsBelow}
 use Rattle.lists.proofs.Loops.{for-length, for-getD}
 use Rattle.lists.proofs.Blocks.{for1-length, for1-getD, cell-at}
 use Rattle.lists.proofs.Sums.{others-length, others-below, others-above}
-use Rattle.lists.proofs.Pairs.{above-length, above-getD}
+use Rattle.lists.proofs.Pairs.{above-one, above-getD}
 use Rattle.instance.specs.declared.Sizes.{Sizes}
 use Rattle.formula.specs.Variables.{Literal, ¬X}
 use Rattle.formula.specs.Formula.{Clause, noTwo, blockG}
@@ -22,7 +21,7 @@ use Rattle.formula.proofs.Blocks.{family-flat}
 -- D and E: the pair v < w stands behind the pairs that begin below v
 module _ (n : ℕ) (¬x : ℕ → Literal) where
   pub two-length : length (noTwo n ¬x) ≡ pairs n
-  two-length = above-length n 1 _ (λ v w. refl) ∙ mul-one (pairs n)
+  two-length = above-one n (λ v w. ¬x v ∷ ¬x w ∷ [])
 
   pub two-getD : (v w : ℕ) → v < w → w < n → getD (noTwo n ¬x) (pairsBelow n v + (w - suc v)) [] ≡ ¬x v ∷ ¬x w ∷ []
   two-getD = above-getD n (λ v w. ¬x v ∷ ¬x w ∷ []) []

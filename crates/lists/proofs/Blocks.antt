@@ -36,13 +36,19 @@ module _ {A : Type 0} where
   pub for3-length : (a b c : ℕ) (f : ℕ → ℕ → ℕ → A) → length (for a λ i. for b λ j. for c λ l. f i j l ∷ []) ≡ a * (b * c)
   for3-length a b c f = for-length a (b * c) _ (λ i h. for2-length b c (f i))
 
+  -- two loops of blocks: block j of i, with c elements, at its place l
+  pub nested-getD : (a b c : ℕ) (f : ℕ → ℕ → List A) (d : A) → ((i j : ℕ) → length (f i j) ≡ c)
+      → (i j l : ℕ) → i < a → j < b → l < c → getD (for a λ i. for b (f i)) ((i * b + j) * c + l) d ≡ getD (f i j) l d
+  nested-getD a b c f d len i j l p q r =
+      let e : (i * b + j) * c + l ≡ i * (b * c) + (j * c + l) = simp (add-mul, mul-assoc, add-assoc) in
+      ap (λ x. getD (for a λ i. for b (f i)) x d) e
+      ∙ for-getD a (b * c) (λ i. for b (f i)) d (λ i h. for-length b c (f i) (λ j h. len i j)) i (j * c + l) p (place-lt b c j l q r)
+      ∙ for-getD b c (f i) d (λ j h. len i j) j l q r
+
   pub for3-getD : (a b c : ℕ) (f : ℕ → ℕ → ℕ → A) (d : A) (i j l : ℕ) → i < a → j < b → l < c
       → getD (for a λ i. for b λ j. for c λ l. f i j l ∷ []) ((i * b + j) * c + l) d ≡ f i j l
   for3-getD a b c f d i j l p q r =
-      let e : (i * b + j) * c + l ≡ i * (b * c) + (j * c + l) = simp (add-mul, mul-assoc, add-assoc) in
-      ap (λ x. getD (for a λ i. for b λ j. for c λ l. f i j l ∷ []) x d) e
-      ∙ for-getD a (b * c) (λ i. for b λ j. for c λ l. f i j l ∷ []) d (λ i h. for2-length b c (f i)) i (j * c + l) p (place-lt b c j l q r)
-      ∙ for2-getD b c (f i) d j l q r
+      nested-getD a b c (λ i j. for c λ l. f i j l ∷ []) d (λ i j. for1-length c (f i j)) i j l p q r ∙ for1-getD c (f i j) d l r
 
 -- ---- two loops as one: block i of n times c is block i % c of row i / c
 quotient : (n c j : ℕ) → j < c → (n * c + j) / c ≡ n

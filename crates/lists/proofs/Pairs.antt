@@ -16,53 +16,53 @@ use Rattle.lists.proofs.Loops.{for-length, for-ext, for-split, for-nil,
 use Rattle.lists.proofs.Blocks.{for1-length, for1-getD}
 use Rattle.lists.proofs.Sums.{for-sum, for-at, sum-ext, sum-mul, sum-le}
 
--- ---- what goes by the pairs: one element for each, those that begin with v together
+-- ---- what goes by the pairs, one element for each: those that begin with v
 module _ {L : Type 0} (n : ℕ) (f : ℕ → ℕ → L) where
-  abbrev pub row : ℕ → List L
-  row v = for n λ w. when (ltb v w) (f v w ∷ [])
+  abbrev pub beginning : ℕ → List L
+  beginning v = for n λ w. when (ltb v w) (f v w ∷ [])
 
-  pub row-length : (v : ℕ) → length (row v) ≡ n - suc v
-  row-length v = ap length (for-above v n (λ w. f v w ∷ [])) ∙ for1-length (n - suc v) (λ i. f v (suc v + i))
+  pub beginning-length : (v : ℕ) → length (beginning v) ≡ n - suc v
+  beginning-length v = ap length (for-above v n (λ w. f v w ∷ [])) ∙ for1-length (n - suc v) (λ i. f v (suc v + i))
 
-  rows-length : (v : ℕ) → length (for v row) ≡ sum v (λ u. n - suc u)
-  rows-length v = for-sum v row ∙ sum-ext v _ _ (λ u l. row-length u)
+  lower-length : (v : ℕ) → length (for v beginning) ≡ sum v (λ u. n - suc u)
+  lower-length v = for-sum v beginning ∙ sum-ext v _ _ (λ u l. beginning-length u)
 
 -- ---- how many pairs begin below v
-when-nil : {L : Type 0} (l : List L) (b : Bool) → l ≡ [] → when b l ≡ []
-when-nil l true e = e
-when-nil l false e = refl
+when-nil : {L : Type 0} (b : Bool) → when {A = L} b [] ≡ []
+when-nil true = refl
+when-nil false = refl
 
 module _ (n v : ℕ) (h : v ≤ n) where
   abbrev lower : ℕ × ℕ → List (ℕ × ℕ)
   lower p = when (ltb (p .0) v) (p ∷ [])
 
-  abbrev begin : ℕ → List (ℕ × ℕ)
-  begin = row n λ u w. (u, w)
+  abbrev from : ℕ → List (ℕ × ℕ)
+  from = beginning n λ u w. (u, w)
 
-  kept : (u : ℕ) → u < v → each lower (begin u) ≡ begin u
+  kept : (u : ℕ) → u < v → each lower (from u) ≡ from u
   kept u l = simp (each-for, each-when) (rw (lt-ltb u v l) refl)
 
-  dropped : (u : ℕ) → v ≤ u → each lower (begin u) ≡ []
-  dropped u l = simp (each-for, each-when) (rw (le-ltb u v l) (for-nil n _ .1 (λ w r. when-nil _ (ltb u w) refl)))
+  dropped : (u : ℕ) → v ≤ u → each lower (from u) ≡ []
+  dropped u l = simp (each-for, each-when) (rw (le-ltb u v l) (for-nil n _ .1 (λ w r. when-nil (ltb u w))))
 
-  pub below-list : each lower (pairList n) ≡ for v begin
+  below-list : each lower (pairList n) ≡ for v from
   unfolding pairList
   below-list =
       let e : n ≡ v + (n - v) = omega arith in
-      each-for lower n begin
-      ∙ ap (λ (x : ℕ). for x (λ u. each lower (begin u))) e
+      each-for lower n from
+      ∙ ap (λ (x : ℕ). for x (λ u. each lower (from u))) e
       ∙ for-split v (n - v) _
-      ∙ ap₂ _++_ (for-ext v _ begin kept) (for-nil (n - v) _ .1 (λ i l. dropped (v + i) (omega arith)))
-      ∙ append-nil (for v begin)
+      ∙ ap₂ _++_ (for-ext v _ from kept) (for-nil (n - v) _ .1 (λ i l. dropped (v + i) (omega arith)))
+      ∙ append-nil (for v from)
 
-  pub below-sum : pairsBelow n v ≡ sum v (λ u. n - suc u)
+  below-sum : pairsBelow n v ≡ sum v (λ u. n - suc u)
   unfolding pairsBelow
-  below-sum = ap length below-list ∙ rows-length n (λ u w. (u, w)) v
+  below-sum = ap length below-list ∙ lower-length n (λ u w. (u, w)) v
 
 pub pairs-none : (n : ℕ) → pairsBelow n 0 ≡ 0
 pairs-none n = below-sum n 0 (omega arith)
 
-pub pairs-next : (n v : ℕ) → v < n → pairsBelow n (suc v) ≡ pairsBelow n v + (n - suc v)
+pairs-next : (n v : ℕ) → v < n → pairsBelow n (suc v) ≡ pairsBelow n v + (n - suc v)
 pairs-next n v l = below-sum n (suc v) l ∙ ap (λ x. x + (n - suc v)) (sym (below-sum n v (omega arith)))
 
 pub pairs-rise : (n v w : ℕ) → v ≤ w → w ≤ n → pairsBelow n v ≤ pairsBelow n w
@@ -106,21 +106,24 @@ module _ {L : Type 0} where
 
   module _ (n : ℕ) (f : ℕ → ℕ → L) where
     -- as many stand before those of v as pairs begin below v
-    pub rows-below : (v : ℕ) → v ≤ n → length (for v (row n f)) ≡ pairsBelow n v
-    rows-below v h = rows-length n f v ∙ sym (below-sum n v h)
+    pub lower-below : (v : ℕ) → v ≤ n → length (for v (beginning n f)) ≡ pairsBelow n v
+    lower-below v h = lower-length n f v ∙ sym (below-sum n v h)
 
-    pub above-getD : (d : L) (v w : ℕ) → v < w → w < n → getD (for n (row n f)) (pairsBelow n v + (w - suc v)) d ≡ f v w
+    pub above-one : length (for n (beginning n f)) ≡ pairs n
+    above-one = lower-below n (le-refl n) ∙ pairs-all n
+
+    pub above-getD : (d : L) (v w : ℕ) → v < w → w < n → getD (for n (beginning n f)) (pairsBelow n v + (w - suc v)) d ≡ f v w
     above-getD d v w o l =
         let e : suc v + (w - suc v) ≡ w = omega arith in
-        ap (λ (x : ℕ). getD (for n (row n f)) (x + (w - suc v)) d) (sym (rows-below v (omega arith)) ∙ for-sum v (row n f))
-        ∙ for-at n (row n f) d v (w - suc v) (omega arith) (omega (arith, row-length n f v))
+        ap (λ (x : ℕ). getD (for n (beginning n f)) (x + (w - suc v)) d) (sym (lower-below v (omega arith)) ∙ for-sum v (beginning n f))
+        ∙ for-at n (beginning n f) d v (w - suc v) (omega arith) (omega (arith, beginning-length n f v))
         ∙ ap (λ (r : List L). getD r (w - suc v) d) (for-above v n (λ w. f v w ∷ []))
         ∙ for1-getD (n - suc v) (λ i. f v (suc v + i)) d (w - suc v) (omega arith)
         ∙ ap (f v) e
 
 -- ---- the pair at a place
 module _ (n p : ℕ) where
-  -- v is the greatest below which no more than p pairs begin: the pair at place p is v and a number below n
+  -- v is the greatest below which no more than p pairs from: the pair at place p is v and a number below n
   pub pair-high : (v : ℕ) → v < n → pairsBelow n v ≤ p → p < pairsBelow n (suc v) → suc v + (p - pairsBelow n v) < n
   pair-high v l a b = omega (arith, pairs-next n v l)
 
@@ -139,6 +142,10 @@ module _ (n p : ℕ) where
     (λ h. by-cases (decLt v u) (λ g. absurd (let z : ⊥ = omega (arith, pairs-rise n (suc v) u g (omega arith), pairs-next n v (omega arith)) in z)) (λ g. omega arith)),
     (λ h. omega (arith, pairs-rise n u v h (omega arith))),
   )
+
+-- a pair stands below their number
+pub pair-within : (n v w : ℕ) → v < w → w < n → pairsBelow n v + (w - suc v) < pairs n
+pair-within n v w o l = omega (arith, pairs-next n v (omega arith), pairs-rise n (suc v) n (omega arith) (le-refl n), pairs-all n)
 
 -- where there is a pair of numbers below n, n is not 0
 pub pairs-some : (n p : ℕ) → p < pairs n → 0 < n

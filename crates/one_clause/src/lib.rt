@@ -78,13 +78,14 @@ fn spot_of(s: Sizes, number: usize) -> Spot
     spot_from(s, number, e, f, f + count.f)
 }
 
-// Pair number p of the numbers below n: `low` is the greatest below which no more than p pairs begin.
+// Pair number p of the numbers below n: its lower number is the greatest whose count of pairs below is not above p.
 fn pair_of(n: usize, p: usize) -> Pair
     requires { ⌜ (n ≤ 64) × (p < pairs n) ⌝ }
     ensures { λ r. ⌜ PairAt n p (r .low) (r .high) ⌝ }
 {
     let mut low: usize = 0;
     let mut end = n;
+    // The count of `low` is not above p, that of `end` is.
     while low + 1 < end {
         let middle = (low + end) / 2;
         if counts::pairs_below(n, middle) <= p {

@@ -13,13 +13,13 @@ use lib.ListN.{length, getD, length-append, List·getD-append}
 use lib.Seq.{getD-append-add}
 use lib.Dec.{T, ltb}
 use lib.IntN.{ℤ}
-use Rattle.lists.specs.Loop.{for, when, all}
+use Rattle.lists.specs.Loop.{for, all}
 use Rattle.lists.proofs.Tests.{ltb-iff}
 use Rattle.lists.proofs.Loops.{for-all, when-all, one-all, all-append, all-getD, for-split, for-length, for-above}
 use Rattle.lists.proofs.Blocks.{for1-length, for1-getD}
 use Rattle.lists.proofs.Slices.{for-room}
 use Rattle.lists.specs.Pairs.{pairsBelow}
-use Rattle.lists.proofs.Pairs.{row, row-length, rows-below}
+use Rattle.lists.proofs.Pairs.{beginning, beginning-length, lower-below}
 use Rattle.answers.specs.Fault.{FirstFault}
 use Rattle.formula.specs.Formula.{Clause}
 use Rattle.valuation.specs.Valuation.{satisfied?}
@@ -146,26 +146,26 @@ module _ (es : List ℤ) where
   -- pairs v < w of numbers that pass a test q: a clause for each pair, without a true literal where both pass
   module _ (n : ℕ) (g : ℕ → ℕ → Clause) (q : ℕ → Bool)
       (iff : (v w : ℕ) → v < n → w < n → T (sat (g v w)) ↔ (T (q v) → T (q w) → ⊥)) where
-    abbrev rows : ℕ → List Clause
-    rows = row n g
+    abbrev row : ℕ → List Clause
+    row = beginning n g
 
-    row-pass : (v : ℕ) → v < n → ((w : ℕ) → v < w → w < n → T (q v) → T (q w) → ⊥) → T (all sat (rows v))
+    row-pass : (v : ℕ) → v < n → ((w : ℕ) → v < w → w < n → T (q v) → T (q w) → ⊥) → T (all sat (row v))
     row-pass v l h =
         for-all sat n _ .1 (λ w r. when-all sat (ltb v w) _ .1 (λ t. one-all sat (g v w) .1 (iff v w l r .1 (h w (ltb-iff v w .0 t) r))))
 
     -- no two pass
-    pub pairs-pass : ((v w : ℕ) → v < w → w < n → T (q v) → T (q w) → ⊥) → T (all sat (for n rows))
-    pairs-pass h = for-all sat n rows .1 (λ v l. row-pass v l (λ w o r. h v w o r))
+    pub pairs-pass : ((v w : ℕ) → v < w → w < n → T (q v) → T (q w) → ⊥) → T (all sat (for n row))
+    pairs-pass h = for-all sat n row .1 (λ v l. row-pass v l (λ w o r. h v w o r))
 
     -- v and w are the first two that pass
     pub pairs-two : (v w : ℕ) → v < w → w < n → T (q v) → T (q w) → ((u : ℕ) → u < w → T (q u) → u ≡ v)
-        → Fault es (for n rows) (pairsBelow n v + (w - v - 1)) × (pairsBelow n v + (w - v - 1) < length (for n rows))
+        → Fault es (for n row) (pairsBelow n v + (w - v - 1)) × (pairsBelow n v + (w - v - 1) < length (for n row))
     pairs-two v w o l qv qw only =
         let lv : v < n = omega arith in
         let at : ℕ = w - suc v in
-        let e : length (for v rows) ≡ pairsBelow n v = rows-below n g v (omega arith) in
+        let e : length (for v row) ≡ pairsBelow n v = lower-below n g v (omega arith) in
         let e′ : w - suc v ≡ w - v - 1 = omega arith in
-        let here : Fault es (rows v) at =
+        let here : Fault es (row v) at =
         subst (λ (L : List Clause). Fault es L at) (sym (for-above v n (λ w. g v w ∷ [])))
         (singles (n - suc v) (λ i. g v (suc v + i)) at
         record {
@@ -175,10 +175,10 @@ module _ (es : List ℤ) where
               let e″ : suc v + at ≡ w = omega arith in
               iff v w lv l .0 (subst (λ (x : ℕ). T (sat (g v x))) e″ t) qv qw;
         }) in
-        subst (λ (x : ℕ). Fault es (for n rows) x × (x < length (for n rows))) (ap₂ _+_ e e′) (
-          for-stop rows n v at lv
-              (for-all sat v rows .1 (λ u h. row-pass u (omega arith) (λ w′ o′ r x y. let z = only u (omega arith) x in omega arith)))
+        subst (λ (x : ℕ). Fault es (for n row) x × (x < length (for n row))) (ap₂ _+_ e e′) (
+          for-stop row n v at lv
+              (for-all sat v row .1 (λ u h. row-pass u (omega arith) (λ w′ o′ r x y. let z = only u (omega arith) x in omega arith)))
               here
-              (omega (arith, row-length n g v)),
-          omega (arith, for-room rows lv, row-length n g v),
+              (omega (arith, beginning-length n g v)),
+          omega (arith, for-room row lv, beginning-length n g v),
         )

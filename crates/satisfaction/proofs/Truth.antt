@@ -4,7 +4,7 @@ use mathlib.Core.Logic.{_↔_, _≢_, by-cases}
 use mathlib.Core.List.{List, [], _∷_}
 use mathlib.Core.Bool.{Bool, not, _||_}
 use Prim.Native.Nat.{ℕ, suc, _+_, _*_, _-_, _/_, _≤_, _<_}
-use native.Mathlib.Nat.{mul-one, le-refl, suc-mul, mul-le-mul-right}
+use native.Mathlib.Nat.{le-refl, suc-mul, mul-le-mul-right}
 use native.Mathlib.Decide.{decLt, ℕ-discrete}
 use native.Mathlib.Omega.{arith}
 use borrow.Author.Tests.{ne-eqb}
@@ -18,10 +18,10 @@ use Rattle.lists.proofs.Blocks.{for1-length, place-lt}
 use Rattle.lists.proofs.Slices.{for-room}
 use Rattle.lists.specs.Pairs.{pairsBelow}
 use Rattle.lists.proofs.Sums.{others-length}
-use Rattle.lists.proofs.Pairs.{above-length}
 use Rattle.answers.specs.Fault.{FirstFault}
 use Rattle.instance.specs.declared.Sizes.{Sizes}
 use Rattle.formula.specs.Variables.{Literal, X, ¬X, index, variableCount}
+use Rattle.formula.proofs.Places.{two-length}
 use Rattle.formula.specs.Formula.{Clause, somewhere, blockC, blockD, blockE, blockF, blockG}
 use Rattle.plan.specs.Plan.{planRow}
 use Rattle.valuation.specs.Valuation.{true?, satisfied?}
@@ -43,10 +43,10 @@ module _ (s : Sizes) where
   open Sizes s using (n, k, m)
 
   pub length-D : (t a : ℕ) → length (blockD s t a) ≡ n * (n - 1) / 2
-  length-D t a = above-length n 1 (λ v w. (¬X s t a v ∷ ¬X s t a w ∷ []) ∷ []) (λ v w. refl) ∙ mul-one _
+  length-D t a = two-length n (¬X s t a)
 
   pub length-E : (t v : ℕ) → length (blockE s t v) ≡ k * (k - 1) / 2
-  length-E t v = above-length k 1 (λ a b. (¬X s t a v ∷ ¬X s t b v ∷ []) ∷ []) (λ a b. refl) ∙ mul-one _
+  length-E t v = two-length k (λ a. ¬X s t a v)
 
   pub length-F : (near : ℕ → ℕ → Bool) (t a : ℕ) → length (blockF s near t a) ≡ n
   length-F near t a = for1-length n _

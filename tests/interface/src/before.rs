@@ -268,6 +268,7 @@ pub fn compare(now: &Path, before: &Path, had: &[Names]) {
     for &(call, instance) in had {
         let best = best_times([now, before], call, instance);
         let rows: Vec<([f64; 2], &str)> = if (call, instance) == ("one clause D", "largest") {
+            assert_eq!(best.len(), PAIRS.len(), "a time for each pair");
             best.into_iter().zip(PAIRS).collect()
         } else {
             // Of several clauses the one that is dearest now.

@@ -1,13 +1,12 @@
--- `counts::pairs_below` meets its contract: twice the count is the product. Assumes nothing.
+-- `counts::pairs_below` meets its contract, by the law. Assumes nothing.
 use Prim.Native.Nat.{ℕ, _*_, _-_, _≤_}
 use native.Mathlib.Omega.{arith}
 use native.Mathlib.Nat.{mul-le-mul}
 use borrow.Author.Needs.{needs}
 use mir.Syntax.{w64}
 use mir.Val.{Fits}
-use Rattle.lists.specs.Loop.{pairs}
 use Rattle.lists.specs.Pairs.{pairsBelow}
-use Rattle.lists.proofs.Pairs.{pairs-double, pairs-rise, pairs-all}
+use Rattle.lists.proofs.Pairs.{pairs-below, pairs-rise, pairs-all}
 use Rattle.counts.proofs.pairs_below.Statement.{statement}
 use Rattle.counts.proofs.pairs_below.Tie as tie
 
@@ -17,7 +16,7 @@ most s =
     let q : s .args .n * (s .args .n - 1) ≤ 4032 = mul-le-mul {n₂ = 64} {m₂ = 63} (omega arith) (omega arith) in
     omega (arith, pairs-rise (s .args .n) (s .args .v) (s .args .n) (omega arith) (omega arith), pairs-all (s .args .n))
 
--- a product of two factors that are at most 256, whichever they are
+-- a product of two factors, whichever they are: what is wrong with a factor shows in the count
 fits : (x y : ℕ) → x ≤ 256 → y ≤ 256 → Fits w64 (x * y)
 fits x y h l = omega (arith, mul-le-mul {n₂ = 256} {m₂ = 256} h l)
 
@@ -25,7 +24,7 @@ mul-result-2 : tie.Need-mul-result-2
 mul-result-2 c = fits _ _ (omega arith) (omega arith)
 
 returns : tie.Need-returns
-returns c = (omega (arith, pairs-double (c .args .n) (c .args .v) (omega arith)), omega (arith, pairs-double (c .args .n) (c .args .v) (omega arith), most c))
+returns c = let e = pairs-below (c .args .n) (c .args .v) (omega arith) in (omega (arith, e), omega (arith, e, most c))
 
 pub pairs-below-spec : {M : Type 1} → statement M
 pairs-below-spec =
