@@ -9,6 +9,7 @@ ghost use mathlib.Core.Bool.{_&&_, _||_};
 ghost use Prim.Native.Nat.{ℕ, _+_, _-_, _<_, _≤_};
 ghost use lib.ListN.{length, getD, take};
 ghost use Rattle.lists.specs.Loop.{for};
+ghost use Rattle.lists.specs.Pairs.{pairsBelow};
 ghost use Rattle.answers.specs.Fault.{FirstFault};
 ghost use Rattle.instance.specs.Instance.{joined};
 ghost use Rattle.formula.specs.Variables.{highest, variableCount, X};
@@ -179,6 +180,14 @@ fn fault_c(p: &[u8], s: Sizes, t: usize) -> usize
     conditions::first_on(p, t * k, k, s.n as u8)
 }
 
+// The place of a pair among the pairs v < w below n: of v and the number that stands `gap` numbers after the next.
+fn pair_at(n: usize, v: usize, gap: usize) -> usize
+    requires { ⌜ (v < n) × (n ≤ 64) × (gap ≤ 64) ⌝ }
+    ensures { λ r. ⌜ (r ≡ pairsBelow n v + gap) × (r ≤ 2080) ⌝ }
+{
+    counts::pairs_below(n, v) + gap
+}
+
 // Family D at time t: the first two vertices of the first agent with several.
 fn fault_d(entries: &[i32], p: &[u8], s: Sizes, t: usize) -> usize
     requires { ⌜ Limits s ⌝ }
@@ -198,8 +207,7 @@ fn fault_d(entries: &[i32], p: &[u8], s: Sizes, t: usize) -> usize
     let end = base + n;
     let first = stop_from(entries, base, end, false);
     let second = stop_from(entries, first + 1, end, false);
-    let pair = counts::pairs_below(n, first - base) + (second - first - 1);
-    a * size + pair
+    a * size + pair_at(n, first - base, second - first - 1)
 }
 
 // `low`, or the vertex of agent a of a row where it is lower and a lower agent stands on it too.
@@ -246,8 +254,7 @@ fn fault_e(p: &[u8], s: Sizes, t: usize) -> usize
     }
     let a = conditions::first_on(p, row, k, v as u8);
     let gap = conditions::first_on(p, row + a + 1, k - a - 1, v as u8);
-    let pair = counts::pairs_below(k, a) + gap;
-    v * size + pair
+    v * size + pair_at(k, a, gap)
 }
 
 // Family F at time t: the vertex of the first agent that fails condition 1.

@@ -70,33 +70,26 @@ add-stop-from c = omega (arith, first c, ends (c .before))
 stop-from-requires-2 : tie.Need-stop-from-requires-2
 stop-from-requires-2 c κs = (omega (arith, first c), omega (arith, ends (c .before)), omega (arith, ends (c .before)))
 
-sub-pairs-below : tie.Need-sub-pairs-below
-sub-pairs-below c = omega (arith, c .before .stop-from .ensures .least)
-
-pairs-below-requires : tie.Need-pairs-below-requires
-pairs-below-requires c κs = (omega (arith, c .before .stop-from .ensures .least, first (c .before)), c .before .before .before .before .before .before .pre .0 .n-most)
-
-sub-pair : tie.Need-sub-pair
-sub-pair c = omega (arith, c .before .stop-from2 .ensures .least)
-
-sub-pair-2 : tie.Need-sub-pair-2
-sub-pair-2 c = omega (arith, c .before .stop-from2 .ensures .least)
-
--- the vertices between the two
-gap : (c : tie.After-pairs-below) → c .before .stop-from2 .result - c .before .before .stop-from .result - 1 ≤ 64
-gap c = omega (arith, c .before .before .stop-from .ensures .least, c .before .stop-from2 .ensures .least, second (c .before), c .before .before .before .before .before .before .before .pre .0 .n-most)
-
-add-pair : tie.Need-add-pair
-add-pair c = omega (arith, c .pairs-below .ensures .1, gap c)
-
 mul-result-2 : tie.Need-mul-result-2
-mul-result-2 c = rw (c .before .before .before .before .before .pair-count .ensures .0) (omega (arith, known (c .before .before .before .before .before .before .before) .D, blocks-fit _ _ (c .before .before .before .before .before .before .before .args .s .n * (c .before .before .before .before .before .before .before .args .s .n - 1) / 2) (c .before .before .before .before .first-on .ensures .within)))
+mul-result-2 c = rw (c .before .before .before .before .pair-count .ensures .0) (omega (arith, known (c .before .before .before .before .before .before) .D, blocks-fit _ _ (c .before .before .before .before .before .before .args .s .n * (c .before .before .before .before .before .before .args .s .n - 1) / 2) (c .before .before .before .first-on .ensures .within)))
+
+sub-pair-at : tie.Need-sub-pair-at
+sub-pair-at c = omega (arith, c .before .stop-from .ensures .least)
+
+sub-pair-at-2 : tie.Need-sub-pair-at-2
+sub-pair-at-2 c = omega (arith, c .stop-from2 .ensures .least)
+
+sub-pair-at-3 : tie.Need-sub-pair-at-3
+sub-pair-at-3 c = omega (arith, c .stop-from2 .ensures .least)
+
+pair-at-requires : tie.Need-pair-at-requires
+pair-at-requires c κs = (omega (arith, c .before .stop-from .ensures .least, first (c .before)), c .before .before .before .before .before .before .pre .0 .n-most, omega (arith, c .before .stop-from .ensures .least, c .stop-from2 .ensures .least, second c, c .before .before .before .before .before .before .pre .0 .n-most))
 
 add-result : tie.Need-add-result
-add-result c = rw (c .before .before .before .before .before .pair-count .ensures .0) (omega (arith, known (c .before .before .before .before .before .before .before) .D, blocks-fit _ _ (c .before .before .before .before .before .before .before .args .s .n * (c .before .before .before .before .before .before .before .args .s .n - 1) / 2) (c .before .before .before .before .first-on .ensures .within), c .pairs-below .ensures .1, gap c))
+add-result c = rw (c .before .before .before .before .before .pair-count .ensures .0) (omega (arith, known (c .before .before .before .before .before .before .before) .D, blocks-fit _ _ (c .before .before .before .before .before .before .before .args .s .n * (c .before .before .before .before .before .before .before .args .s .n - 1) / 2) (c .before .before .before .before .first-on .ensures .within), c .pair-at .ensures .1))
 
 returns-2 : tie.Need-returns-2
-returns-2 c = rw (c .before .before .before .before .before .pair-count .ensures .0, c .pairs-below .ensures .0) (here-D (c .before .before .before .before .before .before .before .args .s) (c .before .before .before .before .before .before .before .args .entries .now) (c .before .before .before .before .before .before .before .pre .1 .0 .valid) (c .before .before .before .before .before .before .before .args .p .now) (c .before .before .before .before .before .before .before .pre .1 .0) (c .before .before .before .before .before .before .before .args .t) (let h = c .before .before .before .before .before .before .before .pre .1 .1 in omega arith) (c .before .before .before .before .before .before .before .args .s .n + 1) (c .before .before .before .before .first-on .result) (add-one _) (c .before .before .before .before .first-on .ensures) (c .before .before .before .if1 .left) (c .before .before .stop-from .result) (c .before .stop-from2 .result) (c .before .before .stop-from .ensures) (c .before .stop-from2 .ensures))
+returns-2 c = rw (c .before .before .before .before .before .pair-count .ensures .0, c .pair-at .ensures .0) (here-D (c .before .before .before .before .before .before .before .args .s) (c .before .before .before .before .before .before .before .args .entries .now) (c .before .before .before .before .before .before .before .pre .1 .0 .valid) (c .before .before .before .before .before .before .before .args .p .now) (c .before .before .before .before .before .before .before .pre .1 .0) (c .before .before .before .before .before .before .before .args .t) (let h = c .before .before .before .before .before .before .before .pre .1 .1 in omega arith) (c .before .before .before .before .before .before .before .args .s .n + 1) (c .before .before .before .before .first-on .result) (add-one _) (c .before .before .before .before .first-on .ensures) (c .before .before .before .if1 .left) (c .before .before .stop-from .result) (c .before .stop-from2 .result) (c .before .before .stop-from .ensures) (c .before .stop-from2 .ensures))
 
 pub fault-d-spec : {M : Type 1} → statement M
 fault-d-spec =
@@ -115,11 +108,10 @@ fault-d-spec =
     stop-from-requires
     add-stop-from
     stop-from-requires-2
-    sub-pairs-below
-    pairs-below-requires
-    sub-pair
-    sub-pair-2
-    add-pair
     mul-result-2
+    sub-pair-at
+    sub-pair-at-2
+    sub-pair-at-3
+    pair-at-requires
     add-result
     returns-2)

@@ -64,31 +64,24 @@ cast-first-on-2 c = omega (arith, c .before .before .lowest-shared .ensures .wit
 first-on-requires-2 : tie.Need-first-on-requires-2
 first-on-requires-2 c κs = omega (arith, agent c, room (c .before .before .before .before .before))
 
-pairs-below-requires : tie.Need-pairs-below-requires
-pairs-below-requires c κs = (agent (c .before), omega (arith, c .before .before .before .before .before .before .pre .0 .k-most))
-
--- the agents between the two
-gap : (c : tie.After-pairs-below) → c .before .first-on2 .result ≤ 64
-gap c = omega (arith, c .before .first-on2 .ensures .within, c .before .before .before .before .before .before .before .pre .0 .k-most)
-
-add-pair : tie.Need-add-pair
-add-pair c = omega (arith, c .pairs-below .ensures .1, gap c)
-
 mul-result-2 : tie.Need-mul-result-2
-mul-result-2 c = rw (c .before .before .before .before .before .pair-count .ensures .0) (omega (arith, known (c .before .before .before .before .before .before .before) .E, blocks-fit _ _ (c .before .before .before .before .before .before .before .args .s .k * (c .before .before .before .before .before .before .before .args .s .k - 1) / 2) (c .before .before .before .before .lowest-shared .ensures .within)))
+mul-result-2 c = rw (c .before .before .before .before .pair-count .ensures .0) (omega (arith, known (c .before .before .before .before .before .before) .E, blocks-fit _ _ (c .before .before .before .before .before .before .args .s .k * (c .before .before .before .before .before .before .args .s .k - 1) / 2) (c .before .before .before .lowest-shared .ensures .within)))
+
+pair-at-requires : tie.Need-pair-at-requires
+pair-at-requires c κs = (agent (c .before), omega (arith, c .before .before .before .before .before .before .pre .0 .k-most), omega (arith, c .first-on2 .ensures .within, c .before .before .before .before .before .before .pre .0 .k-most))
 
 add-result : tie.Need-add-result
-add-result c = rw (c .before .before .before .before .before .pair-count .ensures .0) (omega (arith, known (c .before .before .before .before .before .before .before) .E, blocks-fit _ _ (c .before .before .before .before .before .before .before .args .s .k * (c .before .before .before .before .before .before .before .args .s .k - 1) / 2) (c .before .before .before .before .lowest-shared .ensures .within), c .pairs-below .ensures .1, gap c))
+add-result c = rw (c .before .before .before .before .before .pair-count .ensures .0) (omega (arith, known (c .before .before .before .before .before .before .before) .E, blocks-fit _ _ (c .before .before .before .before .before .before .before .args .s .k * (c .before .before .before .before .before .before .before .args .s .k - 1) / 2) (c .before .before .before .before .lowest-shared .ensures .within), c .pair-at .ensures .1))
 
 -- the agents behind the first, counted from there
-next : (c : tie.After-pairs-below) → FirstFault (c .before .before .before .before .before .before .before .args .s .k - c .before .before .first-on .result - 1) (λ i. not (eqb (planRow (c .before .before .before .before .before .before .before .args .s) (c .before .before .before .before .before .before .before .args .p .now) (c .before .before .before .before .before .before .before .args .t) (c .before .before .first-on .result + 1 + i)) (c .before .before .before .before .lowest-shared .result))) (c .before .first-on2 .result)
+next : (c : tie.After-pair-at) → FirstFault (c .before .before .before .before .before .before .before .args .s .k - c .before .before .first-on .result - 1) (λ i. not (eqb (planRow (c .before .before .before .before .before .before .before .args .s) (c .before .before .before .before .before .before .before .args .p .now) (c .before .before .before .before .before .before .before .args .t) (c .before .before .first-on .result + 1 + i)) (c .before .before .before .before .lowest-shared .result))) (c .before .first-on2 .result)
 next c =
     fault-ext (λ i h.
     let e : c .before .before .before .before .before .before .before .args .t * c .before .before .before .before .before .before .before .args .s .k + c .before .before .first-on .result + 1 + i ≡ c .before .before .before .before .before .before .before .args .t * c .before .before .before .before .before .before .before .args .s .k + (c .before .before .first-on .result + 1 + i) = omega arith in
     ap (λ (x : ℕ). not (eqb (getD (c .before .before .before .before .before .before .before .args .p .now) x 0) (c .before .before .before .before .lowest-shared .result))) e) (c .before .first-on2 .ensures)
 
 returns-2 : tie.Need-returns-2
-returns-2 c = λ es w c′. rw (c .before .before .before .before .before .pair-count .ensures .0, c .pairs-below .ensures .0) (here-E (c .before .before .before .before .before .before .before .args .s) es w (planRow (c .before .before .before .before .before .before .before .args .s) (c .before .before .before .before .before .before .before .args .p .now)) c′ (c .before .before .before .before .before .before .before .args .t) (let h = c .before .before .before .before .before .before .before .pre .1 .1 in omega arith) (c .before .before .before .before .lowest-shared .result) (c .before .before .before .before .lowest-shared .ensures) (c .before .before .before .if1 .left) (c .before .before .before .before .lowest-shared .result) (c .before .before .first-on .result) (c .before .first-on2 .result) refl (c .before .before .first-on .ensures) (next c))
+returns-2 c = λ es w c′. rw (c .before .before .before .before .before .pair-count .ensures .0, c .pair-at .ensures .0) (here-E (c .before .before .before .before .before .before .before .args .s) es w (planRow (c .before .before .before .before .before .before .before .args .s) (c .before .before .before .before .before .before .before .args .p .now)) c′ (c .before .before .before .before .before .before .before .args .t) (let h = c .before .before .before .before .before .before .before .pre .1 .1 in omega arith) (c .before .before .before .before .lowest-shared .result) (c .before .before .before .before .lowest-shared .ensures) (c .before .before .before .if1 .left) (c .before .before .before .before .lowest-shared .result) (c .before .before .first-on .result) (c .before .first-on2 .result) refl (c .before .before .first-on .ensures) (next c))
 
 pub fault-e-spec : {M : Type 1} → statement M
 fault-e-spec =
@@ -107,8 +100,7 @@ fault-e-spec =
     sub-first-on-2
     cast-first-on-2
     first-on-requires-2
-    pairs-below-requires
-    add-pair
     mul-result-2
+    pair-at-requires
     add-result
     returns-2)
