@@ -73,7 +73,7 @@ pairs-rise n v w o l =
     (eq-or-lt-of-le o)
 
 -- twice their number is the product, so the half of the product is their number
-pub pairs-double : (n v : ℕ) → v ≤ n → 2 * pairsBelow n v ≡ v * (2 * n - v - 1)
+pairs-double : (n v : ℕ) → v ≤ n → 2 * pairsBelow n v ≡ v * (2 * n - v - 1)
 pairs-double n zero h = rw (pairs-none n) (sym (zero-mul _))
 pairs-double n (suc v) h =
     let e : 2 * n - v - 1 ≡ suc (2 * n - v - 2) = omega arith in
@@ -123,7 +123,7 @@ module _ {L : Type 0} where
 
 -- ---- the pair at a place
 module _ (n p : ℕ) where
-  -- v is the greatest below which no more than p pairs from: the pair at place p is v and a number below n
+  -- v is the greatest below which no more than p pairs begin: the pair at place p is v and a number below n
   pub pair-high : (v : ℕ) → v < n → pairsBelow n v ≤ p → p < pairsBelow n (suc v) → suc v + (p - pairsBelow n v) < n
   pair-high v l a b = omega (arith, pairs-next n v l)
 
@@ -143,7 +143,7 @@ module _ (n p : ℕ) where
     (λ h. omega (arith, pairs-rise n u v h (omega arith))),
   )
 
--- a pair stands below their number
+-- the place of a pair is below their number
 pub pair-within : (n v w : ℕ) → v < w → w < n → pairsBelow n v + (w - suc v) < pairs n
 pair-within n v w o l = omega (arith, pairs-next n v (omega arith), pairs-rise n (suc v) n (omega arith) (le-refl n), pairs-all n)
 

@@ -1,5 +1,4 @@
--- The pairs v < w of numbers below n, in the order in which families D and E go by them: by v, then by w. How many they are in all is
--- `pairs` in `Loop`.
+-- The pairs v < w of numbers below n, in their order: by v, then by w. How many they are in all is `pairs` in `Loop`.
 --     pairList n         the pairs
 --     pairsBelow n v     how many of them begin with a number lower than v
 use mathlib.Core.List.{List, [], _∷_}
