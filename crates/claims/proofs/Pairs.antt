@@ -3,11 +3,12 @@ use mathlib.Core.Path.{_≡_, refl, sym, _∙_, ap}
 use mathlib.Core.Logic.{_↔_}
 use mathlib.Core.List.{List, [], _∷_}
 use Prim.Native.Nat.{ℕ, suc, _+_, _*_, _-_, _≤_, _<_}
+use native.Mathlib.Nat.{mul-assoc}
 use native.Mathlib.Omega.{arith}
 use lib.ListN.{length, getD}
 use Rattle.lists.specs.Loop.{for, each, sum, pairs}
 use Rattle.lists.specs.Pairs.{pairList, pairsBelow}
-use Rattle.lists.proofs.Loops.{each-for, each-when}
+use Rattle.lists.proofs.Loops.{for-length, each-for, each-when}
 use Rattle.lists.proofs.Blocks.{place-lt, nested-getD}
 use Rattle.lists.proofs.Sums.{for-at}
 use Rattle.lists.proofs.Pairs.{pairs-below, above-one, above-getD, pair-some, pair-within, greatest-low}
@@ -15,10 +16,9 @@ use Rattle.instance.specs.declared.Sizes.{Sizes}
 use Rattle.instance.specs.Instance.{Instance}
 use Rattle.formula.specs.Variables.{Literal, ¬X}
 use Rattle.formula.specs.Formula.{Clause, noTwo, D, E, clauses}
-use Rattle.formula.specs.Counts.{clausesBy}
 use Rattle.formula.specs.Blocks.{given, family}
 use Rattle.formula.proofs.Blocks.{clauses-families}
-use Rattle.formula.proofs.Counts.{count-A, count-B, count-C, count-D, count-E}
+use Rattle.formula.proofs.Counts.{count-A, count-B, count-C, count-D}
 use Rattle.formula.proofs.Places.{two-length, two-getD}
 use Rattle.claims.specs.Pairs.{Items, Families, Claim}
 
@@ -53,55 +53,39 @@ module _ (n : ℕ) where
   unfolding pairList
   by-pairs ¬x = sym (simp (each-for, each-when) refl)
 
-  -- block x of time t of a family with such blocks, b for each of c times, and the clause of v and w in it
-  in-family : (c b : ℕ) (¬x : ℕ → ℕ → ℕ → Literal) (t x v w : ℕ) → t < c → x < b → v < w → w < n
-      → getD (for c λ t. for b λ x. noTwo n (¬x t x)) ((t * b + x) * pairs n + (pairsBelow n v + (w - suc v))) [] ≡ ¬x t x v ∷ ¬x t x w ∷ []
-  in-family c b ¬x t x v w p q o l =
-      nested-getD c b (pairs n) (λ t x. noTwo n (¬x t x)) [] (λ t x. two-length n (¬x t x)) t x (pairsBelow n v + (w - suc v)) p q (pair-within n v w o l)
-      ∙ two-getD n (¬x t x) v w o l
-
 module _ (I : Instance) where
   open Instance I using (sizes)
   open Sizes sizes using (n, k, m)
 
-  -- place q of a family, behind the families before it
-  in-formula : (j q : ℕ) → j < 7 → q < length (family (given I) j)
-      → getD (clauses I) (sum j (λ u. length (family (given I) u)) + q) [] ≡ getD (family (given I) j) q []
-  in-formula j q h l =
-      ap (λ (L : List Clause). getD L (sum j (λ u. length (family (given I) u)) + q) []) (clauses-families I)
-      ∙ for-at 7 (family (given I)) [] j q h l
+  abbrev by : ℕ → List Clause
+  by = family (given I)
 
-  abbrev three : ℕ
-  three = clausesBy sizes .A + clausesBy sizes .B + clausesBy sizes .C
-
-  at-D : (q : ℕ) → q < length (D sizes) → getD (clauses I) (three + q) [] ≡ getD (D sizes) q []
-  unfolding family
-  at-D q l =
-      let e : three + q ≡ sum 3 (λ u. length (family (given I) u)) + q = omega (arith, count-A I, count-B I, count-C I) in
-      ap (λ (x : ℕ). getD (clauses I) x []) e ∙ in-formula 3 q (omega arith) l
-
-  at-E : (q : ℕ) → q < length (E sizes) → getD (clauses I) (three + clausesBy sizes .D + q) [] ≡ getD (E sizes) q []
-  unfolding family
-  at-E q l =
-      let e : three + clausesBy sizes .D + q ≡ sum 4 (λ u. length (family (given I) u)) + q = omega (arith, count-A I, count-B I, count-C I, count-D I) in
-      ap (λ (x : ℕ). getD (clauses I) x []) e ∙ in-formula 4 q (omega arith) l
+  -- family j has for each time b blocks of the pairs of c items, and `before` clauses stand before it
+  numbered : (j b c before : ℕ) (¬x : ℕ → ℕ → ℕ → Literal) → j < 7 → before ≡ sum j (λ u. length (by u)) → by j ≡ for (suc m) (λ t. for b λ x. noTwo c (¬x t x))
+      → (t x v w : ℕ) → t ≤ m → x < b → v < w → w < c
+      → getD (clauses I) (before + ((t * b + x) * pairs c + (pairsBelow c v + (w - v - 1)))) [] ≡ ¬x t x v ∷ ¬x t x w ∷ []
+  numbered j b c before ¬x h e f t x v w p q o l =
+      let z : w - v - 1 ≡ w - suc v = omega arith in
+      let place : ℕ = pairsBelow c v + (w - suc v) in
+      let i : ℕ = (t * b + x) * pairs c + place in
+      let len : length (by j) ≡ suc m * (b * pairs c) =
+      ap length f ∙ for-length (suc m) (b * pairs c) _ (λ t l. for-length b (pairs c) _ (λ x l. two-length c (¬x t x))) in
+      let r : i < suc m * b * pairs c = place-lt (suc m * b) (pairs c) (t * b + x) place (place-lt (suc m) b t x (omega arith) q) (pair-within c v w o l) in
+      rw (z, e)
+      (ap (λ (L : List Clause). getD L (sum j (λ u. length (by u)) + i) []) (clauses-families I)
+      ∙ for-at 7 by [] j i h (omega (arith, len, mul-assoc (suc m) b (pairs c)))
+      ∙ ap (λ (L : List Clause). getD L i []) f
+      ∙ nested-getD (suc m) b (pairs c) (λ t x. noTwo c (¬x t x)) [] (λ t x. two-length c (¬x t x)) t x place (omega arith) q (pair-within c v w o l)
+      ∙ two-getD c (¬x t x) v w o l)
 
   families : Families I
-  unfolding D E
+  unfolding family D E
   families =
       record {
         vertices = λ t a. by-pairs n _;
         agents = λ t v. by-pairs k _;
-        inD = λ t a v w h l o r.
-            let e : w - v - 1 ≡ w - suc v = omega arith in
-            let p : (t * k + a) * pairs n + (pairsBelow n v + (w - suc v)) < suc m * k * pairs n =
-            place-lt (suc m * k) (pairs n) (t * k + a) _ (place-lt (suc m) k t a (omega arith) l) (pair-within n v w o r) in
-            rw e (at-D _ (omega (arith, count-D I)) ∙ in-family n (suc m) k (λ t a. ¬X sizes t a) t a v w (omega arith) l o r);
-        inE = λ t v a b h l o r.
-            let e : b - a - 1 ≡ b - suc a = omega arith in
-            let p : (t * n + v) * pairs k + (pairsBelow k a + (b - suc a)) < suc m * n * pairs k =
-            place-lt (suc m * n) (pairs k) (t * n + v) _ (place-lt (suc m) n t v (omega arith) l) (pair-within k a b o r) in
-            rw e (at-E _ (omega (arith, count-E I)) ∙ in-family k (suc m) n (λ t v a. ¬X sizes t a v) t v a b (omega arith) l o r);
+        inD = numbered 3 k n _ (λ t a. ¬X sizes t a) (omega arith) (omega (arith, count-A I, count-B I, count-C I)) refl;
+        inE = numbered 4 n k _ (λ t v a. ¬X sizes t a v) (omega arith) (omega (arith, count-A I, count-B I, count-C I, count-D I)) refl;
       }
 
 pub pairs-claim : Claim

@@ -10,14 +10,13 @@ use lib.Dec.{eqb}
 use Rattle.lists.specs.Loop.{for, when, each, pairs}
 use Rattle.lists.proofs.Loops.{each-for, each-when}
 use Rattle.lists.proofs.Blocks.{for1-length}
-use Rattle.lists.proofs.Pairs.{above-length}
+use Rattle.lists.proofs.Pairs.{pairs-most, above-length}
 use Rattle.instance.specs.declared.Sizes.{Sizes}
 use Rattle.instance.specs.Limits.{Limits}
 use Rattle.formula.specs.Variables.{Literal, X, ¬X}
 use Rattle.formula.specs.Formula.{Clause, line, noTwo, somewhere, onward}
 use Rattle.formula.specs.Blocks.{Given, block}
 use Rattle.formula.proofs.Counts.{one-line}
-use Rattle.formula.proofs.Limits.{pairs-most}
 use Rattle.families.specs.Runs.{apart}
 
 for-most : {A : Type 0} (n c : ℕ) (f : ℕ → List A) → ((i : ℕ) → length (f i) ≤ c) → length (for n f) ≤ n * c
@@ -42,8 +41,8 @@ module _ (g : Given) (w : Limits (g .sizes)) where
   block-most zero t x = omega arith
   block-most (suc zero) t x = omega arith
   block-most (suc (suc zero)) t x = omega (arith, one-line (somewhere (g .sizes) t x), for1-length n (X (g .sizes) t x), w .n-most)
-  block-most (suc (suc (suc zero))) t x = omega (arith, no-two n (¬X (g .sizes) t x), pairs-most (g .sizes) w n 64 (w .n-most))
-  block-most (suc (suc (suc (suc zero)))) t x = omega (arith, no-two k (λ a. ¬X (g .sizes) t a x), pairs-most (g .sizes) w k 16 (w .k-most))
+  block-most (suc (suc (suc zero))) t x = omega (arith, no-two n (¬X (g .sizes) t x), pairs-most n 64 (w .n-most))
+  block-most (suc (suc (suc (suc zero)))) t x = omega (arith, no-two k (λ a. ¬X (g .sizes) t a x), pairs-most k 16 (w .k-most))
   block-most (suc (suc (suc (suc (suc zero))))) t x =
       omega (arith, lines-most n 67 (λ v. onward (g .sizes) (g .near v) t x v ∷ []) turn, w .n-most)
     where

@@ -8,11 +8,12 @@ use native.Mathlib.Nat.{mul-le-mul, not-suc-le-zero, le-refl, eq-or-lt-of-le, le
 use native.Mathlib.Omega.{arith}
 use lib.ListN.{length, length-append}
 use lib.Dec.{T, leb}
-use Rattle.lists.specs.Loop.{all, sum, pairs}
+use Rattle.lists.specs.Loop.{all, sum}
 use Rattle.lists.proofs.Tests.{leb-iff}
 use Rattle.lists.proofs.Loops.{for-all, when-all, one-all, all-append, all-mem}
 use Rattle.lists.proofs.Blocks.{for1-length}
 use Rattle.lists.proofs.Sums.{ind, ind-no, when-count}
+use Rattle.lists.proofs.Pairs.{pairs-most}
 use Rattle.instance.specs.declared.Sizes.{Sizes}
 use Rattle.instance.specs.Instance.{Instance, adjacent, degree, Edges}
 use Rattle.instance.proofs.Graph.{adjacent-iff, for-neighbours}
@@ -23,9 +24,6 @@ use Rattle.formula.specs.Counts.{clausesBy, clauseCount, wordCount}
 
 module _ (s : Sizes) (w : Limits s) where
   open Sizes s using (n, k, e, m)
-
-  pub pairs-most : (x y : ℕ) → x ≤ y → pairs x ≤ pairs y
-  pairs-most x y h = let q : x * (x - 1) ≤ y * (y - 1) = mul-le-mul h (omega arith) in omega arith
 
   pub rows : suc m * k ≤ 528
   rows = mul-le-mul {n₂ = 33} {m₂ = 16} (omega arith) (w .k-most)

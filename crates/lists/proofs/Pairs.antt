@@ -4,7 +4,7 @@ use mathlib.Core.Logic.{_↔_, ⊎-elim, by-cases}
 use mathlib.Core.List.{List, [], _∷_, _++_, append-nil}
 use mathlib.Core.Bool.{Bool, true, false}
 use Prim.Native.Nat.{ℕ, zero, suc, _+_, _*_, _-_, _/_, _≤_, _<_}
-use native.Mathlib.Nat.{suc-mul, mul-suc, zero-mul, le-refl, eq-or-lt-of-le}
+use native.Mathlib.Nat.{suc-mul, mul-suc, zero-mul, mul-le-mul, le-refl, eq-or-lt-of-le}
 use native.Mathlib.Decide.{decLt}
 use native.Mathlib.Omega.{arith}
 use borrow.Author.Tests.{lt-ltb, le-ltb}
@@ -94,6 +94,9 @@ pub pairs-all : (n : ℕ) → pairsBelow n n ≡ pairs n
 pairs-all n =
     let e : 2 * n - n - 1 ≡ n - 1 = omega arith in
     rw (← e) (pairs-below n n (le-refl n))
+
+pub pairs-most : (x y : ℕ) → x ≤ y → pairs x ≤ pairs y
+pairs-most x y h = let q : x * (x - 1) ≤ y * (y - 1) = mul-le-mul h (omega arith) in omega arith
 
 -- ---- where a pair stands
 module _ {L : Type 0} where

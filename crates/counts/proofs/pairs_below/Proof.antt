@@ -1,20 +1,24 @@
 -- `counts::pairs_below` meets its contract, by the law. Assumes nothing.
-use Prim.Native.Nat.{ℕ, _*_, _-_, _≤_}
+use Prim.Native.Nat.{ℕ, _*_, _≤_}
 use native.Mathlib.Omega.{arith}
 use native.Mathlib.Nat.{mul-le-mul}
 use borrow.Author.Needs.{needs}
 use mir.Syntax.{w64}
 use mir.Val.{Fits}
 use Rattle.lists.specs.Pairs.{pairsBelow}
-use Rattle.lists.proofs.Pairs.{pairs-below, pairs-rise, pairs-all}
+use Rattle.lists.proofs.Pairs.{pairs-below, pairs-rise, pairs-all, pairs-most}
 use Rattle.counts.proofs.pairs_below.Statement.{statement}
 use Rattle.counts.proofs.pairs_below.Tie as tie
 
 -- no more than there are pairs of 64 numbers
 most : (s : tie.Start) → pairsBelow (s .args .n) (s .args .v) ≤ 2016
 most s =
-    let q : s .args .n * (s .args .n - 1) ≤ 4032 = mul-le-mul {n₂ = 64} {m₂ = 63} (omega arith) (omega arith) in
-    omega (arith, pairs-rise (s .args .n) (s .args .v) (s .args .n) (omega arith) (omega arith), pairs-all (s .args .n))
+    omega (
+      arith,
+      pairs-rise (s .args .n) (s .args .v) (s .args .n) (omega arith) (omega arith),
+      pairs-all (s .args .n),
+      pairs-most (s .args .n) 64 (s .pre .1),
+    )
 
 -- a product of two factors, whichever they are: what is wrong with a factor shows in the count
 fits : (x y : ℕ) → x ≤ 256 → y ≤ 256 → Fits w64 (x * y)
