@@ -14,8 +14,8 @@
  * An instance is bytes: n vertices, k agents, e edges (two bytes, the low one first); the low ends of all edges, then
  * their high ends, sorted by low end and then by high end; the starts of all agents, then their goals. Vertices, agents
  * and times are numbered from 0. A plan has a row for each time from 0 to the horizon m, a byte for each agent: byte
- * t * k + a is the vertex of agent a at time t. Variable 1 + (t * k + a) * n + v says that agent a is at vertex v at time
- * t; there are n * k * (m + 1) of them, and a valuation has an entry for each.
+ * t * k + a is the vertex of agent a at time t. Variable 1 + (a * (m + 1) + t) * n + v says that agent a is at vertex v
+ * at time t; there are n * k * (m + 1) of them, an agent's in one stretch, and a valuation has an entry for each, in order.
  *
  * Questions are numbered as in README.md. Words and entries are signed 32-bit numbers.
  */

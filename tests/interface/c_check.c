@@ -1,5 +1,6 @@
-/* Each call once or more on the examples of document 01, the plan check's cost, the reader, the floor and the pruned
- * formula on examples of their own, and all with null pointers, from C; and the layout of the answers. */
+/* Each call once or more on the examples of document 01, the plan check's cost, the reader, the floor, the pruned formula
+ * and the variables of two agents on examples of their own, and all with null pointers, from C; and the layout of the
+ * answers. */
 #include "runglaet.h"
 
 #include <stddef.h>
@@ -269,6 +270,64 @@ static void pruned_writer(const int32_t *formula) {
     expect("pruned, path, m 0: family H", memcmp(words + 17, all, sizeof all) == 0);
 }
 
+/* Two agents on the path 0-1-2 at m 1, from 0 to 1 and from 2 to 2. Agent 0 has the variables 1 to 3 at time 0 and 4 to 6
+ * at time 1, agent 1 has 7 to 9 and 10 to 12. */
+static const uint8_t two[12] = {3, 2, 2, 0, 0, 1, 1, 2, 0, 2, 1, 2};
+
+static int is_clause(uint64_t number, const int32_t *words, size_t length) {
+    int32_t clause[5];
+    return says(runglaet_clause(two, sizeof two, 1, number, clause, 5), 0, length) &&
+           memcmp(clause, words, length * sizeof *words) == 0;
+}
+
+#define WORDS(...) (const int32_t[]){__VA_ARGS__, 0}
+#define CLAUSE(number, ...)                                 \
+    expect("two agents, clause " #number ": " #__VA_ARGS__, \
+           is_clause(number, WORDS(__VA_ARGS__), sizeof WORDS(__VA_ARGS__) / sizeof(int32_t)))
+
+static void two_agents(void) {
+    static const uint8_t moves[4] = {0, 2, 1, 2};
+    CLAUSE(1, 9);
+    CLAUSE(2, 5);
+    CLAUSE(5, 7, 8, 9);
+    CLAUSE(6, 4, 5, 6);
+    CLAUSE(11, -7, -8);
+    CLAUSE(14, -4, -5);
+    CLAUSE(20, -1, -7);
+    CLAUSE(27, -2, 5, 4, 6);
+    CLAUSE(32, -7, -4);
+    CLAUSE(37, -3, -12);
+
+    static const int32_t family_h[16] = {-2, 0, -3, 0, -7, 0, -8, 0, -4, 0, -6, 0, -10, 0, -11, 0};
+    int32_t words[38 * 5] = {0}, pruned[138];
+    expect("two agents: 122 words", says(runglaet_write_formula(two, sizeof two, 1, words, 122), 0, 0));
+    expect("two agents: 138 words with H", says(runglaet_write_pruned(two, sizeof two, 1, pruned, 138), 0, 0));
+    expect("two agents: the same formula", memcmp(words, pruned, 122 * sizeof *words) == 0);
+    expect("two agents: family H", memcmp(pruned + 122, family_h, sizeof family_h) == 0);
+    int whole = 1;
+    const int32_t *clause = words;
+    for (uint64_t number = 0; number < 38; number++) {
+        size_t length = 1;
+        while (length < 5 && clause[length - 1] != 0) length++;
+        whole &= is_clause(number, clause, length);
+        clause += length;
+    }
+    expect("two agents: the clauses make the formula", whole && clause == words + 122);
+
+    static const int32_t valuation[12] = {1, -2, -3, -4, 5, -6, -7, -8, 9, -10, -11, 12},
+                         exchanged[12] = {1, -2, -3, -4, 5, -7, -6, -8, 9, -10, -11, 12},
+                         twice[12] = {1, -2, -3, 4, 5, -6, 7, -8, 9, -10, -11, 12};
+    int32_t entries[12];
+    uint8_t plan[4];
+    expect("two agents: encoded", says(runglaet_encode(two, sizeof two, 1, moves, 4, entries, 12), 0, 12));
+    expect("two agents: the entries", memcmp(entries, valuation, sizeof entries) == 0);
+    expect("two agents: decoded", says(runglaet_decode(two, sizeof two, 1, valuation, 12, plan, 4), 0, 4));
+    expect("two agents: the plan", memcmp(plan, moves, sizeof plan) == 0);
+    /* The lower index is of agent 0 at time 1; the clause of time 0 comes first, agent 1's. */
+    expect("two agents: 23, place 5", says(runglaet_decode(two, sizeof two, 1, exchanged, 12, plan, 4), 23, 5));
+    expect("two agents: 24, place 12", says(runglaet_decode(two, sizeof two, 1, twice, 12, plan, 4), 24, 12));
+}
+
 int main(void) {
     static const int32_t formula[24] = {1,  0,  4, 0,  1,  2, 0,  3, 4, 0,  -1, -2,
                                         0, -3, -4, 0, -1,  3, 4,  0, -2, 4,  3,  0};
@@ -334,6 +393,7 @@ int main(void) {
     layouts();
     formula_sizes();
     pruned_writer(formula);
+    two_agents();
     null_pointers();
     printf("c_check: %d answers, %d wrong\n", asked, failures);
     return failures != 0;

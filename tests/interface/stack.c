@@ -129,8 +129,12 @@ static void fill(void) {
             plans[SWAPS][t * K + a] = (uint8_t)(t == 0 ? a : t < M ? N - 1 - other : N - 1 - a);
         }
     }
+    /* Variable i + 1 is that of agent i / N / ROWS at time i / N % ROWS. */
     for (int p = 0; p < 2; p++)
-        for (int i = 0; i < VARIABLES; i++) valuations[p][i] = plans[p][i / N] == i % N ? i + 1 : -(i + 1);
+        for (int i = 0; i < VARIABLES; i++) {
+            int at = plans[p][i / N % ROWS * K + i / N / ROWS];
+            valuations[p][i] = at == i % N ? i + 1 : -(i + 1);
+        }
 }
 
 typedef enum {

@@ -25,7 +25,8 @@ use Rattle.valuation.specs.Valuation.{true?, named, namedPlan, planValuation}
 use Rattle.valuation.specs.Satisfying.{Valuation, Names}
 use Rattle.valuation.specs.Places.{Places}
 use Rattle.valuation.proofs.Families.{Sat, satisfies-iff, sat-CD, places-cong, places-unique}
-use Rattle.valuation.proofs.Entries.{index-onto, true-yes, named-places, named-size, named-at, written-size, written-valuation, written-places}
+use Rattle.formula.proofs.Variables.{index-onto}
+use Rattle.valuation.proofs.Entries.{true-yes, named-places, named-size, named-at, written-size, written-valuation, written-places}
 use Rattle.calls.specs.Questions.{question13, question14, question15, question16, question23, question24}
 use Rattle.instance.specs.Questions.{instanceQuestions}
 use Rattle.calls.specs.Calls.{planQuestions, decodeAnswer, decodeSlice, encodeAnswer, encodeSlice}

@@ -117,29 +117,40 @@ pairWords =
 abbrev exchangeWords : List ℤ
 exchangeWords =
     pos 1 ∷ pos 0
-    ∷ pos 4 ∷ pos 0
     ∷ pos 6 ∷ pos 0
+    ∷ pos 4 ∷ pos 0
     ∷ pos 7 ∷ pos 0
     ∷ pos 1 ∷ pos 2 ∷ pos 0
-    ∷ pos 3 ∷ pos 4 ∷ pos 0
     ∷ pos 5 ∷ pos 6 ∷ pos 0
+    ∷ pos 3 ∷ pos 4 ∷ pos 0
     ∷ pos 7 ∷ pos 8 ∷ pos 0
     ∷ neg 1 ∷ neg 2 ∷ pos 0
-    ∷ neg 3 ∷ neg 4 ∷ pos 0
     ∷ neg 5 ∷ neg 6 ∷ pos 0
+    ∷ neg 3 ∷ neg 4 ∷ pos 0
     ∷ neg 7 ∷ neg 8 ∷ pos 0
-    ∷ neg 1 ∷ neg 3 ∷ pos 0
-    ∷ neg 2 ∷ neg 4 ∷ pos 0
-    ∷ neg 5 ∷ neg 7 ∷ pos 0
-    ∷ neg 6 ∷ neg 8 ∷ pos 0
-    ∷ neg 1 ∷ pos 5 ∷ pos 6 ∷ pos 0
-    ∷ neg 2 ∷ pos 6 ∷ pos 5 ∷ pos 0
-    ∷ neg 3 ∷ pos 7 ∷ pos 8 ∷ pos 0
-    ∷ neg 4 ∷ pos 8 ∷ pos 7 ∷ pos 0
-    ∷ neg 3 ∷ neg 5 ∷ pos 0
-    ∷ neg 4 ∷ neg 6 ∷ pos 0
+    ∷ neg 1 ∷ neg 5 ∷ pos 0
+    ∷ neg 2 ∷ neg 6 ∷ pos 0
+    ∷ neg 3 ∷ neg 7 ∷ pos 0
+    ∷ neg 4 ∷ neg 8 ∷ pos 0
+    ∷ neg 1 ∷ pos 3 ∷ pos 4 ∷ pos 0
+    ∷ neg 2 ∷ pos 4 ∷ pos 3 ∷ pos 0
+    ∷ neg 5 ∷ pos 7 ∷ pos 8 ∷ pos 0
+    ∷ neg 6 ∷ pos 8 ∷ pos 7 ∷ pos 0
+    ∷ neg 5 ∷ neg 3 ∷ pos 0
+    ∷ neg 6 ∷ neg 4 ∷ pos 0
     ∷ neg 1 ∷ neg 7 ∷ pos 0
     ∷ neg 2 ∷ neg 8 ∷ pos 0
+    ∷ []
+
+-- the valuation of two agents on the path, a time a line: agent 0 waits at 0 and goes to 1, agent 1 goes from 1 to 2 and waits
+abbrev waitThenFollow : List ℤ
+waitThenFollow =
+    pos 1 ∷ neg 2 ∷ neg 3
+    ∷ pos 4 ∷ neg 5 ∷ neg 6
+    ∷ neg 7 ∷ pos 8 ∷ neg 9
+    ∷ neg 10 ∷ pos 11 ∷ neg 12
+    ∷ neg 13 ∷ neg 14 ∷ pos 15
+    ∷ neg 16 ∷ neg 17 ∷ pos 18
     ∷ []
 
 -- of the pruned formulas: the pair with horizon 0, which is below its floor; the path with an agent that starts at its goal, horizon
@@ -285,6 +296,8 @@ table =
     -- on the path one agent closes up behind another, then waits for it, then drives into it where it stays
     ∷ example (pathTwo 0 1 1 2) 1 (check (0 ∷ 1 ∷ 1 ∷ 2 ∷ [])) (answer (refuse 26 2))
     ∷ example (pathTwo 0 1 1 2) 2 (check (0 ∷ 1 ∷ 0 ∷ 2 ∷ 1 ∷ 2 ∷ [])) (answer (accept 3))
+    ∷ example (pathTwo 0 1 1 2) 2 (encode (0 ∷ 1 ∷ 0 ∷ 2 ∷ 1 ∷ 2 ∷ []) (sevens 18)) (valuation (accept 18) waitThenFollow)
+    ∷ example (pathTwo 0 1 1 2) 2 (decode waitThenFollow (replicate 6 7)) (plan (accept 6) (0 ∷ 1 ∷ 0 ∷ 2 ∷ 1 ∷ 2 ∷ []))
     ∷ example (pathTwo 0 1 1 2) 1 (check (0 ∷ 1 ∷ 1 ∷ 1 ∷ [])) (answer (refuse 20 2))
     -- agents 0 and 1 are at fault: the occupant that agent 0 meets moves on, the one that agent 1 meets stays
     ∷ example pathFull 1 (check (0 ∷ 1 ∷ 2 ∷ 1 ∷ 2 ∷ 2 ∷ [])) (answer (refuse 26 3))

@@ -4,6 +4,7 @@ pub mod Distances
 pub mod Examples
 pub mod Formula
 pub mod Neighbours
+pub mod Numbering
 pub mod Occupied
 pub mod Pairs
 pub mod Reader

@@ -1,27 +1,28 @@
--- A slice that is filled by a loop: one element a turn, or one block of c elements a turn.
+-- A slice that is filled by a loop: one element a turn, or one row of entries a turn.
 use mathlib.Core.Path.{_≡_, sym, _∙_, ap, ap₂}
-use mathlib.Core.List.{List, [], _∷_}
+use mathlib.Core.List.{List, [], _∷_, _++_, append-assoc, append-nil}
 use mathlib.Core.Logic.{by-cases}
 use mathlib.Core.Bool.{Bool, cond}
-use Prim.Native.Nat.{ℕ, zero, suc, _+_, _*_, _-_, _≤_, _<_}
-use native.Mathlib.Nat.{mul-comm, mul-left-comm, suc-mul, mul-le-mul, mul-le-mul-right}
+use Prim.Native.Nat.{ℕ, zero, suc, _+_, _-_, _≤_, _<_}
 use native.Mathlib.Numerals.{add-one}
 use native.Mathlib.Omega.{arith}
 use borrow.Rule.Slice.PartMut.{putMid}
 use native.Mathlib.Decide.{ℕ-discrete}
 use borrow.Author.Tests.{eq-eqb, ne-eqb}
 use lib.Dec.{eqb}
-use lib.ListN.{length, take, drop, set}
+use lib.IntN.{ℤ, pos, negℤ}
+use lib.ListN.{length, length-append, take, drop, set}
 use lib.Seq.{set-set, set-comm}
 use Rattle.lists.specs.Loop.{for}
 use Rattle.lists.specs.Slice.{filled}
 use Rattle.lists.proofs.Slices.{filled-set, filled-part}
-use Rattle.lists.proofs.Loops.{for-length, for-ext}
-use Rattle.lists.proofs.Blocks.{for1-length, place-lt}
+use Rattle.lists.proofs.Loops.{for-ext}
+use Rattle.lists.proofs.Blocks.{for1-length, for2-length, for3-length}
 use Rattle.instance.specs.declared.Sizes.{Sizes}
-use Rattle.formula.specs.Variables.{variableCount}
-use Rattle.instance.specs.Limits.{Limits}
-use Rattle.formula.proofs.Limits.{variables-most}
+use Rattle.formula.specs.Variables.{X, ¬X, index}
+use Rattle.formula.proofs.Variables.{index-before, vertices-run}
+use Rattle.plan.specs.Plan.{planRow}
+use Rattle.valuation.specs.Valuation.{entryFor}
 
 module _ {A : Type 0} where
   pub filled-next : (f : ℕ → A) (z l : List A) (v : ℕ) (x : A) → z ≡ filled (for v λ u. f u ∷ []) l → v < length l → x ≡ f v
@@ -61,39 +62,37 @@ module _ {A : Type 0} where
       ∙ ap (λ (t : Bool). set (filled (for n λ v. r v ∷ []) l) n (cond t (g n) (f n))) (sym (ne-eqb p n d)))
       ∙ sym (filled-last r n l (omega arith))
 
-  pub filled-block : (g : ℕ → List A) (c i : ℕ) → ((j : ℕ) → j < i → length (g j) ≡ c) → (f l ys : List A) → f ≡ filled (for i g) l → i * c ≤ length l
-      → ys ≡ filled (g i) (take (length f - i * c) (drop (i * c) f)) → putMid (i * c) (length f - i * c) f ys ≡ filled (for (i + 1) g) l
-  filled-block g c i h f l ys ef hn ey =
-      filled-part f l (for i g) (g i) ys (i * c) ef (for-length i c g h) hn ey
-      ∙ ap (λ (j : ℕ). filled (for j g) l) (sym (add-one i))
+-- the entries of agent a at time t, and those that stand before them
+module _ (s : Sizes) (p : List ℕ) where
+  open Sizes s using (n, k, m)
 
--- where agent a of row t stands in the plan, and the block of its entries in the row
-pub record Room (s : Sizes) (t a : ℕ) : Type 0 where
-  pub row : t * s .k ≤ 512
-  pub inside : t * s .k + a < suc (s .m) * s .k
-  pub block : a * s .n + s .n ≤ s .k * s .n
-  pub size : s .k * s .n ≤ 1024
+  abbrev pub row : ℕ → ℕ → List ℤ
+  row a t = for n λ v. entryFor s p t a v ∷ []
 
-pub room : (s : Sizes) (t a : ℕ) → Limits s → t ≤ s .m → a < s .k → Room s t a
-room s t a w h l =
-    record {
-      row = mul-le-mul {n₂ = 32} {m₂ = 16} (omega (arith, w .m-most)) (w .k-most);
-      inside = place-lt (suc (s .m)) (s .k) t a (omega arith) l;
-      block = omega (arith, suc-mul a (s .n), mul-le-mul-right (s .n) l);
-      size = mul-le-mul {n₂ = 16} {m₂ = 64} (w .k-most) (w .n-most);
-    }
+  abbrev pub before : ℕ → ℕ → List ℤ
+  before a t = (for a λ b. for (suc m) (row b)) ++ for t (row a)
 
--- the block of row t in the valuation
-pub record Rows (s : Sizes) (t : ℕ) : Type 0 where
-  pub block : t * (s .k * s .n) + s .k * s .n ≤ variableCount s
-  pub all : variableCount s ≤ 33792
-  pub size : s .k * s .n ≤ 1024
+  before-length : (a t : ℕ) → length (before a t) ≡ index s t a 0
+  before-length a t =
+      length-append (for a λ b. for (suc m) (row b)) (for t (row a))
+      ∙ ap₂ _+_ (for3-length a (suc m) n (λ b u v. entryFor s p u b v)) (for2-length t n (λ u v. entryFor s p u a v))
+      ∙ sym (index-before s t a)
 
-pub rows : (s : Sizes) (t : ℕ) → Limits s → t < suc (s .m) → Rows s t
-rows s t w l =
-    let e : suc (s .m) * (s .k * s .n) ≡ s .n * s .k * suc (s .m) = simp (mul-comm, mul-left-comm) in
-    record {
-      block = omega (arith, suc-mul t (s .k * s .n), mul-le-mul-right (s .k * s .n) l, e);
-      all = variables-most s w;
-      size = mul-le-mul {n₂ = 16} {m₂ = 64} (w .k-most) (w .n-most);
-    }
+  -- by the variables from the row's first on, and the agent's vertex
+  pub row-is : (a t first x : ℕ) → first ≡ suc (index s t a 0) → x ≡ planRow s p t a
+      → (for n λ v. cond (eqb x v) (pos (first + v)) (negℤ (pos (first + v))) ∷ []) ≡ row a t
+  row-is a t first x e q =
+      for-ext n _ _ (λ v l.
+      let r : first + v ≡ suc (index s t a v) = omega (arith, e, vertices-run s t a v) in
+      ap (λ (i : ℕ). cond (eqb x v) (pos i) (negℤ (pos i)) ∷ []) r ∙ ap (λ (y : ℕ). cond (eqb y v) (X s t a v) (¬X s t a v) ∷ []) q)
+
+  -- the next row is written
+  pub next-row : (a t at : ℕ) (f z ys : List ℤ) → at ≡ index s t a 0 → f ≡ filled (before a t) z → at ≤ length z
+      → ys ≡ filled (row a t) (take (length f - at) (drop at f)) → putMid at (length f - at) f ys ≡ filled (before a (t + 1)) z
+  next-row a t at f z ys e ef h ey =
+      filled-part f z (before a t) (row a t) ys at ef (before-length a t ∙ sym e) h ey
+      ∙ ap (λ (out : List ℤ). filled out z) (rw add-one (append-assoc (for a λ b. for (suc m) (row b)) (for t (row a)) (row a t)))
+
+  -- an agent's last row is written
+  pub next-history : (a : ℕ) → before a (suc m) ≡ before (a + 1) 0
+  next-history a = sym (append-nil _ ∙ ap (λ (j : ℕ). for j λ b. for (suc m) (row b)) (add-one a))

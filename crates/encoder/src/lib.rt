@@ -1,71 +1,57 @@
 // The encoder: the valuation of a plan.
 use answers::Answer;
 use instance::Sizes;
-use variables::Agent;
-use variables::Step;
+use variables::Variable;
 use variables::Vertex;
 ghost use mathlib.Core.Path.{_≡_};
 ghost use mathlib.Core.Bool.{cond};
 ghost use mathlib.Core.List.{[], _∷_};
-ghost use Prim.Native.Nat.{_*_, _+_, _≤_, _<_};
+ghost use Prim.Native.Nat.{_+_, _≤_};
 ghost use lib.ListN.{length};
 ghost use lib.Dec.{eqb};
+ghost use lib.IntN.{pos, negℤ};
 ghost use Rattle.lists.specs.Loop.{for};
 ghost use Rattle.lists.specs.Slice.{filled};
-ghost use Rattle.formula.specs.Variables.{X, ¬X, variableCount};
+ghost use Rattle.formula.specs.Variables.{variableCount, highest};
 ghost use Rattle.formula.specs.Formula.{formula};
 ghost use Rattle.instance.specs.Limits.{Limits};
 ghost use Rattle.answers.specs.Answers.{decide};
 ghost use Rattle.plan.specs.Plan.{planBytes};
-ghost use Rattle.valuation.specs.Valuation.{entryFor, planValuation};
+ghost use Rattle.valuation.specs.Valuation.{planValuation};
 ghost use Rattle.instance.specs.Instance.{Instance};
 ghost use Rattle.instance.specs.Shows.{Shows};
 ghost use Rattle.calls.specs.Calls.{encodeRest, encodeAnswer, encodeSlice};
 
-// The entries of agent a at time t, where it is at the given vertex: the negatives of all, then the one that is true.
-fn write_agent(z: &mut [i32], s: Sizes, t: Step, a: Agent, at: Vertex)
-    requires { ⌜ Limits s ⌝ }
-    requires { ⌜ (t .0 ≤ s .m) × (a .0 < s .k) × (s .n ≤ length (now z)) ⌝ }
-    ensures { λ _. ⌜ now (z .exit) ≡ filled (for (s .n) λ v. cond (eqb (at .0) v) (X s (t .0) (a .0) v) (¬X s (t .0) (a .0) v) ∷ []) (now (z .entry)) ⌝ }
+// The entries of an agent at one time, which are of the n variables from `first` on: the negatives of all, then the one for its vertex.
+fn write_row(z: &mut [i32], n: usize, first: Variable, at: Vertex)
+    requires { ⌜ (first .0 + n ≤ highest) × (n ≤ length (now z)) ⌝ }
+    ensures { λ _. ⌜ now (z .exit) ≡ filled (for n λ v. cond (eqb (at .0) v) (pos (first .0 + v)) (negℤ (pos (first .0 + v))) ∷ []) (now (z .entry)) ⌝ }
 {
-    let n = s.n;
     let vertex = at.0;
-    let first = variables::variable_of(s, t, a, Vertex(0));
     for v in 0..n {
         z[v] = variables::negation_after(first, v);
     }
     if vertex < n {
-        z[vertex] = variables::literal_of(variables::variable_of(s, t, a, at));
+        z[vertex] = variables::literal_of(Variable(first.0 + vertex));
     }
 }
 
-// The entries of all agents at time t.
-fn write_row(z: &mut [i32], s: Sizes, p: &[u8], t: Step)
-    requires { ⌜ Limits s ⌝ }
-    requires { ⌜ (t .0 ≤ s .m) × (length (now p) ≡ planBytes s) × (s .k * s .n ≤ length (now z)) ⌝ }
-    ensures { λ _. ⌜ now (z .exit) ≡ filled (for (s .k) λ a. for (s .n) λ v. entryFor s (now (p .entry)) (t .0) a v ∷ []) (now (z .entry)) ⌝ }
-{
-    let n = s.n;
-    let k = s.k;
-    let row = t.0 * k;
-    for a in 0..k {
-        let at = a * n;
-        let vertex = Vertex(numbers::wide(p[row + a]));
-        write_agent(&mut z[at..], s, t, Agent(a), vertex);
-    }
-}
-
-// The valuation of a plan, first in the slice.
+// The valuation of a plan, first in the slice: one agent after another and one time after another.
 fn write_valuation(z: &mut [i32], s: Sizes, p: &[u8])
     requires { ⌜ Limits s ⌝ }
     requires { ⌜ (length (now p) ≡ planBytes s) × (variableCount s ≤ length (now z)) ⌝ }
     ensures { λ _. ⌜ now (z .exit) ≡ filled (planValuation s (now (p .entry))) (now (z .entry)) ⌝ }
 {
-    let size = s.k * s.n;
+    let k = s.k;
     let rows = s.m + 1;
-    for t in 0..rows {
-        let at = t * size;
-        write_row(&mut z[at..], s, p, Step(t));
+    let mut at: usize = 0;
+    for a in 0..k {
+        for t in 0..rows {
+            let first = Variable(at + 1);
+            let vertex = Vertex(numbers::wide(p[t * k + a]));
+            write_row(&mut z[at..], s.n, first, vertex);
+            at += s.n;
+        }
     }
 }
 

@@ -45,8 +45,8 @@ module _ (s : Sizes) (t : ℕ) where
       let q : x .0 + v * 1 ≡ suc (index s t a v) = omega (arith, vertices-run s t a v) in
       ap (λ (y : ℕ). negℤ (pos y)) q))
 
-  pub agents : (v : ℕ) (x : Variable) → x .0 ≡ suc (index s t 0 v) → noTwo k (nots (record { first = x; stride = n; count = k })) ≡ blockE s t v
+  pub agents : (v : ℕ) (x : Variable) → x .0 ≡ suc (index s t 0 v) → noTwo k (nots (record { first = x; stride = (m + 1) * n; count = k })) ≡ blockE s t v
   agents v x e =
       ap (noTwo k) (fun-ext (λ a.
-      let q : x .0 + a * n ≡ suc (index s t a v) = omega (arith, agents-run s t v a) in
+      let q : x .0 + a * ((m + 1) * n) ≡ suc (index s t a v) = omega (arith, agents-run s t v a) in
       ap (λ (y : ℕ). negℤ (pos y)) q))

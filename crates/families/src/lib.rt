@@ -98,7 +98,7 @@ fn write_d(f: &mut [i32], s: Sizes, t: Step, a: Agent) -> usize
     write_no_two(f, run)
 }
 
-// E, of time t and vertex v: the agents are a run.
+// E, of time t and vertex v: the agents are a run, each a whole history after the one before.
 fn write_e(f: &mut [i32], s: Sizes, t: Step, v: Vertex) -> usize
     requires { ⌜ Limits s ⌝ }
     requires { ⌜ (t .0 ≤ s .m) × (v .0 < s .n) ⌝ }
@@ -108,7 +108,7 @@ fn write_e(f: &mut [i32], s: Sizes, t: Step, v: Vertex) -> usize
     let first = variables::variable_of(s, t, Agent(0), v);
     let run = Run {
         first,
-        stride: s.n,
+        stride: (s.m + 1) * s.n,
         count: s.k,
     };
     write_no_two(f, run)

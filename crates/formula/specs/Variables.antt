@@ -18,9 +18,9 @@ module _ (s : Sizes) where
   abbrev pub variableCount : ℕ
   variableCount = n * k * suc m
 
-  -- The number of X(t,a,v) is 1 + (t·k + a)·n + v. What is added to 1 is the index of the variable's entry in a valuation.
+  -- The number of X(t,a,v) is 1 + (a·(m+1) + t)·n + v. What is added to 1 is the index of the variable's entry in a valuation.
   unfoldable pub index : ℕ → ℕ → ℕ → ℕ
-  index t a v = (t * k + a) * n + v
+  index t a v = (a * suc m + t) * n + v
 
   -- X(t,a,v): agent a is at vertex v at time t
   abbrev pub X : ℕ → ℕ → ℕ → Literal

@@ -57,6 +57,13 @@ quotient n c j l = mul-add-div-right (omega arith) n j ∙ ap (λ (x : ℕ). n +
 remainder : (n c j : ℕ) → j < c → (n * c + j) % c ≡ j
 remainder n c j l = mul-add-mod-self-right n c j ∙ mod-eq-of-lt l
 
+-- one place, one block and one element
+pub place-inj : (c i j p q : ℕ) → j < c → q < c → i * c + j ≡ p * c + q → (i ≡ p) × (j ≡ q)
+place-inj c i j p q l r e = (
+  sym (quotient i c j l) ∙ ap (λ (x : ℕ). x / c) e ∙ quotient p c q r,
+  sym (remainder i c j l) ∙ ap (λ (x : ℕ). x % c) e ∙ remainder p c q r,
+)
+
 pub for-flat : {A : Type 0} (n c : ℕ) (f : ℕ → ℕ → List A) → (for n λ i. for c λ j. f i j) ≡ for (n * c) λ x. f (x / c) (x % c)
 for-flat zero c f = sym (ap (λ (x : ℕ). for x λ i. f (i / c) (i % c)) (zero-mul c))
 for-flat (suc n) c f =

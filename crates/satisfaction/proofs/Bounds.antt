@@ -6,16 +6,12 @@ use native.Mathlib.Omega.{arith}
 use mathlib.Core.Path.{_≡_}
 use Rattle.instance.specs.declared.Sizes.{Sizes}
 use Rattle.instance.specs.Limits.{Limits}
-use Rattle.formula.specs.Variables.{variableCount}
 use Rattle.plan.specs.Plan.{planBytes}
-use Rattle.formula.proofs.Variables.{count-eq}
 
 -- cells: times and agents; pairs, twos: twice the pairs of vertices and of agents; the rest: the sizes of the rows of D to G
 pub record Products (s : Sizes) : Type 0 where
   pub cells : suc (s .m) * s .k ≤ 528
   pub after : (s .m + 1) * s .k ≡ suc (s .m) * s .k
-  pub entries : suc (s .m) * s .k * s .n ≤ 33792
-  pub count : suc (s .m) * s .k * s .n ≡ variableCount s
   pub pairs : s .n * (s .n - 1) ≤ 4096
   pub twos : s .k * (s .k - 1) ≤ 256
   pub rest : (s .k - 1) * s .n ≤ 1024
@@ -33,8 +29,6 @@ products s w =
     record {
       cells = c;
       after = rw add-one;
-      entries = mul-le-mul {n₂ = 528} {m₂ = 64} c (w .n-most);
-      count = count-eq s;
       pairs = p;
       twos = t;
       rest = g;
@@ -44,12 +38,7 @@ products s w =
       G = mul-le-mul {n₂ = 16} {m₂ = 1024} (w .k-most) g;
     }
 
--- row i of the entries, and row t of the plan
-pub entries-fit : (s : Sizes) (i : ℕ) → Limits s → i < suc (s .m) * s .k → (i * s .n + s .n ≤ variableCount s) × (variableCount s ≤ 33792)
-entries-fit s i w l =
-    let o = products s w in
-    (omega (arith, suc-mul i (s .n), mul-le-mul-right (s .n) l, count-eq s), omega (arith, o .entries, o .count))
-
+-- row t of the plan
 pub row-fits : (s : Sizes) (t : ℕ) → t ≤ s .m → t * s .k + s .k ≤ planBytes s
 row-fits s t l = let o : suc t ≤ suc (s .m) = omega arith in omega (arith, suc-mul t (s .k), mul-le-mul-right (s .k) o)
 

@@ -1,11 +1,10 @@
 -- What one row of entries says, what all rows together say, and that this is what a valuation makes true.
-use mathlib.Core.Path.{_≡_, refl, subst}
+use mathlib.Core.Path.{_≡_, refl, ap, subst}
 use mathlib.Core.Logic.{_↔_, _≢_, _⊎_, inl, inr, ⊎-elim, by-cases, Iff·trans, Iff·symm}
 use mathlib.Core.List.{List}
 use mathlib.Core.Bool.{Bool, true, false}
 use Prim.Native.Nat.{ℕ, suc, _+_, _*_, _-_, _≤_, _<_}
-use native.Mathlib.Nat.{le-refl, zero-mul, suc-mul}
-use native.Mathlib.Numerals.{add-one}
+use native.Mathlib.Nat.{le-refl}
 use native.Mathlib.Decide.{decLt, ℕ-discrete}
 use native.Mathlib.Omega.{arith}
 use lib.ListN.{length, getD, set, take, length-set}
@@ -13,7 +12,7 @@ use lib.Seq.{getD-set-same, getD-set-other, getD-take, length-take-le}
 use lib.Dec.{T}
 use lib.IntN.{ℤ, pos, negsuc}
 use Rattle.lists.proofs.Tests.{or-iff}
-use Rattle.lists.proofs.Blocks.{place-lt}
+use Rattle.lists.proofs.Blocks.{place-lt, place-inj}
 use Rattle.answers.specs.Fault.{FirstFault}
 use Rattle.answers.proofs.Faults.{fault-none}
 use Rattle.instance.specs.declared.Sizes.{Sizes}
@@ -21,7 +20,7 @@ use Rattle.formula.specs.Variables.{X, index, variableCount}
 use Rattle.plan.specs.Plan.{planBytes}
 use Rattle.valuation.specs.Valuation.{entry, rightEntry, true?}
 use Rattle.valuation.specs.Satisfying.{Valuation}
-use Rattle.formula.proofs.Variables.{count-eq, index-lt}
+use Rattle.formula.proofs.Variables.{index-lt, vertices-run, runs-apart}
 use Rattle.valuation.proofs.Entries.{sameNumber-iff, true-yes}
 use Rattle.satisfaction.specs.Rows.{Stop, Tallied, says, denies, Seen, Read}
 
@@ -140,41 +139,59 @@ module _ (es : List ℤ) where
             },
       )
 
--- ---- the rows before row i are read
-pub record Sofar (n : ℕ) (es : List ℤ) (vertices : List ℕ) (i : ℕ) : Type 0 where
-  pub size : length vertices ≡ 528
-  pub right : (j : ℕ) → j < i * n → T (rightEntry es j)
-  pub seen : (j : ℕ) → j < i → Seen n (λ v. says es (j * n + v)) (getD vertices j 0)
+seen-cong : (n : ℕ) (f g : ℕ → Bool) (x : ℕ) → ((v : ℕ) → v < n → f v ≡ g v) → Seen n f x → Seen n g x
+seen-cong n f g x e c =
+    record {
+      most = c .most;
+      one = λ l v h. rw (e v h) at (c .one l v h);
+      none = λ o v h t. c .none o v h (rw (e v h) t);
+      several = λ o.
+          let (v, u, a, b, y, z) = c .several o in
+          (v, u, a, b, rw (e v (omega arith)) at y, rw (e u b) at z);
+    }
 
-module _ (n : ℕ) (es : List ℤ) (vertices : List ℕ) where
-  pub sofar-none : length vertices ≡ 528 → Sofar n es vertices 0
+-- ---- the rows whose entries stand below `end` are read
+pub record Sofar (s : Sizes) (es : List ℤ) (vertices : List ℕ) (end : ℕ) : Type 0 where
+  pub size : length vertices ≡ 528
+  pub right : (j : ℕ) → j < end → T (rightEntry es j)
+  pub seen : (t a : ℕ) → t < suc (s .m) → a < s .k → index s t a 0 < end → Seen (s .n) (λ v. says es (index s t a v)) (getD vertices (t * s .k + a) 0)
+
+module _ (s : Sizes) (es : List ℤ) (vertices : List ℕ) where
+  open Sizes s using (n, k, m)
+
+  pub sofar-none : length vertices ≡ 528 → Sofar s es vertices 0
   sofar-none e =
       record {
         size = e;
-        right = λ j l. absurd (let f : ⊥ = omega (arith, zero-mul n) in f);
-        seen = λ j l. absurd (let f : ⊥ = omega arith in f);
+        right = λ j l. absurd (let f : ⊥ = omega arith in f);
+        seen = λ t a x y l. absurd (let f : ⊥ = omega arith in f);
       }
 
-  module _ (i : ℕ) (o : Sofar n es vertices i) (r x : ℕ) (c : Came es (i * n) n r x) where
-    pub sofar-more : i < 528 → i * n + n ≤ r → Sofar n es (set vertices i x) (i + 1)
+  -- the row of agent a at time t comes next
+  module _ (t a : ℕ) (x : t < suc m) (y : a < k) (base r v : ℕ) (e : base ≡ index s t a 0) (o : Sofar s es vertices base) (c : Came es base n r v) where
+    pub sofar-more : t * k + a < 528 → base + n ≤ r → Sofar s es (set vertices (t * k + a) v) (base + n)
     sofar-more l h =
         record {
           size = simp length-set (o .size);
-          right = λ j b. by-cases (decLt j (i * n)) (λ p. o .right j p) (λ p. c .0 .before j (omega arith) (omega (arith, step)));
-          seen = λ j b.
-              by-cases (ℕ-discrete j i)
-              (λ p. rw (p, getD-set-same vertices i x 0 (omega (arith, o .size))) (c .1 h))
-              (λ p. rw (getD-set-other vertices i j x 0 p) (o .seen j (omega arith)));
+          right = λ j b. by-cases (decLt j base) (λ p. o .right j p) (λ p. c .0 .before j (omega arith) (omega arith));
+          seen = λ u b x′ y′ g.
+              by-cases (ℕ-discrete (u * k + b) (t * k + a))
+              (λ p. let (q, q′) = place-inj k u b t a y′ y p in rw (q, q′, getD-set-same vertices (t * k + a) v 0 (omega (arith, o .size))) here)
+              (λ p. rw (getD-set-other vertices (t * k + a) (u * k + b) v 0 p) (o .seen u b x′ y′ (earlier u b x′ g p)));
         }
       where
-        step : (i + 1) * n ≡ i * n + n
-        step = rw (add-one, suc-mul)
+        here : Seen n (λ u. says es (index s t a u)) v
+        here = seen-cong n _ _ v (λ u z. ap (says es) (let q : base + u ≡ index s t a u = omega (arith, vertices-run s t a u) in q)) (c .1 h)
 
-    pub sofar-wrong : (N : ℕ) → i * n + n ≤ N → r < i * n + n → FirstFault N (rightEntry es) r
+        earlier : (u b : ℕ) → u < suc m → index s u b 0 < base + n → u * k + b ≢ t * k + a → index s u b 0 < base
+        earlier u b x′ g p =
+            ⊎-elim (λ q. omega arith) (λ q. absurd (p (rw (q .0, q .1)))) (runs-apart s t a u b x x′ (omega arith))
+
+    pub sofar-wrong : (N : ℕ) → base + n ≤ N → r < base + n → FirstFault N (rightEntry es) r
     sofar-wrong N h l =
         record {
           within = omega arith;
-          before = λ j b. by-cases (decLt j (i * n)) (λ p. o .right j p) (λ p. c .0 .before j (omega arith) b);
+          before = λ j b. by-cases (decLt j base) (λ p. o .right j p) (λ p. c .0 .before j (omega arith) b);
           here = λ b. c .0 .here l;
         }
 
@@ -198,28 +215,17 @@ module _ (s : Sizes) (es : List ℤ) (w : Valuation (variableCount s) es) where
       or-iff (says es i) (denies es i) .1 (⊎-elim (λ e. inl (sameNumber-iff (getD es i (pos 0)) (pos (suc i)) .1 e)) (λ e. inr (sameNumber-iff (getD es i (pos 0)) (negsuc i) .1 e)) (w .each i l))
 
   -- an entry that is not its variable's negative makes it true
-  pub denied-or-true : (t a v i : ℕ) → t < suc m → a < k → v < n → i ≡ index s t a v → (T (denies es i) → T (true? es (X s t a v)) → ⊥) × ((T (denies es i) → ⊥) → T (true? es (X s t a v)))
-  denied-or-true t a v i x y z e =
+  pub denied-or-true : (t a v : ℕ) → t < suc m → a < k → v < n → (T (denies es (index s t a v)) → T (true? es (X s t a v)) → ⊥) × ((T (denies es (index s t a v)) → ⊥) → T (true? es (X s t a v)))
+  denied-or-true t a v x y z =
       let q = read-true t a v x y z in
-      rw e ((λ h h′. not-both es (index s t a v) (rw q h′) h), (λ f. rw q at (right-says es (index s t a v) (right-at (index s t a v) (index-lt s t a v x y z)) f)))
-
-seen-cong : (n : ℕ) (f g : ℕ → Bool) (x : ℕ) → ((v : ℕ) → v < n → f v ≡ g v) → Seen n f x → Seen n g x
-seen-cong n f g x e c =
-    record {
-      most = c .most;
-      one = λ l v h. rw (e v h) at (c .one l v h);
-      none = λ o v h t. c .none o v h (rw (e v h) t);
-      several = λ o.
-          let (v, u, a, b, y, z) = c .several o in
-          (v, u, a, b, rw (e v (omega arith)) at y, rw (e u b) at z);
-    }
+      ((λ h h′. not-both es (index s t a v) (rw q h′) h), (λ f. rw q at (right-says es (index s t a v) (right-at (index s t a v) (index-lt s t a v x y z)) f)))
 
 -- ---- all rows are read
-module _ (s : Sizes) (es : List ℤ) (e : length es ≡ variableCount s) (vertices : List ℕ) (o : Sofar (s .n) es vertices (suc (s .m) * s .k)) where
+module _ (s : Sizes) (es : List ℤ) (e : length es ≡ variableCount s) (vertices : List ℕ) (o : Sofar s es vertices (variableCount s)) where
   open Sizes s using (n, k, m)
 
-  pub done-right : FirstFault (variableCount s) (rightEntry es) (suc m * k * n)
-  done-right = rw (count-eq s) (fault-none refl (λ j l. o .right j (omega (arith, count-eq s))))
+  pub done-right : FirstFault (variableCount s) (rightEntry es) (variableCount s)
+  done-right = fault-none refl (o .right)
 
   valid : Valuation (variableCount s) es
   valid =
@@ -229,17 +235,15 @@ module _ (s : Sizes) (es : List ℤ) (e : length es ≡ variableCount s) (vertic
             ⊎-elim
             (λ u. inl (sameNumber-iff (entry es i) (pos (suc i)) .0 u))
             (λ u. inr (sameNumber-iff (entry es i) (negsuc i) .0 u))
-            (or-iff (says es i) (denies es i) .0 (o .right i (omega (arith, count-eq s))));
+            (or-iff (says es i) (denies es i) .0 (o .right i l));
       }
 
-  pub done-read : suc m * k ≤ 528 → Read s es (take (planBytes s) vertices)
-  unfolding index
-  done-read h =
+  pub done-read : 0 < n → suc m * k ≤ 528 → Read s es (take (planBytes s) vertices)
+  done-read z h =
       record {
         size = length-take-le (planBytes s) vertices (omega (arith, o .size));
         valid = valid;
         seen = λ t a x y.
-            let l = place-lt (suc m) k t a x y in
-            rw (getD-take (planBytes s) vertices (t * k + a) 0 l)
-            (seen-cong n _ _ _ (λ v z. read-true s es valid t a v x y z) (o .seen (t * k + a) l));
+            rw (getD-take (planBytes s) vertices (t * k + a) 0 (place-lt (suc m) k t a x y))
+            (seen-cong n _ _ _ (λ v z. read-true s es valid t a v x y z) (o .seen t a x y (index-lt s t a 0 x y z)));
       }

@@ -27,7 +27,7 @@ use Rattle.plan.specs.Plan.{planRow}
 use Rattle.valuation.specs.Valuation.{true?, satisfied?}
 use Rattle.valuation.specs.Satisfying.{Valuation}
 use Rattle.valuation.specs.Places.{Places}
-use Rattle.formula.proofs.Variables.{count-eq}
+use Rattle.formula.proofs.Variables.{run-fits, vertices-run}
 use Rattle.valuation.proofs.Entries.{true-no}
 use Rattle.satisfaction.specs.Rows.{Fault, Stop, says, denies, Seen, Read, Lowest}
 use Rattle.satisfaction.proofs.Entries.{right-says, skip-le, read-true, right-at, denied-or-true}
@@ -116,9 +116,6 @@ module _ (s : Sizes) (es : List ℤ) (w : Valuation (variableCount s) es) where
     passed-D : (a : ℕ) → a ≤ k → ((b : ℕ) → b < a → planRow s p t b ≢ suc n) → T (all sat (for a (blockD s t)))
     passed-D a l h = for-all sat a (blockD s t) .1 (λ b o. pass-D b (omega arith) (h b o))
 
-    end-D : {a : ℕ} → a < k → (t * k + a) * n + n ≤ variableCount s
-    end-D {a} l = omega (arith, place-lt (suc m) k t a x l, count-eq s, suc-mul (t * k + a) n, mul-le-mul-right n (place-lt (suc m) k t a x l))
-
     module _ (z a : ℕ) (e : z ≡ suc n) (f : FirstFault k (λ b. not (eqb (getD p (t * k + b) 0) z)) a) where
       below-D : (b : ℕ) → b < a → planRow s p t b ≢ suc n
       below-D b l o = simp (not-iff, eqb-iff) at (f .before b l) (o ∙ sym e)
@@ -127,34 +124,31 @@ module _ (s : Sizes) (es : List ℤ) (w : Valuation (variableCount s) es) where
       none-D o =
           blocks-pass es (blockD s t) (n * (n - 1) / 2) k (length-D s t) (passed-D k (le-refl k) (λ b l. below-D b (omega arith)))
 
-      abbrev b : ℕ
-      b = (t * k + a) * n
-
-      -- the first two that are not denied: v and u are entries of the row, and no other before u says its variable
-      module _ (d : a ≢ k) (v u : ℕ) (g : Stop (denies es) ((t * k + a) * n) ((t * k + a) * n + n) v) where
+      -- the first two that are not denied: v and u are entries of the row, which begins at b, and no other before u says its variable
+      module _ (d : a ≢ k) (b v u : ℕ) (begins : b ≡ index s t a 0) (g : Stop (denies es) b (b + n) v) where
         agent-D : a < k
         agent-D = omega (arith, f .within)
 
+        place-q : (y : ℕ) → b + y ≡ index s t a y
+        place-q y = omega (arith, vertices-run s t a y)
+
         says-q : (y : ℕ) → y < n → T (q t a y) → T (says es (b + y))
-        unfolding index
-        says-q y lt z = subst T (sym (read-true s es w t a y x agent-D lt)) z
+        says-q y lt z = rw (place-q y) (subst T (sym (read-true s es w t a y x agent-D lt)) z)
 
         two-D : (v′ u′ : ℕ) × (v′ < u′) × (u′ < n) × T (q t a v′) × T (q t a u′)
         two-D =
             seen a agent-D .several (by-cases (ℕ-discrete (planRow s p t a) (suc n)) (λ o. o) (λ o. absurd (f .here agent-D (simp (not-iff, eqb-iff) (λ i. o (i ∙ e))))))
 
-        pub first-D : v < (t * k + a) * n + n
+        pub first-D : v < b + n
         first-D = let (v′, u′, r, r′, i, j) = two-D in omega (arith, skip-le es b (b + n) v (b + v′) g (omega arith) (says-q v′ (omega arith) i))
 
-        pub second-D : Stop (denies es) (v + 1) ((t * k + a) * n + n) u → u < (t * k + a) * n + n
+        pub second-D : Stop (denies es) (v + 1) (b + n) u → u < b + n
         second-D h =
             let (v′, u′, r, r′, i, j) = two-D in
             let hv = skip-le es b (b + n) v (b + v′) g (omega arith) (says-q v′ (omega arith) i) in
             omega (arith, skip-le es (v + 1) (b + n) u (b + u′) h (omega arith) (says-q u′ r′ j))
 
-        pub here-D : Stop (denies es) (v + 1) ((t * k + a) * n + n) u
-            → Fault es (for k (blockD s t)) (a * (n * (n - 1) / 2) + (pairsBelow n (v - (t * k + a) * n) + (u - v - 1)))
-        unfolding index
+        pub here-D : Stop (denies es) (v + 1) (b + n) u → Fault es (for k (blockD s t)) (a * (n * (n - 1) / 2) + (pairsBelow n (v - b) + (u - v - 1)))
         here-D h =
             let l = agent-D in
             let lv = first-D in
@@ -163,11 +157,12 @@ module _ (s : Sizes) (es : List ℤ) (w : Valuation (variableCount s) es) where
             let hl = h .least in
             let ev : b + (v - b) ≡ v = omega arith in
             let eu : b + (u - b) ≡ u = omega arith in
+            let end = run-fits s t a x l in
             let e′ : u - b - (v - b) - 1 ≡ u - v - 1 = omega arith in
             let qv : T (q t a (v - b)) =
-            subst T (read-true s es w t a (v - b) x l (omega arith)) (rw ev (right-says es v (right-at s es w v (omega (arith, end-D l))) (g .here (omega arith)))) in
+            subst T (read-true s es w t a (v - b) x l (omega arith)) (rw (← place-q (v - b), ev) (right-says es v (right-at s es w v (omega arith)) (g .here (omega arith)))) in
             let qu : T (q t a (u - b)) =
-            subst T (read-true s es w t a (u - b) x l (omega arith)) (rw eu (right-says es u (right-at s es w u (omega (arith, end-D l))) (h .here (omega arith)))) in
+            subst T (read-true s es w t a (u - b) x l (omega arith)) (rw (← place-q (u - b), eu) (right-says es u (right-at s es w u (omega arith)) (h .here (omega arith)))) in
             let two = pairs-two es n (λ v u. ¬X s t a v ∷ ¬X s t a u ∷ []) (q t a) (iffD a l) (v - b) (u - b) (omega arith) (omega arith) qv qu
             (λ y lt z.
             let c = says-q y (omega arith) z in
@@ -367,14 +362,13 @@ module _ (s : Sizes) (es : List ℤ) (w : Valuation (variableCount s) es) (P : �
 
 -- ---- A and B, by one entry each
 pub units-fault : (s : Sizes) (es : List ℤ) → Valuation (variableCount s) es → (t : ℕ) (P : ℕ → ℕ) (r : ℕ) → t ≤ s .m → ((a : ℕ) → a < s .k → P a < s .n)
-    → FirstFault (s .k) (λ a. not (denies es ((t * s .k + a) * s .n + P a))) r → FirstFault (s .k) (λ a. true? es (X s t a (P a))) r
-unfolding index
+    → FirstFault (s .k) (λ a. not (denies es (index s t a (P a)))) r → FirstFault (s .k) (λ a. true? es (X s t a (P a))) r
 units-fault s es w t P r x y f =
-    let o : (a : ℕ) → a < s .k → _ = λ a l. denied-or-true s es w t a (P a) _ (omega arith) l (y a l) refl in
+    let o : (a : ℕ) → a < s .k → _ = λ a l. denied-or-true s es w t a (P a) (omega arith) l (y a l) in
     record {
       within = f .within;
-      before = λ i l. o i (omega (arith, f .within)) .1 (not-iff (denies es ((t * s .k + i) * s .n + P i)) .0 (f .before i l));
-      here = λ l h. f .here l (not-iff (denies es ((t * s .k + r) * s .n + P r)) .1 (λ d. o r l .0 d h));
+      before = λ i l. o i (omega (arith, f .within)) .1 (not-iff (denies es (index s t i (P i))) .0 (f .before i l));
+      here = λ l h. f .here l (not-iff (denies es (index s t r (P r))) .1 (λ d. o r l .0 d h));
     }
 
 -- as clauses of one literal

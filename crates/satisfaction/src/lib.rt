@@ -3,6 +3,8 @@
 // is none or several: this is the plan where families C and D hold, and then E, F and G are asked of the plan alone, F and G by the
 // conditions of the plan check.
 use instance::Sizes;
+use variables::Agent;
+use variables::Step;
 use variables::Variable;
 ghost use mathlib.Core.Path.{_≡_};
 ghost use mathlib.Core.Bool.{_&&_, _||_};
@@ -71,15 +73,19 @@ fn tally_row(entries: &[i32], base: usize, n: usize) -> Tally
     requires { ⌜ (base + n ≤ length (now entries)) × (base + n ≤ highest) × (n ≤ 64) ⌝ }
     ensures { λ r. ⌜ Tallied (λ v. denies (now (entries .entry)) (base + v)) n (r .count) (r .sum) ⌝ }
 {
-    let mut count: u32 = 0;
+    let mut negatives: u32 = 0;
     let mut sum: u32 = 0;
     for v in 0..n {
-        if !denied(entries, base, v) {
-            count += 1;
+        if denied(entries, base, v) {
+            negatives += 1;
+        } else {
             sum += v as u32;
         }
     }
-    Tally { count, sum }
+    Tally {
+        count: n as u32 - negatives,
+        sum,
+    }
 }
 
 // The first entry from `low` on that is not its variable's negative nor, where that is asked too, its variable; or `end`.
@@ -130,8 +136,8 @@ fn read_row(entries: &[i32], base: usize, n: usize) -> Row
     }
 }
 
-// All entries, one time and agent after another: the first wrong one, or their number. `vertices` is left with the vertex of each time and
-// agent, as in `Row`, where no entry is wrong.
+// All entries in their order, one agent after another and one time after another: the first wrong one, or their number. `vertices` is
+// left with the vertex of each time and agent, as in `Row`, where no entry is wrong.
 pub fn read_entries(vertices: &mut [u8], entries: &[i32], s: Sizes) -> usize
     requires { ⌜ Limits s ⌝ }
     requires { ⌜ (length (now entries) ≡ variableCount s) × (length (now vertices) ≡ 528) ⌝ }
@@ -139,17 +145,20 @@ pub fn read_entries(vertices: &mut [u8], entries: &[i32], s: Sizes) -> usize
     ensures { λ _. ⌜ length (now (vertices .exit)) ≡ 528 ⌝ }
     ensures { λ r. ⌜ (variableCount s ≤ r → Read s (now (entries .entry)) (take (planBytes s) (now (vertices .exit)))) ⌝ }
 {
-    let n = s.n;
-    let bytes = counts::plan_bytes(s);
-    for i in 0..bytes {
-        let base = i * n;
-        let r = read_row(entries, base, n);
-        if r.wrong < base + n {
-            return r.wrong;
+    let k = s.k;
+    let rows = s.m + 1;
+    let mut base: usize = 0;
+    for a in 0..k {
+        for t in 0..rows {
+            let r = read_row(entries, base, s.n);
+            if r.wrong < base + s.n {
+                return r.wrong;
+            }
+            vertices[t * k + a] = r.vertex as u8;
+            base += s.n;
         }
-        vertices[i] = r.vertex as u8;
     }
-    bytes * n
+    base
 }
 
 // Families A and B: the first agent that is not at its vertex of the array at time t, or k.
@@ -159,10 +168,10 @@ fn unit_fault(entries: &[i32], s: Sizes, t: usize, ends: &[u8; 16]) -> usize
     requires { ⌜ (t ≤ s .m) × ((a : ℕ) → a < s .k → getD (now ends) a 0 < s .n) ⌝ }
     ensures { λ r. ⌜ FirstFault (s .k) (λ a. true? (now (entries .entry)) (X s t a (getD (now (ends .entry)) a 0))) r ⌝ }
 {
-    let n = s.n;
     let k = s.k;
     for a in 0..k {
-        let i = (t * k + a) * n + numbers::wide(ends[a]);
+        let base = variables::first_entry(s, Step(t), Agent(a));
+        let i = base + numbers::wide(ends[a]);
         if passes(entries, i, false) {
             return a;
         }
@@ -203,7 +212,7 @@ fn fault_d(entries: &[i32], p: &[u8], s: Sizes, t: usize) -> usize
     if a == k {
         return k * size;
     }
-    let base = (row + a) * n;
+    let base = variables::first_entry(s, Step(t), Agent(a));
     let end = base + n;
     let first = stop_from(entries, base, end, false);
     let second = stop_from(entries, first + 1, end, false);

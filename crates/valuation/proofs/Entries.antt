@@ -3,7 +3,7 @@ use mathlib.Core.Path.{_≡_, refl, sym, _∙_, ap}
 use mathlib.Core.Logic.{_↔_, _≢_, _⊎_, inl, inr, ⊎-elim, by-cases}
 use mathlib.Core.List.{List}
 use Prim.Native.Nat.{ℕ, suc, _*_, _<_}
-use native.Mathlib.Nat.{mul-comm}
+use native.Mathlib.Nat.{mul-comm, mul-left-comm}
 use native.Mathlib.Decide.{ℕ-discrete, decLt}
 use native.Mathlib.Omega.{arith}
 use borrow.Author.Tests.{eq-eqb, ne-eqb}
@@ -13,12 +13,12 @@ use lib.IntN.{ℤ, pos, negsuc, natAbs}
 use Rattle.lists.specs.Loop.{any}
 use Rattle.lists.proofs.Tests.{eqb-iff, ltb-iff, some-iff, first-iff}
 use Rattle.lists.proofs.Loops.{for-all, when-all, one-all, for-any, any-one, any-two, any-getD}
-use Rattle.lists.proofs.Blocks.{place-split, for2-length, for2-getD, for3-length, for3-getD}
+use Rattle.lists.proofs.Blocks.{for2-length, for2-getD, for3-length, for3-getD}
 use Rattle.instance.specs.declared.Sizes.{Sizes}
 use Rattle.instance.specs.Instance.{Instance}
 use Rattle.formula.specs.Variables.{Literal, index, variableCount}
 use Rattle.formula.specs.Formula.{C, D}
-use Rattle.formula.proofs.Variables.{count-eq, index-lt}
+use Rattle.formula.proofs.Variables.{index-lt, index-onto}
 use Rattle.plan.specs.Plan.{planRow}
 use Rattle.valuation.specs.Valuation.{sameNumber, true?, named, namedPlan, entryFor, planValuation}
 use Rattle.valuation.specs.Satisfying.{Valuation}
@@ -40,14 +40,6 @@ module _ (s : Sizes) where
 
   abbrev ¬X : ℕ → ℕ → ℕ → Literal
   ¬X = variables.¬X s
-
-  -- ---- the numbering: each index below N is that of some X(t,a,v) in range
-  pub index-onto : (i : ℕ) → i < variableCount s → (t a v : ℕ) × (t < suc m) × (a < k) × (v < n) × (i ≡ index s t a v)
-  unfolding index
-  index-onto i h =
-      let (r, v, p, q, e) = place-split (suc m * k) n i (rw (count-eq s) h) in
-      let (t, a, p′, q′, e′) = place-split (suc m) k r p in
-      (t, a, v, p′, q′, q, rw (← e′) e)
 
   -- ---- truth under a valuation goes by one entry
   module _ (es : List ℤ) (w : Valuation (variableCount s) es) where
@@ -99,7 +91,7 @@ module _ (s : Sizes) where
   module _ (p : List ℕ) where
     pub written-at : (t a v : ℕ) → t < suc m → a < k → v < n → getD (planValuation s p) (index s t a v) (pos 0) ≡ entryFor s p t a v
     unfolding planValuation index
-    written-at t a v = for3-getD (suc m) k n (λ t a v. entryFor s p t a v) (pos 0) t a v
+    written-at t a v x y z = for3-getD k (suc m) n (λ a t v. entryFor s p t a v) (pos 0) a t v y x z
 
     entryFor-cases : (t a v : ℕ) → ((v ≡ planRow s p t a) × (entryFor s p t a v ≡ pos (suc (index s t a v))))
         ⊎ ((v ≢ planRow s p t a) × (entryFor s p t a v ≡ negsuc (index s t a v)))
@@ -110,14 +102,14 @@ module _ (s : Sizes) where
 
     pub written-size : length (planValuation s p) ≡ variableCount s
     unfolding planValuation
-    written-size = for3-length (suc m) k n (λ t a v. entryFor s p t a v) ∙ simp mul-comm
+    written-size = for3-length k (suc m) n (λ a t v. entryFor s p t a v) ∙ simp (mul-comm, mul-left-comm)
 
     pub written-valuation : Valuation (variableCount s) (planValuation s p)
     written-valuation =
         record {
           size = written-size;
           each = λ i l.
-              let (t, a, v, x, y, z, e) = index-onto i l in
+              let (t, a, v, x, y, z, e) = index-onto s i l in
               rw e (⊎-elim (λ c. inl (written-at t a v x y z ∙ c .1)) (λ c. inr (written-at t a v x y z ∙ c .1)) (entryFor-cases t a v));
         }
 

@@ -50,4 +50,4 @@ module _ (s : Sizes) where
 
   -- the valuation of a plan: the entries stand in the order of the variables' numbers
   unfoldable pub planValuation : List ℕ → List ℤ
-  planValuation p = for (suc m) λ t. for k λ a. for n λ v. entryFor p t a v ∷ []
+  planValuation p = for k λ a. for (suc m) λ t. for n λ v. entryFor p t a v ∷ []

@@ -4,7 +4,7 @@ ghost use mathlib.Core.Path.{_≡_};
 ghost use mathlib.Core.Bool.{_||_};
 ghost use Prim.Native.Nat.{suc, _+_, _≤_, _<_};
 ghost use lib.IntN.{pos, negℤ};
-ghost use Rattle.formula.specs.Variables.{index, highest};
+ghost use Rattle.formula.specs.Variables.{index, variableCount, highest};
 ghost use Rattle.instance.specs.Limits.{Limits};
 ghost use Rattle.valuation.specs.Valuation.{sameNumber};
 
@@ -16,13 +16,23 @@ pub struct Step(pub usize);
 
 pub struct Variable(pub usize);
 
+// The index of the entry of X(t,a,0); those of the agent's other vertices at that time follow it.
+pub fn first_entry(s: Sizes, t: Step, a: Agent) -> usize
+    requires { ⌜ Limits s ⌝ }
+    requires { ⌜ (t .0 ≤ s .m) × (a .0 < s .k) ⌝ }
+    ensures { λ r. ⌜ (r ≡ index s (t .0) (a .0) 0) × (r + s .n ≤ variableCount s) ⌝ }
+{
+    let rows = s.m + 1;
+    (a.0 * rows + t.0) * s.n
+}
+
 // The variable of X(t,a,v).
 pub fn variable_of(s: Sizes, t: Step, a: Agent, v: Vertex) -> Variable
     requires { ⌜ Limits s ⌝ }
     requires { ⌜ (t .0 ≤ s .m) × (a .0 < s .k) × (v .0 < s .n) ⌝ }
     ensures { λ r. ⌜ (r .0 ≡ suc (index s (t .0) (a .0) (v .0))) × (r .0 ≤ highest) ⌝ }
 {
-    Variable((t.0 * s.k + a.0) * s.n + v.0 + 1)
+    Variable(first_entry(s, t, a) + v.0 + 1)
 }
 
 // The literal that says a variable.

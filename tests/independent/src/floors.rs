@@ -113,8 +113,8 @@ pub fn worked_h() -> Vec<Pruned> {
         path(2, &[0], &[0], 0, &[-2]),
         path(2, &[0], &[0], 1, &[-2, -4]),
         path(3, &[0], &[0], 2, &[-2, -3, -6, -8, -9]),
-        // Two agents, 0 to 1 and 2 to 2.
-        path(3, &[0, 2], &[1, 2], 1, &[-2, -3, -4, -5, -7, -9, -10, -11]),
+        // Two agents, 0 to 1 and 2 to 2: at time 0 the variables 1 to 3 and 7 to 9.
+        path(3, &[0, 2], &[1, 2], 1, &[-2, -3, -7, -8, -4, -6, -10, -11]),
         // Without the edge.
         apart(&[0], &[0], 1, &[-2, -4]),
         apart(&[0], &[0], 4, &[-2, -4, -6, -8, -10]),
@@ -215,14 +215,14 @@ impl Map {
         m: usize,
         rules: Rules,
     ) -> Vec<i32> {
-        let (n, k) = (self.parts.n, self.parts.k());
         let mut literals = Vec::new();
-        for row in 0..(m + 1) * k {
-            let (t, (start, goal)) = (row / k, ends[row % k]);
-            for (v, from_v) in distances.iter().enumerate() {
-                let times = rules(distances[start][v], from_v[goal], t, m - t);
-                let literal = -((1 + row * n + v) as i32);
-                literals.extend(std::iter::repeat_n(literal, times));
+        for t in 0..=m {
+            for (a, &(start, goal)) in ends.iter().enumerate() {
+                for (v, from_v) in distances.iter().enumerate() {
+                    let times = rules(distances[start][v], from_v[goal], t, m - t);
+                    let literal = -plain::variable(self.parts.n, m, t, a, v);
+                    literals.extend(std::iter::repeat_n(literal, times));
+                }
             }
         }
         literals
@@ -313,7 +313,7 @@ const FLOORS: [(&str, Floor); 17] = [
 
 /// Wrong families H, each with its name.
 type FamilyH = fn(&Map, usize) -> Vec<i32>;
-const FAMILIES_H: [(&str, FamilyH); 19] = [
+const FAMILIES_H: [(&str, FamilyH); 20] = [
     ("H: further than m − t + 1 from the goal", |map, m| {
         map.family_h(&map.distances, m, |x, y, t, rest| either(x, y, t, rest + 1))
     }),
@@ -375,18 +375,28 @@ const FAMILIES_H: [(&str, FamilyH); 19] = [
     }),
     ("H: agents before times", |map, m| {
         let mut literals = map.family_h(&map.distances, m, either);
-        let (n, k) = (map.parts.n, map.parts.k());
-        literals.sort_by_key(|literal| (literal.unsigned_abs() as usize - 1) / n % k);
+        literals.sort_by_key(|literal| {
+            let (_, a, _) = plain::time_agent_vertex(map.parts.n, m, -literal);
+            a
+        });
         literals
     }),
     ("H: vertices before agents", |map, m| {
         let mut literals = map.family_h(&map.distances, m, either);
-        let (n, k) = (map.parts.n, map.parts.k());
         literals.sort_by_key(|literal| {
-            let variable = literal.unsigned_abs() as usize - 1;
-            (variable / (n * k), variable % n)
+            let (t, _, v) = plain::time_agent_vertex(map.parts.n, m, -literal);
+            (t, v)
         });
         literals
+    }),
+    ("H: the variables of one time together", |map, m| {
+        let (n, k) = (map.parts.n, map.parts.k());
+        let renumbered = |literal: i32| {
+            let (t, a, v) = plain::time_agent_vertex(n, m, -literal);
+            -((1 + (t * k + a) * n + v) as i32)
+        };
+        let literals = map.family_h(&map.distances, m, either);
+        literals.into_iter().map(renumbered).collect()
     }),
     ("H: agent 0's ends for all agents", |map, m| {
         let first = map.ends().next().into_iter();

@@ -116,11 +116,10 @@ fn write_ends(instance: &Instance, part: &mut [i32], t: usize, vertices: &[u8]) 
 }
 
 fn write_c(instance: &Instance, part: &mut [i32]) {
-    let mut variable = 1;
-    for clause in part.chunks_exact_mut(instance.n + 1) {
-        for word in &mut clause[..instance.n] {
-            *word = variable;
-            variable += 1;
+    let clauses = part.chunks_exact_mut(instance.n + 1);
+    for (clause, (t, a)) in clauses.zip(instance.times_and_agents(instance.m + 1)) {
+        for (v, word) in clause[..instance.n].iter_mut().enumerate() {
+            *word = instance.x(t, a, v);
         }
         clause[instance.n] = 0;
     }
@@ -128,11 +127,11 @@ fn write_c(instance: &Instance, part: &mut [i32]) {
 
 fn write_d(instance: &Instance, mut part: &mut [i32]) {
     let n = instance.n;
-    for row in 0..instance.plan_length() {
-        let x = (1 + row * n) as i32;
+    for (t, a) in instance.times_and_agents(instance.m + 1) {
         for v in 0..n {
             let (now, rest) = part.split_at_mut(3 * (n - 1 - v));
-            write_pairs(now, x + v as i32, x + v as i32 + 1, 1);
+            let above = (v + 1..n).map(|w| instance.x(t, a, w));
+            write_pairs(now, instance.x(t, a, v), above);
             part = rest;
         }
     }
@@ -144,26 +143,25 @@ fn write_e(instance: &Instance, mut part: &mut [i32]) {
         for v in 0..n {
             for a in 0..k {
                 let (now, rest) = part.split_at_mut(3 * (k - 1 - a));
-                let x = instance.x(t, a, v);
-                write_pairs(now, x, x + n as i32, n as i32);
+                let above = (a + 1..k).map(|b| instance.x(t, b, v));
+                write_pairs(now, instance.x(t, a, v), above);
                 part = rest;
             }
         }
     }
 }
 
-/// Clauses of two negative literals: `first` with `second`, `second` + `stride`, ..
-fn write_pairs(part: &mut [i32], first: i32, mut second: i32, stride: i32) {
-    for clause in part.chunks_exact_mut(3) {
+/// Clauses of two negative literals: `first` with each of `seconds`.
+fn write_pairs(part: &mut [i32], first: i32, seconds: impl Iterator<Item = i32>) {
+    for (clause, second) in part.chunks_exact_mut(3).zip(seconds) {
         clause[0] = -first;
         clause[1] = -second;
         clause[2] = 0;
-        second += stride;
     }
 }
 
 fn write_f(instance: &Instance, part: &mut [i32]) {
-    let (n, k) = (instance.n, instance.k);
+    let n = instance.n;
     // The neighbour lists one after the other; that of v ends before ends[v].
     let mut list = [0u8; 64 * 63];
     let mut ends = [0; 64];
@@ -176,9 +174,8 @@ fn write_f(instance: &Instance, part: &mut [i32]) {
         *end = length;
     }
     let mut at = 0;
-    for row in 0..instance.m * k {
-        let x = (1 + row * n) as i32;
-        let next = x + (k * n) as i32;
+    for (t, a) in instance.times_and_agents(instance.m) {
+        let (x, next) = (instance.x(t, a, 0), instance.x(t + 1, a, 0));
         let mut from = 0;
         for v in 0..n {
             let neighbours = &list[from..ends[v]];
@@ -196,17 +193,14 @@ fn write_f(instance: &Instance, part: &mut [i32]) {
 }
 
 fn write_f_searching(instance: &Instance, part: &mut [i32]) {
-    let (n, k) = (instance.n, instance.k);
     let mut at = 0;
-    for row in 0..instance.m * k {
-        let x = (1 + row * n) as i32;
-        let next = x + (k * n) as i32;
-        for v in 0..n {
-            part[at] = -(x + v as i32);
-            part[at + 1] = next + v as i32;
+    for (t, a) in instance.times_and_agents(instance.m) {
+        for v in 0..instance.n {
+            part[at] = -instance.x(t, a, v);
+            part[at + 1] = instance.x(t + 1, a, v);
             at += 2;
             for w in instance.neighbours(v) {
-                part[at] = next + w as i32;
+                part[at] = instance.x(t + 1, a, w);
                 at += 1;
             }
             part[at] = 0;

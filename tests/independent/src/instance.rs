@@ -88,7 +88,14 @@ impl<'a> Instance<'a> {
 
     /// The variable number of X(t,a,v).
     pub fn x(&self, t: usize, a: usize, v: usize) -> i32 {
-        (1 + (t * self.k + a) * self.n + v) as i32
+        (1 + (a * (self.m + 1) + t) * self.n + v) as i32
+    }
+
+    /// The times below `times`, each with all agents: the order of plan bytes and
+    /// of families C, D and F.
+    pub fn times_and_agents(&self, times: usize) -> impl Iterator<Item = (usize, usize)> {
+        let k = self.k;
+        (0..times).flat_map(move |t| (0..k).map(move |a| (t, a)))
     }
 
     /// Clause counts of the families A to G.

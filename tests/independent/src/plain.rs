@@ -32,11 +32,23 @@ impl Parts {
     }
 }
 
+/// The number of X(t,a,v), for n vertices and the horizon m.
+pub fn variable(n: usize, m: usize, t: usize, a: usize, v: usize) -> i32 {
+    (1 + (a * (m + 1) + t) * n + v) as i32
+}
+
+/// The t, a and v of the variable with this number.
+pub fn time_agent_vertex(n: usize, m: usize, variable: i32) -> (usize, usize, usize) {
+    let before = variable as usize - 1;
+    let (row, v) = (before / n, before % n);
+    (row % (m + 1), row / (m + 1), v)
+}
+
 /// All clauses of an accepted instance, without the closing zeros.
 pub fn clauses(instance: &[u8], horizon: u64) -> Vec<Vec<i32>> {
     let parts = parts(instance);
     let (n, k, m) = (parts.n, parts.k, horizon as usize);
-    let x = |t: usize, a: usize, v: usize| (1 + (t * k + a) * n + v) as i32;
+    let x = |t: usize, a: usize, v: usize| variable(n, m, t, a, v);
     let adjacent: Vec<Vec<bool>> = (0..n)
         .map(|v| (0..n).map(|w| parts.adjacent(v, w)).collect())
         .collect();
@@ -122,7 +134,7 @@ pub fn family_h(instance: &[u8], horizon: u64) -> Vec<Vec<i32>> {
         for a in 0..k {
             for v in 0..n {
                 if further(parts.starts[a], v, t) || further(v, parts.goals[a], m - t) {
-                    all.push(vec![-((1 + (t * k + a) * n + v) as i32)]);
+                    all.push(vec![-variable(n, m, t, a, v)]);
                 }
             }
         }
@@ -197,17 +209,20 @@ pub fn satisfies(clauses: &[Vec<i32>], entries: &[i32]) -> bool {
     first_unsatisfied(clauses, entries).is_none()
 }
 
-/// The valuation that puts agent a at time t on byte t·k + a and nowhere else.
-pub fn valuation(n: usize, plan: &[u8]) -> Vec<i32> {
+/// The valuation that puts agent a, of k, at time t on byte t·k + a and nowhere
+/// else: agent after agent, each at all times, with the numbers as they come.
+pub fn valuation(n: usize, k: usize, plan: &[u8]) -> Vec<i32> {
     let mut entries = Vec::new();
-    for &vertex in plan {
-        for v in 0..n {
-            let variable = entries.len() as i32 + 1;
-            entries.push(if v == vertex as usize {
-                variable
-            } else {
-                -variable
-            });
+    for a in 0..k {
+        for t in 0..plan.len() / k {
+            for v in 0..n {
+                let variable = entries.len() as i32 + 1;
+                entries.push(if plan[t * k + a] as usize == v {
+                    variable
+                } else {
+                    -variable
+                });
+            }
         }
     }
     entries

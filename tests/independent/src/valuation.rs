@@ -31,10 +31,25 @@ fn decoded(bytes: &[u8], horizon: u64, entries: &[i32], plan: &mut [u8]) -> Resu
     if let Some(number) = first_false(&instance, entries) {
         return refuse(24, number);
     }
-    for (byte, row) in plan.iter_mut().zip(entries.chunks_exact(instance.n)) {
+    for (byte, row) in plan.iter_mut().zip(rows(&instance, entries)) {
         *byte = row.iter().position(|&entry| entry > 0).unwrap_or(0) as u8;
     }
     Ok(length)
+}
+
+/// The entries of X(t,a,0) to X(t,a,n−1).
+fn row<'a>(instance: &Instance, entries: &'a [i32], t: usize, a: usize) -> &'a [i32] {
+    let from = instance.x(t, a, 0) as usize - 1;
+    &entries[from..from + instance.n]
+}
+
+/// Those of all times and agents, in the order of plan bytes.
+fn rows<'a>(
+    instance: &'a Instance<'a>,
+    entries: &'a [i32],
+) -> impl Iterator<Item = &'a [i32]> + 'a {
+    let all = instance.times_and_agents(instance.m + 1);
+    all.map(move |(t, a)| row(instance, entries, t, a))
 }
 
 /// The lowest number of a clause without a true literal. Entry i belongs to
@@ -65,21 +80,18 @@ fn false_in_b(instance: &Instance, entries: &[i32]) -> Option<usize> {
 
 /// The first agent not at its vertex at time t.
 fn first_absent(instance: &Instance, entries: &[i32], t: usize, vertices: &[u8]) -> Option<usize> {
-    let from = t * instance.k * instance.n;
-    let rows = entries[from..].chunks_exact(instance.n);
-    rows.zip(vertices)
-        .position(|(row, &v)| row[usize::from(v)] < 0)
+    let absent = |a: usize| row(instance, entries, t, a)[usize::from(vertices[a])] < 0;
+    (0..instance.k).find(|&a| absent(a))
 }
 
 fn false_in_c(instance: &Instance, entries: &[i32]) -> Option<usize> {
-    entries
-        .chunks_exact(instance.n)
-        .position(|row| row.iter().all(|&entry| entry < 0))
+    let mut rows = rows(instance, entries);
+    rows.position(|row| row.iter().all(|&entry| entry < 0))
 }
 
 fn false_in_d(instance: &Instance, entries: &[i32]) -> Option<usize> {
     let mut index = 0;
-    for row in entries.chunks_exact(instance.n) {
+    for row in rows(instance, entries) {
         for (v, &entry) in row.iter().enumerate() {
             let above = &row[v + 1..];
             if entry > 0 {
@@ -94,13 +106,14 @@ fn false_in_d(instance: &Instance, entries: &[i32]) -> Option<usize> {
 }
 
 fn false_in_e(instance: &Instance, entries: &[i32]) -> Option<usize> {
-    let (n, k) = (instance.n, instance.k);
+    let k = instance.k;
     let mut index = 0;
-    for rows in entries.chunks_exact(k * n) {
-        for v in 0..n {
+    for t in 0..=instance.m {
+        for v in 0..instance.n {
+            let there = |a: usize| row(instance, entries, t, a)[v] > 0;
             for a in 0..k {
-                if rows[a * n + v] > 0 {
-                    if let Some(b) = (a + 1..k).find(|&b| rows[b * n + v] > 0) {
+                if there(a) {
+                    if let Some(b) = (a + 1..k).find(|&b| there(b)) {
                         return Some(index + b - a - 1);
                     }
                 }
@@ -113,11 +126,11 @@ fn false_in_e(instance: &Instance, entries: &[i32]) -> Option<usize> {
 
 fn false_in_f(instance: &Instance, entries: &[i32]) -> Option<usize> {
     let n = instance.n;
-    let rows = entries.chunks_exact(n);
-    let nexts = entries[instance.k * n..].chunks_exact(n);
-    for (index, (row, next)) in rows.zip(nexts).enumerate() {
+    for (index, (t, a)) in instance.times_and_agents(instance.m).enumerate() {
+        let here = row(instance, entries, t, a);
+        let next = row(instance, entries, t + 1, a);
         let stuck =
-            |v: usize| row[v] > 0 && next[v] < 0 && instance.neighbours(v).all(|w| next[w] < 0);
+            |v: usize| here[v] > 0 && next[v] < 0 && instance.neighbours(v).all(|w| next[w] < 0);
         if let Some(v) = (0..n).find(|&v| stuck(v)) {
             return Some(index * n + v);
         }
@@ -127,7 +140,7 @@ fn false_in_f(instance: &Instance, entries: &[i32]) -> Option<usize> {
 
 fn false_in_g(instance: &Instance, entries: &[i32]) -> Option<usize> {
     let (n, k) = (instance.n, instance.k);
-    let row = |t: usize, a: usize| &entries[(t * k + a) * n..(t * k + a + 1) * n];
+    let row = |t: usize, a: usize| row(instance, entries, t, a);
     let mut index = 0;
     for t in 0..instance.m {
         for a in 0..k {
@@ -154,11 +167,10 @@ fn encoded(bytes: &[u8], horizon: u64, plan: &[u8], entries: &mut [i32]) -> Resu
         return refuse(16, count);
     }
     check_rows(&instance, plan)?;
-    let mut variable = 0;
-    for (row, &vertex) in entries.chunks_exact_mut(instance.n).zip(plan) {
-        for (v, entry) in row.iter_mut().enumerate() {
-            variable += 1;
-            *entry = if v == usize::from(vertex) {
+    for ((t, a), &vertex) in instance.times_and_agents(instance.m + 1).zip(plan) {
+        for v in 0..instance.n {
+            let variable = instance.x(t, a, v);
+            entries[variable as usize - 1] = if v == usize::from(vertex) {
                 variable
             } else {
                 -variable

@@ -1,11 +1,13 @@
 //! The library beside an earlier one. Both export the same names, so this program is linked with each of them, and the
 //! two run in turn. For a call that the earlier one has not, absent.c stands in, and its rows are left out; a writer that
-//! answers its counts too is called by way of absent.c, which gives the rest of its answer.
+//! answers its counts too is called by way of absent.c, which gives the rest of its answer. Each library gets entries in
+//! its own numbering of the variables, and what it writes is compared in S-7's.
 
 use crate::{inputs, time, times_within, Input, Table};
 use independent::output::output;
+use independent::plain;
 use interface as library;
-use interface::input::{valuation, Parts};
+use interface::input::Parts;
 use std::fmt::Debug;
 use std::hash::{DefaultHasher, Hash, Hasher};
 use std::hint::black_box;
@@ -14,8 +16,12 @@ use std::process::{exit, Command, Stdio};
 use std::time::Duration;
 
 /// The most that a call may take of its time with the earlier library. A call that is not here has no target; each
-/// landing sets its own, and S-6 has this one.
-const TARGETS: [(&str, &str, f64); 1] = [("one clause D", "largest", 1.0)];
+/// landing sets its own, and S-7 has these.
+const TARGETS: [(&str, &str, f64); 3] = [
+    ("writer", "largest", 1.0),
+    ("decoder", "largest", 1.0),
+    ("encoder", "largest", 1.0),
+];
 
 /// Each program runs so often for a call, and samples it for so long at least.
 const TURNS: usize = 20;
@@ -48,15 +54,84 @@ const CALLS: [(&str, Print); 12] = [
     ("pruned size", pruned_size),
 ];
 
-/// The input that a call gets, and whether it is timed.
+/// How this program's library numbers the variables of an input: item i is the number in S-7's numbering of its variable
+/// i + 1.
+struct Numbering(Vec<i32>);
+
+impl Numbering {
+    fn of(input: &Input) -> Numbering {
+        // Of two agents on two vertices at m 1, that agent 0 ends at vertex 0. Before S-7 the variables of one time stood
+        // together.
+        let mut clause = [0; 2];
+        library::clause(&[2, 2, 0, 0, 0, 1, 0, 1], 1, 2, &mut clause);
+        let by_time = match clause {
+            [3, 0] => false,
+            [5, 0] => true,
+            _ => panic!("{clause:?}: neither numbering"),
+        };
+        let [n, k] = [0, 1].map(|size| usize::from(input.instance[size]));
+        let number = |i: usize| match by_time {
+            true => plain::variable(n, input.m as usize, i / n / k, i / n % k, i % n),
+            false => i as i32 + 1,
+        };
+        Numbering((0..n * input.plan.len()).map(number).collect())
+    }
+
+    /// Words of the library in S-7's numbering.
+    fn words(&self, words: &[i32]) -> Vec<i32> {
+        let number = |&word: &i32| match word.unsigned_abs() as usize {
+            0 => 0,
+            variable => word.signum() * self.0[variable - 1],
+        };
+        words.iter().map(number).collect()
+    }
+
+    /// A valuation of the library in S-7's numbering.
+    fn entries(&self, entries: &[i32]) -> Vec<i32> {
+        let mut ours = vec![0; entries.len()];
+        for (number, entry) in self.0.iter().zip(self.words(entries)) {
+            ours[*number as usize - 1] = entry;
+        }
+        ours
+    }
+
+    /// A valuation in S-7's numbering as one of the library.
+    fn valuation(&self, ours: &[i32]) -> Vec<i32> {
+        let entry = |(&number, own): (&i32, i32)| ours[number as usize - 1].signum() * own;
+        self.0.iter().zip(1..).map(entry).collect()
+    }
+}
+
+/// The input that a call gets, how the library numbers its variables, and whether the call is timed.
 struct Row {
     input: Input,
+    numbering: Numbering,
     timed: bool,
 }
 
 impl Row {
     /// Prints the best time of the call, or else its answer and a sum over what it leaves in the slice.
-    fn print<T: Hash, A: Debug>(&self, mut lent: Vec<T>, call: impl Fn(&mut [T]) -> A) {
+    fn print<T: Hash, A: Debug>(&self, lent: Vec<T>, call: impl Fn(&mut [T]) -> A) {
+        self.print_as(lent, call, |left| left);
+    }
+
+    /// The same, of a slice that holds words.
+    fn print_words<A: Debug>(&self, lent: Vec<i32>, call: impl Fn(&mut [i32]) -> A) {
+        self.print_as(lent, call, |words| self.numbering.words(&words));
+    }
+
+    /// The same, of a slice that holds entries.
+    fn print_entries<A: Debug>(&self, lent: Vec<i32>, call: impl Fn(&mut [i32]) -> A) {
+        self.print_as(lent, call, |entries| self.numbering.entries(&entries));
+    }
+
+    /// The same, of a slice whose content is put in S-7's numbering by `renumbered`.
+    fn print_as<T: Hash, A: Debug>(
+        &self,
+        mut lent: Vec<T>,
+        call: impl Fn(&mut [T]) -> A,
+        renumbered: impl Fn(Vec<T>) -> Vec<T>,
+    ) {
         if self.timed {
             let [best] = times_within(CALL_TIME, |_| {
                 black_box(call(&mut lent));
@@ -65,26 +140,21 @@ impl Row {
         } else {
             let answer = call(&mut lent);
             let mut sum = DefaultHasher::new();
-            lent.hash(&mut sum);
+            renumbered(lent).hash(&mut sum);
             println!("{answer:?}, sum {:016x}", sum.finish());
         }
     }
 }
-
-/// The pairs whose clauses of family D are measured, in the order of their lines. On the largest instance each has a row.
-const PAIRS: [&str; 3] = [
-    "first pair of a block",
-    "middle pair of a block",
-    "last pair of a block",
-];
 
 /// What a program that is asked for a call does: it prints a line, or one for each clause.
 pub fn print_call(timed: bool, call: &str, instance: &str) {
     let (_, print) = CALLS.iter().find(|known| known.0 == call).expect("a call");
     let mut inputs = inputs().into_iter();
     let input = inputs.find(|input| input.name == instance);
+    let input = input.expect("an instance");
     print(&Row {
-        input: input.expect("an instance"),
+        numbering: Numbering::of(&input),
+        input,
         timed,
     });
 }
@@ -92,7 +162,7 @@ pub fn print_call(timed: bool, call: &str, instance: &str) {
 fn writer(row: &Row) {
     let (instance, m) = (&row.input.instance[..], row.input.m);
     let needed = independent::formula_size(instance, m).second;
-    row.print(vec![1; needed as usize], |words| {
+    row.print_words(vec![1; needed as usize], |words| {
         library::write_formula(black_box(instance), m, words)
     });
 }
@@ -114,7 +184,7 @@ fn plan_check(row: &Row) {
 
 fn decoder(row: &Row) {
     let (instance, m, plan) = (&row.input.instance[..], row.input.m, &row.input.plan[..]);
-    let entries = valuation(usize::from(instance[0]), plan);
+    let entries = row.numbering.valuation(&row.input.valuation());
     row.print(vec![200; plan.len()], |plan| {
         library::decode(black_box(instance), m, black_box(&entries), plan)
     });
@@ -122,19 +192,19 @@ fn decoder(row: &Row) {
 
 fn encoder(row: &Row) {
     let (instance, m, plan) = (&row.input.instance[..], row.input.m, &row.input.plan[..]);
-    row.print(vec![0; usize::from(instance[0]) * plan.len()], |entries| {
+    row.print_entries(vec![0; usize::from(instance[0]) * plan.len()], |entries| {
         library::encode(black_box(instance), m, black_box(plan), entries)
     });
 }
 
 fn reader(row: &Row) {
-    let (instance, m, plan) = (&row.input.instance[..], row.input.m, &row.input.plan[..]);
-    let entries = valuation(usize::from(instance[0]), plan);
+    let (instance, m) = (&row.input.instance[..], row.input.m);
+    let entries = row.numbering.valuation(&row.input.valuation());
     let text = output(&entries, 78);
     if library::read_valuation(instance, m, &text, &mut []).number == ABSENT {
         return println!("{NO_CALL}");
     }
-    row.print(vec![0; entries.len()], |entries| {
+    row.print_entries(vec![0; entries.len()], |entries| {
         library::read_valuation(black_box(instance), m, black_box(&text), entries)
     });
 }
@@ -149,7 +219,7 @@ fn clause_d(row: &Row) {
     let mut numbers = vec![first, first + pairs / 2, first + pairs - 1];
     numbers.dedup();
     for number in numbers {
-        row.print(vec![1; 66], |words| {
+        row.print_words(vec![1; 66], |words| {
             library::clause(black_box(instance), m, black_box(number), words)
         });
     }
@@ -161,7 +231,7 @@ fn clause(row: &Row) {
     let counts = Parts::of(instance).clause_counts(m as usize);
     let first: u64 = counts[..5].iter().sum();
     for number in [first + counts[5] / 2, first + counts[5] - 1] {
-        row.print(vec![1; 66], |words| {
+        row.print_words(vec![1; 66], |words| {
             library::clause(black_box(instance), m, black_box(number), words)
         });
     }
@@ -181,7 +251,7 @@ fn pruned_writer(row: &Row) {
         return println!("{NO_CALL}");
     }
     let needed = independent::pruned_size(instance, m).second;
-    row.print(vec![1; needed as usize], |words| {
+    row.print_words(vec![1; needed as usize], |words| {
         library::write_pruned(black_box(instance), m, words)
     });
 }
@@ -257,7 +327,8 @@ pub fn compare(now: &Path, before: &Path, had: &[Names]) {
         .map(|call| format!("; it has no {}", call.0))
         .collect();
     println!(
-        "\nThe earlier library gave the same answers and words{absent}. The best of {TURNS} turns:\n"
+        "\nThe earlier library gave the same answers and, in one numbering of the variables, the same \
+         words{absent}. The best of {TURNS} turns:\n"
     );
     println!(
         "{:<14} {:<8} {:>9} {:>9} {:>6} {:>6}",
@@ -267,26 +338,19 @@ pub fn compare(now: &Path, before: &Path, had: &[Names]) {
     let mut targets = 0;
     for &(call, instance) in had {
         let best = best_times([now, before], call, instance);
-        let rows: Vec<([f64; 2], &str)> = if (call, instance) == ("one clause D", "largest") {
-            assert_eq!(best.len(), PAIRS.len(), "a time for each pair");
-            best.into_iter().zip(PAIRS).collect()
-        } else {
-            // Of several clauses the one that is dearest now.
-            let dearest = best.into_iter().max_by(|x, y| x[0].total_cmp(&y[0]));
-            vec![(dearest.expect("a time"), "")]
-        };
+        // Of several clauses the one that is dearest now.
+        let dearest = best.into_iter().max_by(|x, y| x[0].total_cmp(&y[0]));
+        let [now, before] = dearest.expect("a time");
         let target = TARGETS.iter().find(|x| (x.0, x.1) == (call, instance));
         targets += usize::from(target.is_some());
-        for ([now, before], note) in rows {
-            let (target, verdict) = table.judge(now / before, target.map(|x| x.2));
-            let row = format!(
-                "{call:<14} {instance:<8} {:>9} {:>9} {:>6.2} {target:>6} {verdict:<4}  {note}",
-                time(now),
-                time(before),
-                now / before
-            );
-            println!("{}", row.trim_end());
-        }
+        let (target, verdict) = table.judge(now / before, target.map(|x| x.2));
+        let row = format!(
+            "{call:<14} {instance:<8} {:>9} {:>9} {:>6.2} {target:>6} {verdict}",
+            time(now),
+            time(before),
+            now / before
+        );
+        println!("{}", row.trim_end());
     }
     assert_eq!(targets, TARGETS.len(), "a target is of no row");
     let missed = table.missed;

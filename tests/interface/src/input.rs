@@ -1,6 +1,7 @@
 //! Plans and valuations, right and damaged.
 
 pub use independent::parts::{malform, Parts};
+pub use independent::plain::valuation;
 
 use independent::parts::enter_occupied;
 use independent::sample::{grid_edges, Generator};
@@ -177,28 +178,13 @@ pub fn some_plan(g: &mut Generator, parts: &Parts, m: usize, passing: &[u8]) -> 
     plan
 }
 
-/// The entries in which X(t,a,v) is true for the plan's vertices and no others.
-pub fn valuation(n: usize, plan: &[u8]) -> Vec<i32> {
-    let mut entries = Vec::with_capacity(n * plan.len());
-    for &at in plan {
-        for v in 0..n {
-            let variable = entries.len() as i32 + 1;
-            entries.push(if v == usize::from(at) {
-                variable
-            } else {
-                -variable
-            });
-        }
-    }
-    entries
-}
-
 /// Entries: a satisfying valuation, or one damaged in some way.
 pub fn some_entries(g: &mut Generator, parts: &Parts, m: usize, passing: &[u8]) -> Vec<i32> {
     let (n, k) = (parts.n, parts.k());
-    let mut entries = valuation(n, passing);
+    let mut entries = valuation(n, k, passing);
     let count = entries.len();
     let i = g.below(count);
+    // The entries of an agent at one time.
     let row = |r: usize| r * n..(r + 1) * n;
     match g.below(22) {
         0..=2 => {}
@@ -214,16 +200,16 @@ pub fn some_entries(g: &mut Generator, parts: &Parts, m: usize, passing: &[u8]) 
             let t = g.below(m + 1);
             let mut plan = passing.to_vec();
             plan.swap(t * k + g.below(k), t * k + g.below(k));
-            entries = valuation(n, &plan);
+            entries = valuation(n, k, &plan);
         }
         7 => {
-            // One row's signs repeated in another.
+            // The signs of one time and agent repeated in another.
             let mut plan = passing.to_vec();
             plan[g.below(passing.len())] = passing[g.below(passing.len())];
-            entries = valuation(n, &plan);
+            entries = valuation(n, k, &plan);
         }
         8 => {
-            // One row's entries repeated as they are.
+            // The entries of one repeated as they are.
             let copy = entries[row(g.below(passing.len()))].to_vec();
             entries[row(g.below(passing.len()))].copy_from_slice(&copy);
         }
@@ -262,7 +248,7 @@ pub fn some_entries(g: &mut Generator, parts: &Parts, m: usize, passing: &[u8]) 
         }
         kind @ 19..=21 => {
             if let Some(plan) = break_condition(g, kind - 18, parts, m, passing) {
-                entries = valuation(n, &plan);
+                entries = valuation(n, k, &plan);
             }
         }
         _ => unreachable!(),

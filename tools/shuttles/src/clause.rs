@@ -11,13 +11,14 @@ pub struct Variable {
     pub vertex: usize,
 }
 
-/// The variable with this number, 1 + (t·k + a)·n + v. Nothing else in the tool knows how variables are numbered.
-pub fn variable(map: &Map, number: usize) -> Option<Variable> {
+/// The variable with this number, 1 + (a·(m+1) + t)·n + v. Nothing else in the tool knows how variables are numbered.
+pub fn variable(map: &Map, horizon: &Horizon, number: usize) -> Option<Variable> {
     let index = number.checked_sub(1)?;
-    let row = index.checked_div(map.vertices())?;
-    Some(Variable {
-        time: row.checked_div(map.agents())?,
-        agent: row.checked_rem(map.agents())?,
+    let run = index.checked_div(map.vertices())?;
+    let agent = run / horizon.times();
+    (agent < map.agents()).then_some(Variable {
+        time: run % horizon.times(),
+        agent,
         vertex: index % map.vertices(),
     })
 }
@@ -32,7 +33,10 @@ pub fn told(map: &Map, horizon: &Horizon, number: u64) -> Option<String> {
     let literals: Option<Vec<(bool, Variable)>> = words
         .iter()
         .take_while(|&&word| word != 0)
-        .map(|&word| Some((word > 0, variable(map, word.unsigned_abs() as usize)?)))
+        .map(|&word| {
+            let number = word.unsigned_abs() as usize;
+            Some((word > 0, variable(map, horizon, number)?))
+        })
         .collect();
     let (family, here) = family(map, number, &literals?)?;
     Some(format!("clause {number} of family {family}, for {here}"))

@@ -2,7 +2,7 @@
 
 use crate::clause;
 use crate::errors::quoted;
-use crate::horizon::{Horizon, HIGHEST};
+use crate::horizon::Horizon;
 use crate::map::Map;
 use crate::solver_lines;
 use std::cmp::Ordering;
@@ -327,18 +327,16 @@ pub fn shared(subject: Subject, place: usize) -> Option<String> {
 
 // The valuation
 
-/// What a variable of the formula says: `agent 0 (line 3) at vertex 1 at time 0`. Where no horizon is known, the
-/// highest bounds the time.
-fn meaning(map: &Map, horizon: Option<&Horizon>, number: usize) -> Option<String> {
-    let last = horizon.map_or(HIGHEST, |horizon| horizon.value.min(HIGHEST));
-    let x = clause::variable(map, number).filter(|x| x.time as u64 <= last)?;
+/// What a variable of the formula says: `agent 0 (line 3) at vertex 1 at time 0`.
+fn meaning(map: &Map, horizon: &Horizon, number: usize) -> Option<String> {
+    let x = clause::variable(map, horizon, number)?;
     let (agent, vertex, time) = (map.agent(x.agent), x.vertex, x.time);
     Some(format!("{agent} at vertex {vertex} at time {time}"))
 }
 
 pub fn entry(subject: Subject, place: usize) -> Option<String> {
     let number = place.checked_add(1)?;
-    let meaning = meaning(subject.map?, subject.horizon, number)?;
+    let meaning = meaning(subject.map?, subject.horizon?, number)?;
     Some(format!(
         "entry {place} must be {number} or -{number}, for {meaning}"
     ))
@@ -360,7 +358,7 @@ pub fn verdict(subject: Subject, place: usize) -> Option<String> {
 }
 
 pub fn variable_given(subject: Subject, number: usize) -> Option<String> {
-    let Some(meaning) = meaning(subject.map?, subject.horizon, number) else {
+    let Some(meaning) = meaning(subject.map?, subject.horizon?, number) else {
         return Some("the formula has no such variable".to_string());
     };
     let given = subject.text.map_or(String::new(), |text| {

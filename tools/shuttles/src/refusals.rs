@@ -193,10 +193,11 @@ mod tests {
         }
     }
 
-    /// Variables 1 to 4 at horizon 1, and 1 to 66 at the highest.
+    /// Two agents on two vertices: 8 variables at horizon 1, an agent's in one stretch. Without a horizon a number does
+    /// not tell them apart.
     #[test]
     fn variables_of_the_formula() {
-        let map = description::map("vertices 2\nedge 0 1\nagent 0 1").unwrap();
+        let map = description::map("vertices 2\nedge 0 1\nagent 0 1\nagent 1 0").unwrap();
         let one = Horizon::read("1");
         let none = "the formula has no such variable";
         for (horizon, second, expected) in [
@@ -206,15 +207,19 @@ mod tests {
                 4,
                 "variable 4, for agent 0 (line 3) at vertex 1 at time 1",
             ),
-            (Some(&one), 5, none),
-            (Some(&one), u64::MAX, none),
-            (None, 0, none),
             (
-                None,
-                66,
-                "variable 66, for agent 0 (line 3) at vertex 1 at time 32",
+                Some(&one),
+                5,
+                "variable 5, for agent 1 (line 4) at vertex 0 at time 0",
             ),
-            (None, 67, none),
+            (
+                Some(&one),
+                8,
+                "variable 8, for agent 1 (line 4) at vertex 1 at time 1",
+            ),
+            (Some(&one), 9, none),
+            (Some(&one), u64::MAX, none),
+            (None, 5, "the place is a variable"),
         ] {
             let subject = Subject {
                 map: Some(&map),

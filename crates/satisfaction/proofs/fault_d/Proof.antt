@@ -4,7 +4,8 @@ use native.Mathlib.Omega.{arith}
 use native.Mathlib.Numerals.{add-one}
 use lib.ListN.{length}
 use Rattle.formula.specs.Variables.{highest}
-use Rattle.satisfaction.proofs.Bounds.{Products, products, row-fits, blocks-fit, entries-fit}
+use Rattle.formula.proofs.Limits.{variables-most}
+use Rattle.satisfaction.proofs.Bounds.{Products, products, row-fits, blocks-fit}
 use Rattle.satisfaction.proofs.Truth.{none-D, first-D, second-D, here-D}
 use Rattle.satisfaction.proofs.fault_d.Statement.{statement}
 use Rattle.satisfaction.proofs.fault_d.Tie as tie
@@ -37,19 +38,18 @@ mul-result c = rw (c .before .before .pair-count .ensures .0) (omega (arith, kno
 returns : tie.Need-returns
 returns c = rw (c .before .before .pair-count .ensures .0) (none-D (c .before .before .before .before .args .s) (c .before .before .before .before .args .entries .now) (c .before .before .before .before .pre .1 .0 .valid) (c .before .before .before .before .args .p .now) (c .before .before .before .before .pre .1 .0) (c .before .before .before .before .args .t) (let h = c .before .before .before .before .pre .1 .1 in omega arith) (c .before .before .before .before .args .s .n + 1) (c .before .first-on .result) (add-one _) (c .before .first-on .ensures) (c .if1 .taken))
 
--- the agent's entries
-ends : (c : tie.Else1) → ((c .before .before .before .before .args .t * c .before .before .before .before .args .s .k + c .before .first-on .result) * c .before .before .before .before .args .s .n + c .before .before .before .before .args .s .n ≤ length (c .before .before .before .before .args .entries .now)) × (length (c .before .before .before .before .args .entries .now) ≤ highest) × (c .before .first-on .result < c .before .before .before .before .args .s .k) × (c .before .before .before .before .args .t * c .before .before .before .before .args .s .k + c .before .first-on .result < 528)
+-- the agent, and that its entries stand within the valuation
+agent : (c : tie.Else1) → c .before .first-on .result < c .before .before .before .before .args .s .k
+agent c = omega (arith, c .before .first-on .ensures .within, c .if1 .left)
+
+first-entry-requires : tie.Need-first-entry-requires
+first-entry-requires c κs = (c .before .before .before .before .pre .0, (c .before .before .before .before .pre .1 .1, agent c))
+
+ends : (c : tie.After-first-entry) → (c .first-entry .result + c .before .before .before .before .before .args .s .n ≤ length (c .before .before .before .before .before .args .entries .now)) × (length (c .before .before .before .before .before .args .entries .now) ≤ highest)
 ends c =
-    let l : c .before .first-on .result < c .before .before .before .before .args .s .k = omega (arith, c .before .first-on .ensures .within, c .if1 .left) in
-    let o = entries-fit (c .before .before .before .before .args .s) (c .before .before .before .before .args .t * c .before .before .before .before .args .s .k + c .before .first-on .result) (c .before .before .before .before .pre .0) (omega (arith, room (c .before .before .before .before) .0, c .before .before .before .before .pre .1 .0 .size)) in
-    let e = c .before .before .before .before .pre .1 .0 .valid .size in
-    (omega (arith, o .0), omega (arith, o .1), l, omega (arith, room (c .before .before .before .before)))
-
-add-base : tie.Need-add-base
-add-base c = omega (arith, ends c)
-
-mul-base : tie.Need-mul-base
-mul-base c = omega (arith, ends c)
+    let start = c .before .before .before .before .before in
+    let e = start .pre .1 .0 .valid .size in
+    (omega (arith, c .first-entry .ensures .1), omega (arith, variables-most (start .args .s) (start .pre .0)))
 
 add-end : tie.Need-add-end
 add-end c = omega (arith, ends c)
@@ -58,11 +58,15 @@ stop-from-requires : tie.Need-stop-from-requires
 stop-from-requires c κs = (omega arith, omega (arith, ends c), omega (arith, ends c))
 
 -- the first two vertices
-first : (c : tie.After-stop-from) → c .stop-from .result < (c .before .before .before .before .before .args .t * c .before .before .before .before .before .args .s .k + c .before .before .first-on .result) * c .before .before .before .before .before .args .s .n + c .before .before .before .before .before .args .s .n
-first c = first-D (c .before .before .before .before .before .args .s) (c .before .before .before .before .before .args .entries .now) (c .before .before .before .before .before .pre .1 .0 .valid) (c .before .before .before .before .before .args .p .now) (c .before .before .before .before .before .pre .1 .0) (c .before .before .before .before .before .args .t) (let h = c .before .before .before .before .before .pre .1 .1 in omega arith) (c .before .before .before .before .before .args .s .n + 1) (c .before .before .first-on .result) (add-one _) (c .before .before .first-on .ensures) (c .before .if1 .left) (c .stop-from .result) 0 (c .stop-from .ensures)
+first : (c : tie.After-stop-from) → c .stop-from .result < c .before .first-entry .result + c .before .before .before .before .before .before .args .s .n
+first c =
+    let start = c .before .before .before .before .before .before in
+    first-D (start .args .s) (start .args .entries .now) (start .pre .1 .0 .valid) (start .args .p .now) (start .pre .1 .0) (start .args .t) (let h = start .pre .1 .1 in omega arith) (start .args .s .n + 1) (c .before .before .before .first-on .result) (add-one _) (c .before .before .before .first-on .ensures) (c .before .before .if1 .left) (c .before .first-entry .result) (c .stop-from .result) 0 (c .before .first-entry .ensures .0) (c .stop-from .ensures)
 
-second : (c : tie.After-stop-from2) → c .stop-from2 .result < (c .before .before .before .before .before .before .args .t * c .before .before .before .before .before .before .args .s .k + c .before .before .before .first-on .result) * c .before .before .before .before .before .before .args .s .n + c .before .before .before .before .before .before .args .s .n
-second c = second-D (c .before .before .before .before .before .before .args .s) (c .before .before .before .before .before .before .args .entries .now) (c .before .before .before .before .before .before .pre .1 .0 .valid) (c .before .before .before .before .before .before .args .p .now) (c .before .before .before .before .before .before .pre .1 .0) (c .before .before .before .before .before .before .args .t) (let h = c .before .before .before .before .before .before .pre .1 .1 in omega arith) (c .before .before .before .before .before .before .args .s .n + 1) (c .before .before .before .first-on .result) (add-one _) (c .before .before .before .first-on .ensures) (c .before .before .if1 .left) (c .before .stop-from .result) (c .stop-from2 .result) (c .before .stop-from .ensures) (c .stop-from2 .ensures)
+second : (c : tie.After-stop-from2) → c .stop-from2 .result < c .before .before .first-entry .result + c .before .before .before .before .before .before .before .args .s .n
+second c =
+    let start = c .before .before .before .before .before .before .before in
+    second-D (start .args .s) (start .args .entries .now) (start .pre .1 .0 .valid) (start .args .p .now) (start .pre .1 .0) (start .args .t) (let h = start .pre .1 .1 in omega arith) (start .args .s .n + 1) (c .before .before .before .before .first-on .result) (add-one _) (c .before .before .before .before .first-on .ensures) (c .before .before .before .if1 .left) (c .before .before .first-entry .result) (c .before .stop-from .result) (c .stop-from2 .result) (c .before .before .first-entry .ensures .0) (c .before .stop-from .ensures) (c .stop-from2 .ensures)
 
 add-stop-from : tie.Need-add-stop-from
 add-stop-from c = omega (arith, first c, ends (c .before))
@@ -70,8 +74,12 @@ add-stop-from c = omega (arith, first c, ends (c .before))
 stop-from-requires-2 : tie.Need-stop-from-requires-2
 stop-from-requires-2 c κs = (omega (arith, first c), omega (arith, ends (c .before)), omega (arith, ends (c .before)))
 
+-- the blocks of the agents before
+before : (c : tie.After-stop-from2) → c .before .before .before .before .first-on .result * c .before .before .before .before .before .pair-count .result ≤ 32768
+before c = rw (c .before .before .before .before .before .pair-count .ensures .0) (omega (arith, known (c .before .before .before .before .before .before .before) .D, blocks-fit _ _ (c .before .before .before .before .before .before .before .args .s .n * (c .before .before .before .before .before .before .before .args .s .n - 1) / 2) (c .before .before .before .before .first-on .ensures .within)))
+
 mul-result-2 : tie.Need-mul-result-2
-mul-result-2 c = rw (c .before .before .before .before .pair-count .ensures .0) (omega (arith, known (c .before .before .before .before .before .before) .D, blocks-fit _ _ (c .before .before .before .before .before .before .args .s .n * (c .before .before .before .before .before .before .args .s .n - 1) / 2) (c .before .before .before .first-on .ensures .within)))
+mul-result-2 c = omega (arith, before c)
 
 sub-pair-at : tie.Need-sub-pair-at
 sub-pair-at c = omega (arith, c .before .stop-from .ensures .least)
@@ -83,13 +91,15 @@ sub-pair-at-3 : tie.Need-sub-pair-at-3
 sub-pair-at-3 c = omega (arith, c .stop-from2 .ensures .least)
 
 pair-at-requires : tie.Need-pair-at-requires
-pair-at-requires c κs = (omega (arith, c .before .stop-from .ensures .least, first (c .before)), c .before .before .before .before .before .before .pre .0 .n-most, omega (arith, c .before .stop-from .ensures .least, c .stop-from2 .ensures .least, second c, c .before .before .before .before .before .before .pre .0 .n-most))
+pair-at-requires c κs = (omega (arith, c .before .stop-from .ensures .least, first (c .before)), c .before .before .before .before .before .before .before .pre .0 .n-most, omega (arith, c .before .stop-from .ensures .least, c .stop-from2 .ensures .least, second c, c .before .before .before .before .before .before .before .pre .0 .n-most))
 
 add-result : tie.Need-add-result
-add-result c = rw (c .before .before .before .before .before .pair-count .ensures .0) (omega (arith, known (c .before .before .before .before .before .before .before) .D, blocks-fit _ _ (c .before .before .before .before .before .before .before .args .s .n * (c .before .before .before .before .before .before .before .args .s .n - 1) / 2) (c .before .before .before .before .first-on .ensures .within), c .pair-at .ensures .1))
+add-result c = omega (arith, before (c .before), c .pair-at .ensures .1)
 
 returns-2 : tie.Need-returns-2
-returns-2 c = rw (c .before .before .before .before .before .pair-count .ensures .0, c .pair-at .ensures .0) (here-D (c .before .before .before .before .before .before .before .args .s) (c .before .before .before .before .before .before .before .args .entries .now) (c .before .before .before .before .before .before .before .pre .1 .0 .valid) (c .before .before .before .before .before .before .before .args .p .now) (c .before .before .before .before .before .before .before .pre .1 .0) (c .before .before .before .before .before .before .before .args .t) (let h = c .before .before .before .before .before .before .before .pre .1 .1 in omega arith) (c .before .before .before .before .before .before .before .args .s .n + 1) (c .before .before .before .before .first-on .result) (add-one _) (c .before .before .before .before .first-on .ensures) (c .before .before .before .if1 .left) (c .before .before .stop-from .result) (c .before .stop-from2 .result) (c .before .before .stop-from .ensures) (c .before .stop-from2 .ensures))
+returns-2 c =
+    let start = c .before .before .before .before .before .before .before .before in
+    rw (c .before .before .before .before .before .before .pair-count .ensures .0, c .pair-at .ensures .0) (here-D (start .args .s) (start .args .entries .now) (start .pre .1 .0 .valid) (start .args .p .now) (start .pre .1 .0) (start .args .t) (let h = start .pre .1 .1 in omega arith) (start .args .s .n + 1) (c .before .before .before .before .before .first-on .result) (add-one _) (c .before .before .before .before .before .first-on .ensures) (c .before .before .before .before .if1 .left) (c .before .before .before .first-entry .result) (c .before .before .stop-from .result) (c .before .stop-from2 .result) (c .before .before .before .first-entry .ensures .0) (c .before .before .stop-from .ensures) (c .before .stop-from2 .ensures))
 
 pub fault-d-spec : {M : Type 1} → statement M
 fault-d-spec =
@@ -102,8 +112,7 @@ fault-d-spec =
     first-on-requires
     mul-result
     returns
-    add-base
-    mul-base
+    first-entry-requires
     add-end
     stop-from-requires
     add-stop-from

@@ -1,90 +1,133 @@
--- `satisfaction::read_entries` meets its contract: before turn i the rows before row i are read, and their entries are right. Assumes nothing.
-use Prim.Native.Nat.{ℕ, suc, _+_, _-_, _*_, _≤_}
+-- `satisfaction::read_entries` meets its contract: before turn t of agent a the rows before theirs are read, and their entries are right. Assumes nothing.
+use Prim.Native.Nat.{ℕ, suc, _+_, _-_, _*_, _≤_, _<_}
 use mathlib.Core.Path.{_≡_, sym, _∙_}
 use native.Mathlib.Omega.{arith}
 use borrow.Author.Needs.{needs}
-use Rattle.formula.specs.Variables.{variableCount}
+use Rattle.lists.proofs.Blocks.{place-lt}
+use Rattle.formula.specs.Variables.{index, variableCount}
+use Rattle.formula.proofs.Limits.{variables-most}
+use Rattle.formula.proofs.Variables.{run-fits, first-run, next-run, next-agent, last-run}
 use Rattle.satisfaction.proofs.Entries.{Sofar, sofar-none, sofar-more, sofar-wrong, done-right, done-read}
-use Rattle.satisfaction.proofs.Bounds.{Products, products, entries-fit}
+use Rattle.satisfaction.proofs.Bounds.{products}
 use Rattle.satisfaction.proofs.read_entries.Statement.{statement}
 use Rattle.satisfaction.proofs.read_entries.Tie as tie
 
+abbrev Inv-loop2 : tie.InvT-loop2
+Inv-loop2 vertices₀ entries s k rows base₀ a t₀ vertices base t = (t ≤ rows) × (base ≡ index s t a 0) × Sofar s entries vertices base
+
+abbrev μ-loop2 : tie.MeasureT-loop2
+μ-loop2 vertices₀ entries s k rows base₀ a t₀ vertices base t = rows - t
+
 abbrev Inv-loop : tie.InvT-loop
-Inv-loop vertices₀ entries n cells i₀ vertices i = (i ≤ cells) × Sofar n entries vertices i
+Inv-loop vertices₀ entries s k rows base₀ a₀ vertices base a = (a ≤ k) × (base ≡ index s 0 a 0) × Sofar s entries vertices base
 
 abbrev μ-loop : tie.MeasureT-loop
-μ-loop vertices₀ entries n cells i₀ vertices i = cells - i
+μ-loop vertices₀ entries s k rows base₀ a₀ vertices base a = k - a
 
-known : (s : tie.Start Inv-loop μ-loop) → Products (s .args .s)
-known s = products (s .args .s) (s .pre .0)
+-- the row of agent a at time t: its byte, and that it stands within the entries
+byte : (c : tie.In-loop2 Inv-loop2 μ-loop2 Inv-loop μ-loop) → c .before .loop2 .t * c .before .before .before .before .before .before .args .s .k + c .before .before .before .loop .a < 528
+byte c =
+    let start = c .before .before .before .before .before .before in
+    omega (arith, place-lt (suc (start .args .s .m)) (start .args .s .k) (c .before .loop2 .t) (c .before .before .before .loop .a) (omega (arith, c .loop2-test .taken)) (c .before .before .loop-test .taken), products (start .args .s) (start .pre .0) .cells)
 
--- row i stands within the entries
-room : (c : tie.In-loop Inv-loop μ-loop) → (c .before .loop .i * c .before .before .before .before .args .s .n + c .before .before .before .before .args .s .n ≤ variableCount (c .before .before .before .before .args .s)) × (variableCount (c .before .before .before .before .args .s) ≤ 33792)
-room c = entries-fit (c .before .before .before .before .args .s) (c .before .loop .i) (c .before .before .before .before .pre .0) (omega (arith, c .before .before .plan-bytes .ensures .0, c .loop-test .taken))
+fits : (c : tie.In-loop2 Inv-loop2 μ-loop2 Inv-loop μ-loop) → (c .before .loop2 .base + c .before .before .before .before .before .before .args .s .n ≤ variableCount (c .before .before .before .before .before .before .args .s)) × (variableCount (c .before .before .before .before .before .before .args .s) ≤ 33792)
+fits c =
+    let start = c .before .before .before .before .before .before in
+    let e = c .before .loop2 .inv .1 in
+    (omega (arith, run-fits (start .args .s) (c .before .loop2 .t) (c .before .before .before .loop .a) (omega (arith, c .loop2-test .taken)) (c .before .before .loop-test .taken)), variables-most (start .args .s) (start .pre .0))
 
-plan-bytes-requires : tie.Need-plan-bytes-requires Inv-loop μ-loop
-plan-bytes-requires c κs = c .before .pre .0
+add-rows : tie.Need-add-rows Inv-loop2 μ-loop2 Inv-loop μ-loop
+add-rows c = omega (arith, c .before .before .pre .0 .m-most)
 
-loop-holds : tie.Need-loop-holds Inv-loop μ-loop
-loop-holds c = (omega arith, sofar-none _ _ _ (c .before .before .pre .1 .1))
+loop-holds : tie.Need-loop-holds Inv-loop2 μ-loop2 Inv-loop μ-loop
+loop-holds c = (omega arith, sym (first-run _), sofar-none _ _ _ (c .before .before .pre .1 .1))
 
-mul-base : tie.Need-mul-base Inv-loop μ-loop
-mul-base c = omega (arith, room c)
+loop2-holds : tie.Need-loop2-holds Inv-loop2 μ-loop2 Inv-loop μ-loop
+loop2-holds c = (omega arith, c .before .loop .inv .1, c .before .loop .inv .2)
 
-read-row-requires : tie.Need-read-row-requires Inv-loop μ-loop
-read-row-requires c κs = let e = c .before .before .before .before .pre .1 .0 in (omega (arith, room c), omega (arith, room c), c .before .before .before .before .pre .0 .n-most)
+read-row-requires : tie.Need-read-row-requires Inv-loop2 μ-loop2 Inv-loop μ-loop
+read-row-requires c κs = let e = c .before .before .before .before .before .before .pre .1 .0 in (omega (arith, fits c), omega (arith, fits c), c .before .before .before .before .before .before .pre .0 .n-most)
 
-add-if1 : tie.Need-add-if1 Inv-loop μ-loop
-add-if1 c = omega (arith, room (c .before))
+add-if1 : tie.Need-add-if1 Inv-loop2 μ-loop2 Inv-loop μ-loop
+add-if1 c = omega (arith, fits (c .before .before))
 
-same-length : tie.Need-same-length Inv-loop μ-loop
-same-length c = c .before .before .before .before .loop .inv .1 .size ∙ sym (c .before .before .before .before .before .before .before .pre .1 .1)
+same-length : tie.Need-same-length Inv-loop2 μ-loop2 Inv-loop μ-loop
+same-length c = c .before .before .before .before .before .loop2 .inv .2 .size ∙ sym (c .before .before .before .before .before .before .before .before .before .before .pre .1 .1)
 
-returns : tie.Need-returns Inv-loop μ-loop
-returns c = (sofar-wrong (c .before .before .before .before .before .before .before .args .s .n) (c .before .before .before .before .before .before .before .args .entries .now) (c .before .before .before .before .loop .vertices) (c .before .before .before .before .loop .i) (c .before .before .before .before .loop .inv .1) (c .before .before .read-row .result .wrong) (c .before .before .read-row .result .vertex) (c .before .before .read-row .ensures) (variableCount (c .before .before .before .before .before .before .before .args .s)) (room (c .before .before .before) .0) (c .if1 .taken), (c .before .before .before .before .loop .inv .1 .size, λ h. absurd (let f : ⊥ = omega (arith, room (c .before .before .before) .0, c .if1 .taken) in f)))
+returns : tie.Need-returns Inv-loop2 μ-loop2 Inv-loop μ-loop
+returns c =
+    let start = c .before .before .before .before .before .before .before .before .before .before in
+    let room = fits (c .before .before .before .before) .0 in (
+      sofar-wrong (start .args .s) (start .args .entries .now) (c .before .before .before .before .before .loop2 .vertices) (c .before .before .before .before .before .loop2 .t) (c .before .before .before .before .before .before .before .loop .a) (omega (arith, c .before .before .before .before .loop2-test .taken)) (c .before .before .before .before .before .before .loop-test .taken) (c .before .before .before .before .before .loop2 .base) (c .before .before .before .read-row .result .wrong) (c .before .before .before .read-row .result .vertex) (c .before .before .before .before .before .loop2 .inv .1) (c .before .before .before .before .before .loop2 .inv .2) (c .before .before .before .read-row .ensures) (variableCount (start .args .s)) room (c .if1 .taken),
+      (c .before .before .before .before .before .loop2 .inv .2 .size, λ h. absurd (let f : ⊥ = omega (arith, room, c .if1 .taken) in f)),
+    )
 
-cast-vertices : tie.Need-cast-vertices Inv-loop μ-loop
-cast-vertices c = let o = c .before .before .before .read-row .ensures .1 (c .before .if1 .left) in omega (arith, o .most, c .before .before .before .before .before .before .before .before .pre .0 .n-most)
+cast-vertices : tie.Need-cast-vertices Inv-loop2 μ-loop2 Inv-loop μ-loop
+cast-vertices c = let o = c .before .before .before .before .read-row .ensures .1 (c .before .if1 .left) in omega (arith, o .most, c .before .before .before .before .before .before .before .before .before .before .before .pre .0 .n-most)
 
-slice-write-vertices : tie.Need-slice-write-vertices Inv-loop μ-loop
-slice-write-vertices c = omega (arith, known (c .before .before .before .before .before .before .before .before) .cells, c .before .before .before .before .before .before .plan-bytes .ensures .0, c .before .before .before .before .loop-test .taken, c .before .before .before .before .before .loop .inv .1 .size)
+mul-vertices : tie.Need-mul-vertices Inv-loop2 μ-loop2 Inv-loop μ-loop
+mul-vertices c = omega (arith, byte (c .before .before .before .before .before))
 
-add-i : tie.Need-add-i Inv-loop μ-loop
-add-i c = omega (arith, known (c .before .before .before .before .before .before .before .before) .cells, c .before .before .before .before .before .before .plan-bytes .ensures .0, c .before .before .before .before .loop-test .taken)
+add-vertices : tie.Need-add-vertices Inv-loop2 μ-loop2 Inv-loop μ-loop
+add-vertices c = omega (arith, byte (c .before .before .before .before .before))
 
-loop-again : tie.Need-loop-again Inv-loop μ-loop
-loop-again c = (omega (arith, c .before .before .before .before .loop-test .taken), sofar-more (c .before .before .before .before .before .before .before .before .args .s .n) (c .before .before .before .before .before .before .before .before .args .entries .now) (c .before .before .before .before .before .loop .vertices) (c .before .before .before .before .before .loop .i) (c .before .before .before .before .before .loop .inv .1) (c .before .before .before .read-row .result .wrong) (c .before .before .before .read-row .result .vertex) (c .before .before .before .read-row .ensures) (omega (arith, known (c .before .before .before .before .before .before .before .before) .cells, c .before .before .before .before .before .before .plan-bytes .ensures .0, c .before .before .before .before .loop-test .taken)) (c .before .if1 .left))
+slice-write-vertices : tie.Need-slice-write-vertices Inv-loop2 μ-loop2 Inv-loop μ-loop
+slice-write-vertices c = omega (arith, byte (c .before .before .before .before .before), c .before .before .before .before .before .before .loop2 .inv .2 .size)
 
-mul-result : tie.Need-mul-result Inv-loop μ-loop
-mul-result c = rw (c .before .before .plan-bytes .ensures .0) (omega (arith, known (c .before .before .before .before) .entries))
+add-base : tie.Need-add-base Inv-loop2 μ-loop2 Inv-loop μ-loop
+add-base c = omega (arith, fits (c .before .before .before .before .before .before))
 
-same-length-2 : tie.Need-same-length-2 Inv-loop μ-loop
-same-length-2 c = c .before .loop .inv .1 .size ∙ sym (c .before .before .before .before .pre .1 .1)
+loop2-again : tie.Need-loop2-again Inv-loop2 μ-loop2 Inv-loop μ-loop
+loop2-again c =
+    let start = c .before .before .before .before .before .before .before .before .before .before .before .before in (
+      omega (arith, c .before .before .before .before .before .before .loop2-test .taken),
+      omega (arith, c .before .before .before .before .before .before .before .loop2 .inv .1, next-run (start .args .s) (c .before .before .before .before .before .before .before .loop2 .t) (c .before .before .before .before .before .before .before .before .before .loop .a)),
+      sofar-more (start .args .s) (start .args .entries .now) (c .before .before .before .before .before .before .before .loop2 .vertices) (c .before .before .before .before .before .before .before .loop2 .t) (c .before .before .before .before .before .before .before .before .before .loop .a) (omega (arith, c .before .before .before .before .before .before .loop2-test .taken)) (c .before .before .before .before .before .before .before .before .loop-test .taken) (c .before .before .before .before .before .before .before .loop2 .base) (c .before .before .before .before .before .read-row .result .wrong) (c .before .before .before .before .before .read-row .result .vertex) (c .before .before .before .before .before .before .before .loop2 .inv .1) (c .before .before .before .before .before .before .before .loop2 .inv .2) (c .before .before .before .before .before .read-row .ensures) (byte (c .before .before .before .before .before .before)) (c .before .before .if1 .left),
+    )
 
-returns-2 : tie.Need-returns-2 Inv-loop μ-loop
+-- after an agent's last time the next agent's first
+loop-again : tie.Need-loop-again Inv-loop2 μ-loop2 Inv-loop μ-loop
+loop-again c =
+    let start = c .before .before .before .before .before .before in
+    let e : c .before .loop2 .t ≡ suc (start .args .s .m) = omega (arith, c .before .loop2 .inv .0, c .loop2-test .left) in
+    (omega (arith, c .before .before .loop-test .taken), (rw e at (c .before .loop2 .inv .1)) ∙ sym (next-agent (start .args .s) (c .before .before .before .loop .a)), c .before .loop2 .inv .2)
+
+same-length-2 : tie.Need-same-length-2 Inv-loop2 μ-loop2 Inv-loop μ-loop
+same-length-2 c = c .before .loop .inv .2 .size ∙ sym (c .before .before .before .before .pre .1 .1)
+
+returns-2 : tie.Need-returns-2 Inv-loop2 μ-loop2 Inv-loop μ-loop
 returns-2 c =
-    let e : c .before .loop .i ≡ suc (c .before .before .before .before .args .s .m) * c .before .before .before .before .args .s .k = omega (arith, c .before .before .plan-bytes .ensures .0, c .before .loop .inv .0, c .loop-test .left) in
-    let o : Sofar (c .before .before .before .before .args .s .n) (c .before .before .before .before .args .entries .now) (c .before .loop .vertices) (suc (c .before .before .before .before .args .s .m) * c .before .before .before .before .args .s .k) = rw e at (c .before .loop .inv .1) in
-    rw (c .before .before .plan-bytes .ensures .0) (done-right (c .before .before .before .before .args .s) (c .before .before .before .before .args .entries .now) (c .before .before .before .before .pre .1 .0) (c .before .loop .vertices) o, (o .size, λ h. done-read (c .before .before .before .before .args .s) (c .before .before .before .before .args .entries .now) (c .before .before .before .before .pre .1 .0) (c .before .loop .vertices) o (known (c .before .before .before .before) .cells)))
+    let start = c .before .before .before .before in
+    let e : c .before .loop .a ≡ start .args .s .k = omega (arith, c .before .loop .inv .0, c .loop-test .left) in
+    let f : c .before .loop .base ≡ variableCount (start .args .s) = (rw e at (c .before .loop .inv .1)) ∙ last-run (start .args .s) in
+    let o : Sofar (start .args .s) (start .args .entries .now) (c .before .loop .vertices) (variableCount (start .args .s)) = rw f at (c .before .loop .inv .2) in
+    rw f (done-right (start .args .s) (start .args .entries .now) (start .pre .1 .0) (c .before .loop .vertices) o, (o .size, λ h. done-read (start .args .s) (start .args .entries .now) (start .pre .1 .0) (c .before .loop .vertices) o (start .pre .0 .n-least) (products (start .args .s) (start .pre .0) .cells)))
 
 pub read-entries-spec : {M : Type 1} → statement M
 read-entries-spec =
     tie.close
     (tie.spec
+    Inv-loop2
+    μ-loop2
     Inv-loop
     μ-loop
-    plan-bytes-requires
+    add-rows
     loop-holds
-    mul-base
+    loop2-holds
     read-row-requires
     add-if1
     same-length
     returns
     cast-vertices
+    mul-vertices
+    add-vertices
     slice-write-vertices
-    add-i
+    add-base
+    (λ c. search needs)
+    (λ c. search needs)
+    loop2-again
+    (λ c. search needs)
     (λ c. search needs)
     loop-again
-    mul-result
     same-length-2
     returns-2)

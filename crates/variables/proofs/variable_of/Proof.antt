@@ -1,32 +1,25 @@
--- `variables::variable_of` meets its contract: each product is bounded by the limits of the sizes. Assumes nothing.
+-- `variables::variable_of` meets its contract: the vertex stands in the agent's run of entries. Assumes nothing.
 use native.Mathlib.Omega.{arith}
-use native.Mathlib.Numerals.{add-one}
-use Rattle.formula.specs.Variables.{index}
-use Rattle.formula.proofs.Variables.{Bounds, bounds}
+use Rattle.formula.proofs.Limits.{variables-most}
+use Rattle.formula.proofs.Variables.{vertices-run}
 use Rattle.variables.proofs.variable_of.Statement.{statement}
 use Rattle.variables.proofs.variable_of.Tie as tie
 
-known : (s : tie.Start) → Bounds (s .args .s) (s .args .t .0) (s .args .a .0)
-known s = bounds (s .args .s) (s .args .t .0) (s .args .a .0) (s .pre .0) (s .pre .1 .0) (s .pre .1 .1)
-
-mul-t5 : tie.Need-mul-t5
-mul-t5 c = omega (arith, known (c .before .before), c .before .before .pre .0 .n-most)
+first-entry-requires : tie.Need-first-entry-requires
+first-entry-requires c κs = (c .pre .0, (c .pre .1 .0, c .pre .1 .1))
 
 add-t6 : tie.Need-add-t6
-add-t6 c = omega (arith, known (c .before .before .before), c .before .before .before .pre .0 .n-most)
+add-t6 c = omega (arith, c .before .first-entry .ensures .1, c .before .before .pre .1 .2, variables-most (c .before .before .args .s) (c .before .before .pre .0))
 
-mul-t7 : tie.Need-mul-t7
-mul-t7 c = omega (arith, known (c .before .before .before .before), c .before .before .before .before .pre .0 .n-most)
-
-add-t8 : tie.Need-add-t8
-add-t8 c = omega (arith, known (c .before .before .before .before .before), c .before .before .before .before .before .pre .0 .n-most)
-
-add-t9 : tie.Need-add-t9
-add-t9 c = omega (arith, known (c .before .before .before .before .before), c .before .before .before .before .before .pre .0 .n-most)
+add-t7 : tie.Need-add-t7
+add-t7 c = omega (arith, c .before .first-entry .ensures .1, c .before .before .pre .1 .2, variables-most (c .before .before .args .s) (c .before .before .pre .0))
 
 returns : tie.Need-returns
-unfolding index
-returns c = (add-one _, omega (arith, known (c .before .before .before .before .before), c .before .before .before .before .before .pre .0 .n-most))
+returns c =
+    let start = c .before .before in (
+      omega (arith, c .before .first-entry .ensures .0, vertices-run (start .args .s) (start .args .t .0) (start .args .a .0) (start .args .v .0)),
+      omega (arith, c .before .first-entry .ensures .1, start .pre .1 .2, variables-most (start .args .s) (start .pre .0)),
+    )
 
 pub variable-of-spec : {M : Type 1} → statement M
-variable-of-spec = tie.close (tie.spec mul-t5 add-t6 mul-t7 add-t8 add-t9 returns)
+variable-of-spec = tie.close (tie.spec first-entry-requires add-t6 add-t7 returns)

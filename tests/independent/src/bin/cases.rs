@@ -372,7 +372,7 @@ impl Cases {
     /// The valuation of a passing plan, whole and damaged.
     fn valuations(&mut self, given: &Given, plan: &[u8]) {
         let (n, k, length) = (given.n(), given.k(), plan.len());
-        let entries = plain::valuation(n, plan);
+        let entries = plain::valuation(n, k, plan);
         let count = entries.len();
         for lent in [length, length + 1, length - 1] {
             self.decoder(given, &entries, lent);
@@ -381,12 +381,13 @@ impl Cases {
         let at = self.random.below(count);
         damaged[at] = -damaged[at];
         self.decoder(given, &damaged, length);
-        // A true entry is false, and another one of its row is true.
-        let (row, v) = (self.random.below(length), self.random.below(n));
+        // A true entry is false, and another one of its time and agent is true.
+        let (at, v) = (self.random.below(length), self.random.below(n));
         let mut damaged = entries.clone();
-        let (out, into) = (row * n + usize::from(plan[row]), row * n + v);
-        damaged[out] = -(out as i32 + 1);
-        damaged[into] = into as i32 + 1;
+        let x = |v: usize| plain::variable(n, given.m as usize, at / k, at % k, v);
+        let (out, into) = (x(plan[at].into()), x(v));
+        damaged[out as usize - 1] = -out;
+        damaged[into as usize - 1] = into;
         self.decoder(given, &damaged, length + 2);
         // Two agents exchanged in one row, or in all.
         let (a, b) = (self.random.below(k), self.random.below(k));
@@ -396,13 +397,13 @@ impl Cases {
             for t in rows {
                 other.swap(t * k + a, t * k + b);
             }
-            self.decoder(given, &plain::valuation(n, &other), length);
+            self.decoder(given, &plain::valuation(n, k, &other), length);
         }
         // One row repeated.
         let from = self.random.below(length / k);
         let mut other = plan.to_vec();
         other.copy_within(from * k..(from + 1) * k, t * k);
-        self.decoder(given, &plain::valuation(n, &other), length);
+        self.decoder(given, &plain::valuation(n, k, &other), length);
         // An entry out of place, two of them exchanged, an extreme number.
         let (at, from) = (self.random.below(count), self.random.below(count));
         let mut damaged = entries.clone();
@@ -517,13 +518,46 @@ impl Cases {
         // There is no clause 8; 12 fails because an empty slice fits none.
         self.two(CLAUSE, &pair(1), 8, &[], 0, [(11, 8), (12, 2)]);
 
-        let valuations: [(Given, &[i32], usize, [Item; 2]); 8] = [
+        let staying = |m: u64| given(2, &[], &[0, 1], &[0, 1], m);
+        let valuations: [(Given, &[i32], usize, [Item; 2]); 12] = [
             (pair(33), &[1, -2], 34, [(10, 0), (14, 2)]),
             (pair(1), &[1, -2, -3], 1, [(14, 3), (15, 2)]),
             (pair(1), &[1, -2, 4, -3], 1, [(15, 2), (23, 2)]),
             (pair(1), &[-1, -2, -3, 5], 2, [(23, 3), (24, 0)]),
             (pair(1), &[1, -3, -2, 4], 2, [(23, 1), (23, 2)]),
+            // The lower index is agent 0's at time 1, the higher one agent 1's at time 0.
+            (
+                staying(1),
+                &[1, -2, 3, -5, -4, 6, -7, 8],
+                4,
+                [(23, 3), (23, 4)],
+            ),
             (pair(1), &[-1, -2, -3, -4], 2, [(24, 0), (24, 1)]),
+            // The lower clause is agent 1's; the other one is agent 0's, one time later and with lower variables. They are
+            // nowhere, against C, at both vertices, against D, and jump, against F.
+            (
+                staying(3),
+                &[
+                    1, -2, 3, -4, -5, -6, 7, -8, -9, 10, -11, -12, -13, 14, -15, 16,
+                ],
+                8,
+                [(24, 7), (24, 8)],
+            ),
+            (
+                staying(1),
+                &[1, -2, 3, 4, 5, 6, -7, 8],
+                4,
+                [(24, 9), (24, 10)],
+            ),
+            (
+                given(4, &[], &[0, 1], &[2, 3], 2),
+                &[
+                    1, -2, -3, -4, 5, -6, -7, -8, -9, -10, 11, -12, -13, 14, -15, -16, -17, -18,
+                    -19, 20, -21, -22, -23, 24,
+                ],
+                6,
+                [(24, 63), (24, 66)],
+            ),
             // Two agents change places: against G, and without the edge against F too.
             (
                 given(2, &[(0, 1)], &[0, 1], &[1, 0], 1),
@@ -798,7 +832,7 @@ impl Cases {
         };
         self.both(&given, &plan);
         self.floor(&given);
-        let entries = plain::valuation(n, &plan);
+        let entries = plain::valuation(n, k, &plan);
         self.decoder(&given, &entries, plan.len());
     }
 
@@ -1010,7 +1044,7 @@ impl Cases {
         self.encoder(&given, &plan, ENTRIES);
         self.encoder(&given, &plan, ENTRIES + 1);
         if decoder {
-            self.decoder(&given, &plain::valuation(64, &plan), 528);
+            self.decoder(&given, &plain::valuation(64, 16, &plan), 528);
         }
     }
 
@@ -1029,7 +1063,7 @@ impl Cases {
         } else {
             self.encoder(given, &plan, given.variables());
         }
-        self.decoder(given, &plain::valuation(n, &plan), plan.len());
+        self.decoder(given, &plain::valuation(n, k, &plan), plan.len());
     }
 
     /// The size and the pruned formula of one small instance, and the floor, which

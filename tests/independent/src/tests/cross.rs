@@ -23,7 +23,7 @@ fn compare_formula(instance: &[u8], m: u64, clauses: &[Vec<i32>]) {
 
 /// The decoder on a valuation against the table; tells whether it accepted.
 fn compare_decoder(instance: &[u8], m: u64, clauses: &[Vec<i32>], entries: &[i32]) -> bool {
-    let n = usize::from(instance[0]);
+    let [n, k] = [0, 1].map(|size| usize::from(instance[size]));
     let length = entries.len() / n;
     let mut buffer = [7; 16 * 33 + 1];
     let plan = &mut buffer[..length + 1];
@@ -37,7 +37,7 @@ fn compare_decoder(instance: &[u8], m: u64, clauses: &[Vec<i32>], entries: &[i32
         None => {
             assert_eq!(answer, says(0, length as u64));
             assert_eq!(plan[length], 7);
-            assert_eq!(plain::valuation(n, &plan[..length]), entries);
+            assert_eq!(plain::valuation(n, k, &plan[..length]), entries);
             assert!(plain::passes(instance, m, &plan[..length]));
             true
         }
@@ -46,7 +46,7 @@ fn compare_decoder(instance: &[u8], m: u64, clauses: &[Vec<i32>], entries: &[i32
 
 /// Plan check and encoder against the plain meaning; tells whether they accepted.
 fn compare_plan(instance: &[u8], m: u64, plan: &[u8]) -> bool {
-    let (n, k) = (usize::from(instance[0]), u64::from(instance[1]));
+    let [n, k] = [0, 1].map(|size| usize::from(instance[size]));
     let count = n * plan.len();
     let mut entries = vec![7; count + 1];
     let answer = check_plan(instance, m, plan);
@@ -55,9 +55,9 @@ fn compare_plan(instance: &[u8], m: u64, plan: &[u8]) -> bool {
     if passes {
         let cost = plain::cost(instance, m, plan) as u64;
         assert_eq!(answer, says(0, cost), "{plan:?}");
-        assert!(cost <= m * k);
+        assert!(cost <= m * k as u64);
         assert_eq!(encoded, says(0, count as u64));
-        assert_eq!(entries[..count], plain::valuation(n, plan));
+        assert_eq!(entries[..count], plain::valuation(n, k, plan));
         assert_eq!(entries[count], 7);
     } else {
         assert!(matches!(answer.number, 17..=22 | 25 | 26));
@@ -134,7 +134,7 @@ fn all_small_plans() {
                 for end in &ends {
                     let plan = [&starts[..given], end].concat();
                     let passes = compare_plan(&instance, m as u64, &plan);
-                    let entries = plain::valuation(n, &plan);
+                    let entries = plain::valuation(n, k, &plan);
                     let decoded = compare_decoder(&instance, m as u64, &clauses, &entries);
                     assert_eq!(passes, decoded);
                     passing += usize::from(passes);
@@ -243,14 +243,15 @@ fn random_walks() {
         let m = m as u64;
         let clauses = plain::clauses(&instance, m);
         assert!(compare_plan(&instance, m, &plan));
-        let entries = plain::valuation(n, &plan);
+        let entries = plain::valuation(n, k, &plan);
         assert!(compare_decoder(&instance, m, &clauses, &entries));
         for _ in 0..20 {
             // A damaged plan, both as bytes and as a valuation.
             let mut damaged = plan.clone();
             let index = random.damage(&mut damaged).unwrap();
             let passes = compare_plan(&instance, m, &damaged);
-            let decoded = compare_decoder(&instance, m, &clauses, &plain::valuation(n, &damaged));
+            let decoded = plain::valuation(n, k, &damaged);
+            let decoded = compare_decoder(&instance, m, &clauses, &decoded);
             // A byte that is no vertex becomes an agent nowhere.
             assert_eq!(passes, decoded);
             assert_ne!(damaged[index], plan[index]);
@@ -317,7 +318,7 @@ fn largest_valuations() {
     let (instance, plan) = random.walk(64, 16, 10, 32);
     let clauses = plain::clauses(&instance, 32);
     assert!(compare_plan(&instance, 32, &plan));
-    let entries = plain::valuation(64, &plan);
+    let entries = plain::valuation(64, 16, &plan);
     assert!(compare_decoder(&instance, 32, &clauses, &entries));
     for _ in 0..10 {
         let mut flipped = entries.clone();
@@ -328,7 +329,8 @@ fn largest_valuations() {
         let byte = random.below(damaged.len());
         damaged[byte] = (damaged[byte] + 1) % 64;
         let passes = compare_plan(&instance, 32, &damaged);
-        let decoded = compare_decoder(&instance, 32, &clauses, &plain::valuation(64, &damaged));
+        let decoded = plain::valuation(64, 16, &damaged);
+        let decoded = compare_decoder(&instance, 32, &clauses, &decoded);
         assert_eq!(passes, decoded);
     }
 }

@@ -232,7 +232,7 @@ fn random_walks_keep_to_floor_and_family_h() {
         let answer = compare_floor(&instance);
         assert!(answer.number == 0 && answer.second <= m as u64);
         at_floor += usize::from(answer.second == m as u64);
-        let entries = plain::valuation(n, &plan);
+        let entries = plain::valuation(n, k, &plan);
         let family_h = plain::family_h(&instance, m as u64);
         assert!(plain::satisfies(&family_h, &entries));
     }

@@ -1,6 +1,7 @@
 mod cross;
 mod examples;
 mod floors;
+mod numbering;
 mod questions;
 mod reader;
 mod sizes;

@@ -137,8 +137,8 @@ fn questions_11_and_12() {
     );
     assert_eq!(words, [7; 66]);
     assert_eq!(clause(&largest, 32, first_f, &mut words), says(0, 66));
-    assert_eq!(words[..3], [-1, 1025, 1026]);
-    assert_eq!(words[64..], [1088, 0]);
+    assert_eq!(words[..3], [-1, 65, 66]);
+    assert_eq!(words[64..], [128, 0]);
 }
 
 #[test]
@@ -168,6 +168,10 @@ fn questions_14_and_15() {
     // 23 is asked of all entries before 24.
     assert_eq!(decode(&PAIR, 1, &[-1, -2, -3, 5], &mut plan), says(23, 3));
     assert_eq!(plan, [7; 2]);
+    // The lowest index, though it is of a later time: X(1,0,1) and X(0,1,0) are 4 and 5.
+    let apart = instance_bytes(2, &[], &[0, 1], &[0, 1]);
+    let exchanged = [1, -2, 3, -5, -4, 6, -7, 8];
+    assert_eq!(decode(&apart, 1, &exchanged, &mut [7; 4]), says(23, 3));
 }
 
 /// The answer of the plan check, after seeing that the encoder refuses alike.
@@ -369,7 +373,7 @@ fn question_22() {
 fn question_24_in_each_family() {
     // Pair's edge, agents stay on 0 and 1, m 1: 24 clauses; A 0, B 2, C 4, D 8, E 12, F 16, G 20.
     let instance = instance_bytes(2, &[(0, 1)], &[0, 1], &[0, 1]);
-    // Variables: X(0,0,·) 1 2, X(0,1,·) 3 4, X(1,0,·) 5 6, X(1,1,·) 7 8.
+    // Variables: X(0,0,·) 1 2, X(1,0,·) 3 4, X(0,1,·) 5 6, X(1,1,·) 7 8.
     let answer = |entries: [i32; 8]| {
         let mut plan = [7; 4];
         let answer = decode(&instance, 1, &entries, &mut plan);
@@ -383,20 +387,23 @@ fn question_24_in_each_family() {
         );
         answer
     };
-    assert_eq!(answer([1, -2, -3, 4, 5, -6, -7, 8]), says(0, 4));
-    assert_eq!(answer([-1, 2, -3, 4, 5, -6, -7, 8]), says(24, 0));
+    assert_eq!(answer([1, -2, 3, -4, -5, 6, -7, 8]), says(0, 4));
+    assert_eq!(answer([-1, 2, 3, -4, -5, 6, -7, 8]), says(24, 0));
     assert_eq!(answer([1, -2, 3, -4, 5, -6, -7, 8]), says(24, 1));
     assert_eq!(answer([1, -2, -3, 4, -5, 6, -7, 8]), says(24, 2));
-    assert_eq!(answer([1, -2, -3, 4, 5, -6, 7, -8]), says(24, 3));
-    assert_eq!(answer([1, 2, -3, 4, 5, -6, -7, 8]), says(24, 8));
-    assert_eq!(answer([1, -2, -3, 4, 5, 6, -7, 8]), says(24, 10));
+    assert_eq!(answer([1, -2, 3, -4, -5, 6, 7, -8]), says(24, 3));
+    assert_eq!(answer([1, 2, 3, -4, -5, 6, -7, 8]), says(24, 8));
+    assert_eq!(answer([1, -2, 3, -4, 5, 6, -7, 8]), says(24, 9));
+    assert_eq!(answer([1, -2, 3, 4, -5, 6, -7, 8]), says(24, 10));
+    // Clauses go by time first: agent 1 at time 0 is named, though agent 0 at time 1 has lower variables.
+    assert_eq!(answer([1, -2, 3, 4, 5, 6, -7, 8]), says(24, 9));
 
     // The same goals at m 2, with an agent nowhere at time 1: C 4 to 9.
     let mut plan = [7; 6];
-    let nowhere = [1, -2, -3, 4, -5, -6, -7, 8, 9, -10, -11, 12];
+    let nowhere = [1, -2, -3, -4, 5, -6, -7, 8, -9, 10, -11, 12];
     assert_eq!(decode(&instance, 2, &nowhere, &mut plan), says(24, 6));
     // Both on vertex 1 at time 1: E begins at 16; t 1, v 1 is its fourth.
-    let sharing = [1, -2, -3, 4, -5, 6, -7, 8, 9, -10, -11, 12];
+    let sharing = [1, -2, -3, 4, 5, -6, -7, 8, -9, 10, -11, 12];
     assert_eq!(decode(&instance, 2, &sharing, &mut plan), says(24, 19));
 
     // The swap is refused by G: it begins at 20, and agent 0 enters vertex 1.
@@ -481,7 +488,7 @@ fn calls_answer_the_first_no() {
         let percent = random.below(101);
         let (mut instance, mut plan) = random.walk(n, k, percent, m);
         let mut horizon = m as u64;
-        let mut entries = plain::valuation(n, &plan);
+        let mut entries = plain::valuation(n, k, &plan);
         if random.chance(20) {
             // Goals that may be out of reach.
             let goals = random.vertices(n, k);

@@ -145,7 +145,7 @@ pub fn compare_calls(cases: usize) -> usize {
         .number;
         hits[4][number as usize] += 1;
 
-        let entries = valuation(case.parts.n, &case.plan);
+        let entries = valuation(case.parts.n, case.parts.k(), &case.plan);
         let text = some_text(&mut g, &entries);
         let lent = vec![7; some_length(&mut g, entries.len())];
         hits[5][compare_readers(instance, m, &text, &lent)] += 2;

@@ -21,40 +21,42 @@ fn give(instance: &Instance, number: u64, words: &mut [i32]) -> Result<usize, An
         index -= counts[family];
         family += 1;
     }
-    // Row t·k + a is agent a at time t.
-    let x = |row: usize, v: usize| (1 + row * n + v) as i32;
+    let x = |t: usize, a: usize, v: usize| (1 + instance.before(t, a) + v) as i32;
     match family {
-        0 => put(words, &[x(index, instance.starts[index].into())]),
+        0 => put(words, &[x(0, index, instance.starts[index].into())]),
         1 => {
-            let row = instance.m * k + index;
-            put(words, &[x(row, instance.goals[index].into())])
+            let goal = instance.goals[index].into();
+            put(words, &[x(instance.m, index, goal)])
         }
         2 => {
+            let (t, a) = (index / k, index % k);
             let clause = lent(words, n + 1)?;
-            (0..n).for_each(|v| clause[v] = x(index, v));
+            (0..n).for_each(|v| clause[v] = x(t, a, v));
             clause[n] = 0;
             Ok(n + 1)
         }
         3 => {
             let pairs = n * (n - 1) / 2;
-            let (row, (v, w)) = (index / pairs, pair(index % pairs, n));
-            put(words, &[-x(row, v), -x(row, w)])
+            let (block, (v, w)) = (index / pairs, pair(index % pairs, n));
+            let (t, a) = (block / k, block % k);
+            put(words, &[-x(t, a, v), -x(t, a, w)])
         }
         4 => {
             let pairs = k * (k - 1) / 2;
             let (block, (a, b)) = (index / pairs, pair(index % pairs, k));
             let (t, v) = (block / n, block % n);
-            put(words, &[-x(t * k + a, v), -x(t * k + b, v)])
+            put(words, &[-x(t, a, v), -x(t, b, v)])
         }
         5 => {
-            let (row, v) = (index / n, index % n);
+            let (block, v) = (index / n, index % n);
+            let (t, a) = (block / k, block % k);
             let mut near = neighbours(instance, v as u8);
             let length = near.count_ones() as usize + 3;
             let clause = lent(words, length)?;
-            clause[0] = -x(row, v);
-            clause[1] = x(row + k, v);
+            clause[0] = -x(t, a, v);
+            clause[1] = x(t + 1, a, v);
             for word in &mut clause[2..length - 1] {
-                *word = x(row + k, near.trailing_zeros() as usize);
+                *word = x(t + 1, a, near.trailing_zeros() as usize);
                 near &= near - 1;
             }
             clause[length - 1] = 0;
@@ -65,7 +67,7 @@ fn give(instance: &Instance, number: u64, words: &mut [i32]) -> Result<usize, An
             let (row, other) = (block / (k - 1), block % (k - 1));
             let (t, a) = (row / k, row % k);
             let b = other + usize::from(other >= a);
-            put(words, &[-x(t * k + b, v), -x(row + k, v)])
+            put(words, &[-x(t, b, v), -x(t + 1, a, v)])
         }
     }
 }

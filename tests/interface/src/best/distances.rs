@@ -178,19 +178,21 @@ impl RuledOut {
     }
 
     /// Family H, for which the part has just the words.
-    pub fn write(&self, n: usize, part: &mut [i32]) {
+    pub fn write(&self, instance: &Instance, part: &mut [i32]) {
         let (clauses, _) = part.as_chunks_mut::<2>();
         let mut clauses = clauses.iter_mut();
-        let mut first = 1;
-        for &word in &self.words[..self.rows] {
-            let mut word = word;
-            while word != 0 {
-                if let Some(clause) = clauses.next() {
-                    *clause = [-(first + word.trailing_zeros() as i32), 0];
+        for (t, row) in self.words[..self.rows].chunks_exact(instance.k).enumerate() {
+            let mut first = 1 + instance.before(t, 0) as i32;
+            for &word in row {
+                let mut word = word;
+                while word != 0 {
+                    if let Some(clause) = clauses.next() {
+                        *clause = [-(first + word.trailing_zeros() as i32), 0];
+                    }
+                    word &= word - 1;
                 }
-                word &= word - 1;
+                first += instance.before(0, 1) as i32;
             }
-            first += n as i32;
         }
     }
 }

@@ -111,7 +111,7 @@ fn write_with_h(instance: &Instance, words: &mut [i32], fill: Fill) -> Result<()
     }
     let (formula, family_h) = words[..needed].split_at_mut(first);
     fill(instance, parts(formula, lengths));
-    ruled_out.write(instance.n, family_h);
+    ruled_out.write(instance, family_h);
     Ok(())
 }
 
@@ -141,38 +141,48 @@ fn parts(words: &mut [i32], lengths: [usize; 7]) -> [&mut [i32]; 7] {
     })
 }
 
-/// The families, each block but the first as the one before moved up.
+/// The families, each block but the first as the one before with its variables moved.
 fn fill(instance: &Instance, parts: [&mut [i32]; 7]) {
     let (n, k, m) = (instance.n, instance.k, instance.m);
-    // C, D and F have a block for each row, E and G for each time.
     let [a, b, c, d, e, f, g] = parts;
-    write_ends(n, 0, instance.starts, a);
-    write_ends(n, m * k, instance.goals, b);
-    write_blocks(c, instance.rows(), n, |block| write_c(n, block));
-    write_blocks(d, instance.rows(), n, |block| write_d(n, block));
-    write_blocks(e, m + 1, k * n, |block| write_e(n, k, block));
-    write_blocks(f, m * k, n, |block| write_f(instance, block));
-    write_blocks(g, m, k * n, |block| write_g(n, k, block));
+    write_ends(instance, 0, instance.starts, a);
+    write_ends(instance, m, instance.goals, b);
+    // C, D and F have a block for each time and agent, E and G for each time.
+    write_blocks(instance, c, m + 1, k, |block| write_c(n, block));
+    write_blocks(instance, d, m + 1, k, |block| write_d(n, block));
+    write_blocks(instance, e, m + 1, 1, |block| write_e(instance, block));
+    write_blocks(instance, f, m, k, |block| write_f(instance, block));
+    write_blocks(instance, g, m, 1, |block| write_g(instance, block));
 }
 
-/// Families A and B: one vertex in each row from `row` on. Row t·k + a is agent a at time t.
-pub fn write_ends(n: usize, row: usize, vertices: &[u8], part: &mut [i32]) {
-    for (row, (clause, &v)) in (row..).zip(part.chunks_exact_mut(2).zip(vertices)) {
-        clause.copy_from_slice(&[(1 + row * n) as i32 + i32::from(v), 0]);
+/// Families A and B: the agents' vertices at time t.
+pub fn write_ends(instance: &Instance, t: usize, vertices: &[u8], part: &mut [i32]) {
+    for (a, (clause, &v)) in part.chunks_exact_mut(2).zip(vertices).enumerate() {
+        clause.copy_from_slice(&[(1 + instance.before(t, a)) as i32 + i32::from(v), 0]);
     }
 }
 
-/// Writes the first of `count` blocks, and each later one as the block before with its variables `up` higher, which the
-/// compiler does for several words at once.
-fn write_blocks(part: &mut [i32], count: usize, up: usize, write: impl FnOnce(&mut [i32])) {
+/// Writes the first block, and each later one as the block before with its variables moved, which the compiler does for
+/// several words at once. Each time has so many blocks, for one agent after the other.
+fn write_blocks(
+    instance: &Instance,
+    part: &mut [i32],
+    times: usize,
+    blocks: usize,
+    write: impl FnOnce(&mut [i32]),
+) {
     if part.is_empty() {
         return;
     }
-    let up = up as i32;
-    let length = part.len() / count;
+    let length = part.len() / (times * blocks);
+    let next_agent = instance.before(0, 1) as i32;
+    let next_time = instance.before(1, 0) as i32 - instance.before(0, blocks - 1) as i32;
+    let mut agent = 0;
     let (mut before, mut rest) = part.split_at_mut(length);
     write(before);
     while !rest.is_empty() {
+        agent = if agent + 1 < blocks { agent + 1 } else { 0 };
+        let up = if agent > 0 { next_agent } else { next_time };
         let (block, after) = rest.split_at_mut(length);
         for (word, &earlier) in block.iter_mut().zip(&*before) {
             *word = earlier + up * i32::from(earlier > 0) - up * i32::from(earlier < 0);
@@ -200,12 +210,13 @@ fn write_d(n: usize, mut block: &mut [i32]) {
     }
 }
 
-fn write_e(n: usize, k: usize, block: &mut [i32]) {
+fn write_e(instance: &Instance, block: &mut [i32]) {
     let mut clauses = block.chunks_exact_mut(3);
-    for v in 1..=n {
-        for a in 0..k {
-            for (b, clause) in (a + 1..k).zip(&mut clauses) {
-                clause.copy_from_slice(&[-((a * n + v) as i32), -((b * n + v) as i32), 0]);
+    for v in 1..=instance.n {
+        for a in 0..instance.k {
+            for (b, clause) in (a + 1..instance.k).zip(&mut clauses) {
+                let [x, y] = [a, b].map(|a| (instance.before(0, a) + v) as i32);
+                clause.copy_from_slice(&[-x, -y, 0]);
             }
         }
     }
@@ -213,7 +224,7 @@ fn write_e(n: usize, k: usize, block: &mut [i32]) {
 
 fn write_f(instance: &Instance, block: &mut [i32]) {
     let mut words = block.iter_mut();
-    let up = (instance.k * instance.n) as i32;
+    let up = instance.before(1, 0) as i32;
     let near = &instance.neighbours()[..instance.n];
     for (v, mut near) in (1..).zip(near.iter().copied()) {
         let mut put = |word| words.next().map(|place| *place = word);
@@ -227,12 +238,14 @@ fn write_f(instance: &Instance, block: &mut [i32]) {
     }
 }
 
-fn write_g(n: usize, k: usize, block: &mut [i32]) {
+fn write_g(instance: &Instance, block: &mut [i32]) {
     let mut clauses = block.chunks_exact_mut(3);
-    for a in 0..k {
-        for b in (0..k).filter(|&b| b != a) {
-            for (v, clause) in (1..=n).zip(&mut clauses) {
-                clause.copy_from_slice(&[-((b * n + v) as i32), -(((k + a) * n + v) as i32), 0]);
+    for a in 0..instance.k {
+        let next = instance.before(1, a) as i32;
+        for b in (0..instance.k).filter(|&b| b != a) {
+            let here = instance.before(0, b) as i32;
+            for (v, clause) in (1..=instance.n as i32).zip(&mut clauses) {
+                clause.copy_from_slice(&[-(here + v), -(next + v), 0]);
             }
         }
     }

@@ -69,6 +69,11 @@ impl<'a> Instance<'a> {
         (self.m + 1) * self.k
     }
 
+    /// How many variables stand before those of agent a at time t: X(t,a,v) is 1 + v more.
+    pub fn before(&self, t: usize, a: usize) -> usize {
+        (a * (self.m + 1) + t) * self.n
+    }
+
     /// Clause counts of the families A to G.
     pub fn clause_counts(&self) -> [usize; 7] {
         let (n, k, m) = (self.n, self.k, self.m);
@@ -84,6 +89,7 @@ impl<'a> Instance<'a> {
     }
 
     /// Bit w of word v says that an edge joins v and w.
+    #[inline(always)]
     pub fn neighbours(&self) -> [u64; 64] {
         if self.low.len() >= MANY {
             return neighbours_of_many(self.low, self.high);

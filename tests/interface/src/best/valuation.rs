@@ -23,7 +23,7 @@ fn decoded(instance: &Instance, entries: &[i32], plan: &mut [u8]) -> Result<usiz
     }
     let mut places = [0; 33 * 16];
     let places = &mut places[..rows];
-    let single = read_places(instance.n, entries, places);
+    let single = read_places(instance, entries, places);
     let wrong = |(&entry, variable): (&i32, i32)| entry != variable && entry != -variable;
     if !single {
         if let Some(i) = entries.iter().zip(1..).position(wrong) {
@@ -37,20 +37,28 @@ fn decoded(instance: &Instance, entries: &[i32], plan: &mut [u8]) -> Result<usiz
     Ok(rows)
 }
 
-/// The vertex of each time and agent, in one pass; false unless each has one variable and else negatives.
-fn read_places(n: usize, entries: &[i32], places: &mut [u8]) -> bool {
+/// The vertex of each time and agent, in one pass over the entries; false unless each has one variable and else
+/// negatives.
+fn read_places(instance: &Instance, entries: &[i32], places: &mut [u8]) -> bool {
+    let (n, k) = (instance.n, instance.k);
     let mut single = true;
     let mut first = 1;
-    for (row, place) in entries.chunks_exact(n).zip(places) {
-        // How many are not their variables' negatives, times 65536, and the sum of their vertices.
-        let mut others = 0;
-        for (&entry, v) in row.iter().zip(0..) {
-            others += if entry == -(first + v) { 0 } else { 65536 + v };
+    let mut rows = entries.chunks_exact(n);
+    for a in 0..k {
+        let mut at = a;
+        while at < places.len() {
+            let Some(row) = rows.next() else { break };
+            // How many are not their variables' negatives, times 65536, and the sum of their vertices.
+            let mut others = 0;
+            for (&entry, v) in row.iter().zip(0..) {
+                others += if entry == -(first + v) { 0 } else { 65536 + v };
+            }
+            let v = others & 63;
+            single &= others == 65536 + v && row[v as usize] == first + v;
+            places[at] = v as u8;
+            at += k;
+            first += n as i32;
         }
-        let v = others & 63;
-        single &= others == 65536 + v && row[v as usize] == first + v;
-        *place = v as u8;
-        first += n as i32;
     }
     single
 }
@@ -58,15 +66,15 @@ fn read_places(n: usize, entries: &[i32], places: &mut [u8]) -> bool {
 /// The lowest clause without a true literal, under a valuation. Where each time and agent has a single vertex, these
 /// are the places, and C and D hold.
 fn first_false(instance: &Instance, entries: &[i32], single: bool, places: &[u8]) -> Option<usize> {
-    let (n, k) = (instance.n, instance.k);
-    let absent = |(row, &v): (&[i32], &u8)| row[usize::from(v)] < 0;
-    let (first, last) = (entries, &entries[instance.m * k * n..]);
-    let mut starts = first.chunks_exact(n).zip(instance.starts);
-    let mut goals = last.chunks_exact(n).zip(instance.goals);
-    if let Some(a) = starts.position(absent) {
+    let k = instance.k;
+    let first_absent = |t: usize, vertices: &[u8]| {
+        let entry = |a: usize| entries[instance.before(t, a) + usize::from(vertices[a])];
+        (0..k).find(|&a| entry(a) < 0)
+    };
+    if let Some(a) = first_absent(0, instance.starts) {
         return Some(a);
     }
-    if let Some(a) = goals.position(absent) {
+    if let Some(a) = first_absent(instance.m, instance.goals) {
         return Some(k + a);
     }
     if single {
@@ -77,29 +85,36 @@ fn first_false(instance: &Instance, entries: &[i32], single: bool, places: &[u8]
 }
 
 /// The lowest such clause of C and D.
+#[cold]
 fn first_false_row(instance: &Instance, entries: &[i32]) -> Option<usize> {
-    let rows = || entries.chunks_exact(instance.n);
-    let from = 2 * instance.k;
+    let (n, k) = (instance.n, instance.k);
+    let row = |row: usize| &entries[instance.before(row / k, row % k)..][..n];
+    let rows = || (0..instance.rows()).map(row);
+    let from = 2 * k;
     if let Some(row) = rows().position(|row| row.iter().all(|&entry| entry < 0)) {
         return Some(from + row);
     }
-    let several = |row: &[i32]| first_pair(instance.n, |v| row[v] > 0);
+    let several = |row: &[i32]| first_pair(n, |v| row[v] > 0);
     let (row, pair) = first_in(rows(), several)?;
-    Some(from + instance.rows() + row * pairs(instance.n) + pair)
+    Some(from + instance.rows() + row * pairs(n) + pair)
 }
 
 /// The lowest such clause of E, F and G. They hold where every step obeys the three conditions.
 fn first_false_step(instance: &Instance, places: &[u8]) -> Option<usize> {
-    let (n, k) = (instance.n, instance.k);
+    let k = instance.k;
     let near = instance.neighbours();
-    let steps = || places.chunks_exact(k).zip(places[k..].chunks_exact(k));
+    let mut steps = places.chunks_exact(k).zip(places[k..].chunks_exact(k));
     let start = mask(&places[..k]);
-    if steps()
-        .try_fold(start, |stood, (row, next)| step(&near, stood, row, next))
-        .is_some()
-    {
-        return None;
+    let last = steps.try_fold(start, |stood, (row, next)| step(&near, stood, row, next));
+    match last {
+        Some(_) => None,
+        None => find_false_step(instance, &near, places),
     }
+}
+
+#[cold]
+fn find_false_step(instance: &Instance, near: &[u64; 64], places: &[u8]) -> Option<usize> {
+    let (n, k) = (instance.n, instance.k);
     let counts = instance.clause_counts();
     let mut from: usize = counts[..4].iter().sum();
     let shared = |row: &[u8]| first_in(0..n, |v| first_pair(k, |a| usize::from(row[a]) == v));
@@ -108,14 +123,15 @@ fn first_false_step(instance: &Instance, places: &[u8]) -> Option<usize> {
     }
     from += counts[4];
     let mut moves = places.iter().zip(&places[k..]);
-    if let Some(row) = moves.position(|(&v, &w)| jumps(&near, v, w)) {
+    if let Some(row) = moves.position(|(&v, &w)| jumps(near, v, w)) {
         return Some(from + row * n + usize::from(places[row]));
     }
     from += counts[5];
     let entered = |(row, next): (&[u8], &[u8])| {
         first_in(0..k, |a| (0..k).position(|b| b != a && row[b] == next[a]))
     };
-    let (t, (a, b)) = first_in(steps(), entered)?;
+    let steps = places.chunks_exact(k).zip(places[k..].chunks_exact(k));
+    let (t, (a, b)) = first_in(steps, entered)?;
     let other = if b < a { b } else { b - 1 };
     let v = usize::from(places[(t + 1) * k + a]);
     Some(from + ((t * k + a) * (k - 1) + other) * n + v)
@@ -149,13 +165,21 @@ fn encoded(instance: &Instance, plan: &[u8], entries: &mut [i32]) -> Result<usiz
         return refuse(16, count);
     }
     check_rows(instance, plan)?;
+    let (n, k) = (instance.n, instance.k);
     let mut first = 1;
-    for (row, &v) in entries.chunks_exact_mut(instance.n).zip(plan) {
-        for (entry, v) in row.iter_mut().zip(0..) {
-            *entry = -(first + v);
+    let mut rows = entries.chunks_exact_mut(n);
+    for a in 0..k {
+        let mut at = a;
+        while at < plan.len() {
+            let Some(row) = rows.next() else { break };
+            for (entry, v) in row.iter_mut().zip(0..) {
+                *entry = -(first + v);
+            }
+            let v = plan[at];
+            row[usize::from(v)] = first + i32::from(v);
+            at += k;
+            first += n as i32;
         }
-        row[usize::from(v)] = first + i32::from(v);
-        first += instance.n as i32;
     }
     Ok(count)
 }

@@ -96,6 +96,14 @@ struct Input {
     plan: Vec<u8>,
 }
 
+impl Input {
+    /// That of the plan.
+    fn valuation(&self) -> Vec<i32> {
+        let [n, k] = [0, 1].map(|size| usize::from(self.instance[size]));
+        valuation(n, k, &self.plan)
+    }
+}
+
 /// Nanoseconds of one call, over `repeat` calls.
 fn sample(repeat: u32, mut call: impl FnMut()) -> f64 {
     let clock = Instant::now();
@@ -358,7 +366,7 @@ fn exchanged(input: &Input) -> Vec<u8> {
 
 fn decoder(table: &mut Table, input: &Input) {
     let (instance, m) = (&input.instance[..], input.m);
-    let entries = valuation(usize::from(instance[0]), &input.plan);
+    let entries = input.valuation();
     let mut plan = vec![200; input.plan.len()];
     agree(&plan, |form, plan| {
         DECODERS[form](instance, m, &entries, plan)
@@ -386,7 +394,7 @@ fn encoder(table: &mut Table, input: &Input) {
 /// The reader, of v lines that keep to 78 columns. Of the largest instance also against a loop over bytes, with other
 /// texts of the same valuation, and with about half of it.
 fn reader(table: &mut Table, input: &Input) {
-    let entries = valuation(usize::from(input.instance[0]), &input.plan);
+    let entries = input.valuation();
     let [ours, best, independent, straight] = times_of_text(input, &output(&entries, 78));
     let row = [ours, best, independent];
     if input.name != "largest" {
@@ -413,8 +421,8 @@ fn reader(table: &mut Table, input: &Input) {
         m,
         plan: input.plan[..rows].to_vec(),
     };
-    let entries = valuation(usize::from(half.instance[0]), &half.plan);
-    let [ours, best, independent, _] = times_of_text(&half, &output(&entries, 78));
+    let text = output(&half.valuation(), 78);
+    let [ours, best, independent, _] = times_of_text(&half, &text);
     let note = format!("  the largest at horizon {m}");
     table.row("reader", &half, [ours, best, independent], None, &note);
 }

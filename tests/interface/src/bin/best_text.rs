@@ -93,25 +93,28 @@ fn print_clauses(instance: &Instance, printer: &mut Printer) -> io::Result<()> {
     let rows = instance.rows();
     let positives: Vec<Text> = (1..=rows * n).map(positive).collect();
     let negatives: Vec<Text> = positives.iter().map(negative).collect();
-    // X(t,a,v) and not X(t,a,v), by v, for the row t·k + a.
-    let x = |row: usize| &positives[row * n..][..n];
-    let not_x = |row: usize| &negatives[row * n..][..n];
+    // X(t,a,v) and not X(t,a,v), by v.
+    let x = |t: usize, a: usize| &positives[instance.before(t, a)..][..n];
+    let not_x = |t: usize, a: usize| &negatives[instance.before(t, a)..][..n];
+    // Row t·k + a is agent a at time t.
+    let of_row = |row: usize| (row / k, row % k);
 
-    for (first, vertices) in [(0, instance.starts), (m * k, instance.goals)] {
-        for (row, &v) in (first..).zip(vertices) {
+    for (t, vertices) in [(0, instance.starts), (m, instance.goals)] {
+        for (a, &v) in vertices.iter().enumerate() {
             printer.gather(|lines| {
-                lines.put(x(row)[usize::from(v)]);
+                lines.put(x(t, a)[usize::from(v)]);
                 lines.put(END);
             })?;
         }
     }
-    for row in 0..rows {
+    for (t, a) in (0..rows).map(of_row) {
         printer.gather(|lines| {
-            x(row).iter().for_each(|&text| lines.put(text));
+            x(t, a).iter().for_each(|&text| lines.put(text));
             lines.put(END);
         })?;
     }
-    for row in (0..rows).map(not_x) {
+    for (t, a) in (0..rows).map(of_row) {
+        let row = not_x(t, a);
         for (v, &first) in row.iter().enumerate() {
             printer.gather(|lines| {
                 let above = row[v + 1..].iter();
@@ -120,20 +123,19 @@ fn print_clauses(instance: &Instance, printer: &mut Printer) -> io::Result<()> {
         }
     }
     for t in 0..=m {
-        let agents = t * k..(t + 1) * k;
         for v in 0..n {
             printer.gather(|lines| {
-                for a in agents.clone() {
-                    let above = a + 1..agents.end;
-                    above.for_each(|b| lines.pair(not_x(a)[v], not_x(b)[v]));
+                for a in 0..k {
+                    let above = a + 1..k;
+                    above.for_each(|b| lines.pair(not_x(t, a)[v], not_x(t, b)[v]));
                 }
             })?;
         }
     }
     let neighbours = instance.neighbours();
-    for row in 0..m * k {
-        let next = x(row + k);
-        for (v, &first) in not_x(row).iter().enumerate() {
+    for (t, a) in (0..m * k).map(of_row) {
+        let next = x(t + 1, a);
+        for (v, &first) in not_x(t, a).iter().enumerate() {
             printer.gather(|lines| {
                 lines.put(first);
                 lines.put(next[v]);
@@ -149,7 +151,7 @@ fn print_clauses(instance: &Instance, printer: &mut Printer) -> io::Result<()> {
     for t in 0..m {
         for a in 0..k {
             for b in (0..k).filter(|&b| b != a) {
-                let pairs = not_x(t * k + b).iter().zip(not_x((t + 1) * k + a));
+                let pairs = not_x(t, b).iter().zip(not_x(t + 1, a));
                 printer.gather(|lines| {
                     pairs.for_each(|(&first, &second)| lines.pair(first, second));
                 })?;

@@ -1,7 +1,8 @@
 //! Compares the library with the independent program, through the C interface.
 //!
-//! compare [SEED [COUNT [FIRST]]]: texts, plans, maps and sizes with known answers, every pair of a block, every small
-//! instance, the largest one and COUNT random cases; with FIRST only COUNT random cases from that one on.
+//! compare [SEED [COUNT [FIRST]]]: texts, plans, maps and sizes with known answers, every pair of a block, two faults of a
+//! valuation at once, every small instance, the largest one and COUNT random cases; with FIRST only COUNT random cases
+//! from that one on.
 
 #![forbid(unsafe_code)]
 
@@ -712,19 +713,20 @@ impl Run {
         let edges = path_edges(n as u8);
         let ends: Vec<u8> = (0..n.min(2) as u8).collect();
         let instance = instance_bytes(n, &edges, &ends, &ends);
-        let last_row = ends.len() * (m + 1) - 1;
+        let blocks = [(0, 0), (m, ends.len() - 1)];
         let mut named = 0;
         // Other starts and goals leave family D and its numbers as they are.
         for (number, clause) in listed(&instance, m, 3) {
-            let [x, y] = indexes(&clause);
-            if ![0, last_row].contains(&(x / n)) {
+            let pair = variables(&clause);
+            let [(t, a, v), (_, _, w)] = pair.map(|x| plain::time_agent_vertex(n, m, x));
+            if !blocks.contains(&(t, a)) {
                 continue;
             }
-            let ends = [x, y].map(|i| (i % n) as u8);
+            let ends = [v as u8, w as u8];
             let instance = instance_bytes(n, &edges, &ends, &ends);
-            let mut entries = valuation(n, &ends.repeat(m + 1));
-            for i in [x, y] {
-                entries[i] = i as i32 + 1;
+            let mut entries = valuation(n, ends.len(), &ends.repeat(m + 1));
+            for x in pair {
+                entries[x as usize - 1] = x;
             }
             self.pair(&instance, m as u64, number, &clause, Some(&entries));
             named += 1;
@@ -741,21 +743,20 @@ impl Run {
         let instance = instance_bytes(n, &path_edges(n as u8), &ends, &ends);
         let [mut asked, mut named] = [0, 0];
         for (number, clause) in listed(&instance, m, 4) {
-            let [x, y] = indexes(&clause);
-            let (t, v) = (x / n / k, x % n);
-            let meet = [x, y].map(|i| i / n % k);
+            let pair = variables(&clause);
+            let [(t, a, v), (_, b, _)] = pair.map(|x| plain::time_agent_vertex(n, m, x));
             if !(v == 0 && t < m || v == n - 1 && t > 0) {
                 continue;
             }
             let entries = (t == 1).then(|| {
                 // The others are elsewhere, each by itself.
                 let mut elsewhere = (0..n as u8).filter(|&w| usize::from(w) != v);
-                let row = (0..k).map(|a| match meet.contains(&a) {
+                let row = (0..k).map(|agent| match [a, b].contains(&agent) {
                     true => v as u8,
                     false => elsewhere.next().expect("n is k or more"),
                 });
                 let row: Vec<u8> = row.collect();
-                valuation(n, &[&ends[..], &row, &ends].concat())
+                valuation(n, k, &[&ends[..], &row, &ends].concat())
             });
             self.pair(&instance, m as u64, number, &clause, entries.as_deref());
             asked += 1;
@@ -764,6 +765,45 @@ impl Run {
         assert_eq!(asked, 2 * k * (k - 1), "pairs in four blocks, k {k}");
         assert_eq!(named, k * (k - 1), "pairs in two blocks, k {k}");
         named
+    }
+
+    /// Two faults at once, of three agents at four times. Every two entries exchanged: 23 names the lower index, be its time
+    /// the earlier one or the later. Agents nowhere at two times: 24 names the clause of the earlier time, be its agent the
+    /// lower one or the higher.
+    fn two_faults(&mut self) {
+        self.part = "two faults";
+        self.case = 0;
+        let (n, k, m) = (3, 3, 3);
+        // Each agent stays at the vertex of its number.
+        let ends = [0, 1, 2];
+        let instance = instance_bytes(n, &[], &ends, &ends);
+        let right = valuation(n, k, &ends.repeat(m + 1));
+        let mut faults = Vec::new();
+        for j in 0..right.len() {
+            for i in 0..j {
+                let mut entries = right.clone();
+                entries.swap(i, j);
+                faults.push((entries, Said::new(23, i as u64, 0)));
+            }
+        }
+        // At times 0 and m families A and B are at fault first.
+        let between = k..k * m;
+        for second in between.clone() {
+            for first in between.start..second {
+                let mut entries = right.clone();
+                for at in [first, second] {
+                    let x = plain::variable(n, m, at / k, at % k, at % k);
+                    entries[x as usize - 1] = -x;
+                }
+                faults.push((entries, Said::new(24, (2 * k + first) as u64, 0)));
+            }
+        }
+        for (entries, expected) in faults {
+            self.case += 1;
+            self.before = 1 + self.case as usize % 16;
+            let (answer, _) = self.decode(&instance, m as u64, &entries, k * (m + 1));
+            assert_eq!(answer, expected);
+        }
     }
 
     /// A clause of two literals by its number, and entries for which it is the first without a true literal.
@@ -890,12 +930,13 @@ impl Run {
                 self.plan(&instance, horizon, plan, count);
                 // Only families E to G can be at fault.
                 if plan[m * k..] == *goals {
-                    self.entries(&instance, horizon, &valuation(n, plan), k * (m + 1));
+                    let entries = valuation(n, k, plan);
+                    self.entries(&instance, horizon, &entries, k * (m + 1));
                 }
             }
             // Texts for the last plan.
             let mut g = Generator::new(mix(self.seed, 3 * self.case + horizon));
-            let entries = valuation(n, &plans[plans.len() - 1]);
+            let entries = valuation(n, k, &plans[plans.len() - 1]);
             for length in [count, count, count, count + 1] {
                 let text = some_text(&mut g, &entries);
                 self.text(&instance, horizon, &text, length);
@@ -967,7 +1008,7 @@ impl Run {
             let entries = some_entries(g, &parts, m, &plan);
             self.entries(&instance, 32, &entries, 16 * 33 + g.below(3));
         }
-        self.longest(g, &instance, &valuation(64, &plan));
+        self.longest(g, &instance, &valuation(64, 16, &plan));
     }
 
     /// Texts of the largest instance, and of the greatest length.
@@ -1134,7 +1175,7 @@ impl Run {
         }
         let entries = some_entries(g, &parts, m, &plan);
         self.entries(&instance, horizon, &entries, k * (m + 1));
-        let entries = valuation(n, &plan);
+        let entries = valuation(n, k, &plan);
         for _ in 0..3 {
             let mut text = some_text(g, &entries);
             if g.below(1000) == 0 {
@@ -1235,9 +1276,9 @@ fn listed(instance: &[u8], m: usize, family: usize) -> impl Iterator<Item = (u64
     all.filter(move |(number, _)| parts.family(m, *number) == family)
 }
 
-/// Where the variables of a clause of two negative literals stand among the entries.
-fn indexes(clause: &[i32]) -> [usize; 2] {
-    [0, 1].map(|i| (-clause[i] - 1) as usize)
+/// The variables of a clause of two negative literals.
+fn variables(clause: &[i32]) -> [i32; 2] {
+    [0, 1].map(|i| -clause[i])
 }
 
 /// All rows of `k` vertices below `n`, k 1 or 2.
@@ -1324,6 +1365,8 @@ fn main() {
             run.case,
             clock.elapsed()
         );
+        run.two_faults();
+        println!("two faults: {} ({:.1?})", run.case, clock.elapsed());
         run.small();
         println!("small instances: {} ({:.1?})", run.case, clock.elapsed());
         run.largest(&mut Generator::new(mix(seed, u64::MAX - 1)));
