@@ -417,7 +417,7 @@ printf '%s\n' 'p cnf 4 10' '1 0' '4 0' '1 2 0' '3 4 0' '-1 -2 0' '-3 -4 0' '-1 3
 result "$(diff with-h wanted)" 'the formula of the pair with family H'
 "$shuttles" pruned path.txt 2 >with-h
 "$shuttles" input path.txt 2 | "$program" >base
-h=$(printf -- '-%s 0\n' 2 3 4 6 9 10 13 15 16 17)
+h=$(printf -- '-%s 0\n' 2 3 10 12 6 13 7 9 16 17)
 result "$(diff with-h <(sed 's/^p cnf 18 61$/p cnf 18 71/' base; echo "$h"))" 'the formula of the path with family H'
 # The sizes told are those of the texts: behind the header's four words, each word of a text is one of the formula.
 # text_size NAME FILE: the size of a text, told likewise.
@@ -445,6 +445,9 @@ expect 'refusal 14' 0 "$shuttles" refusal 14 3 pair.txt 1
 told '3 entries given, 1 agent on 2 vertices at times 0 to 1 need 4'
 expect 'refusal 23' 0 "$shuttles" refusal 23 2 pair.txt 1
 told 'entry 2 must be 3 or -3, for agent 0 (line 3) at vertex 0 at time 1'
+# Of two agents: each has its variables of all times in one stretch.
+expect 'refusal 23' 0 "$shuttles" refusal 23 3 path.txt 2
+told 'entry 3 must be 4 or -4, for agent 0 (line 4) at vertex 0 at time 1'
 for subject in '' 'pair.txt' 'pair.txt 1'; do
     # shellcheck disable=SC2086  # Words of the command.
     expect 'refusal 27' 0 "$shuttles" refusal 27 45 $subject
@@ -453,13 +456,19 @@ for subject in '' 'pair.txt' 'pair.txt 1'; do
     expect 'refusal 28' 0 "$shuttles" refusal 28 45 $subject
     told 'the place is the first byte of the s line'
 done
-expect 'refusal 29' 0 "$shuttles" refusal 29 3
-told 'the place is a variable'
+# Without a horizon a number does not tell the variable.
+for subject in '3' '0 pair.txt' '67 pair.txt'; do
+    # shellcheck disable=SC2086  # Words of the command.
+    expect 'refusal 29' 0 "$shuttles" refusal 29 $subject
+    told 'the place is a variable'
+done
 expect 'refusal 29' 0 "$shuttles" refusal 29 3 pair.txt 1
 told 'variable 3, for agent 0 (line 3) at vertex 0 at time 1'
 expect 'refusal 29' 0 "$shuttles" refusal 29 4 pair.txt 1
 told 'variable 4, for agent 0 (line 3) at vertex 1 at time 1'
-for subject in '0 pair.txt 1' '5 pair.txt 1' '18446744073709551615 pair.txt 1' '3 pair.txt 0' '0 pair.txt' '67 pair.txt'; do
+expect 'refusal 29' 0 "$shuttles" refusal 29 10 path.txt 2
+told 'variable 10, for agent 1 (line 5) at vertex 0 at time 0'
+for subject in '0 pair.txt 1' '5 pair.txt 1' '18446744073709551615 pair.txt 1' '3 pair.txt 0'; do
     # shellcheck disable=SC2086  # Words of the command.
     expect 'refusal 29' 0 "$shuttles" refusal 29 $subject
     told 'the formula has no such variable'
@@ -535,7 +544,7 @@ after() { printf 'read -r _ _ n _ <$2; [ $n != 12 ] || { echo s UNSATISFIABLE >$
 at1='path.txt, horizon 1: 12 variables, 46 clauses, minisat: '
 at2='path.txt, horizon 2: 18 variables, 71 clauses, minisat: '
 rows=$'t=0: agent0@0 agent1@1\nt=1: agent0@0 agent1@2\nt=2: agent0@1 agent1@2\nplan passes: makespan 2, cost 3'
-path_plan='printf "SAT\n1 -2 -3 -4 5 -6 7 -8 -9 -10 -11 12 -13 14 -15 -16 -17 18 0\n" >$3; exit 10'
+path_plan='printf "SAT\n1 -2 -3 4 -5 -6 -7 8 -9 -10 11 -12 -13 -14 15 -16 -17 18 0\n" >$3; exit 10'
 shows 0 1 "$(after "$path_plan")" "${at1}no plan"$'\n'"${at2}a plan"$'\n'"$rows" env KEEP=last "$solve" path.txt
 result "$(cd last && diff <(printf '%s\n' *) <(printf '%s\n' formula.cnf instance.bin output.txt))" 'what KEEP keeps'
 result "$("$shuttles" pruned path.txt 2 | cmp - last/formula.cnf 2>&1)" 'the formula of the last horizon is kept'

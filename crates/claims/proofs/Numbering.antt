@@ -1,19 +1,17 @@
 -- The variables' numbers, proved: the laws of `index`, and the correspondence by numbers.
-use mathlib.Core.Path.{_≡_, sym, _∙_, ap}
-use mathlib.Core.Logic.{_↔_, _≢_, ⊎-elim, Iff·trans, Iff·symm}
+use mathlib.Core.Path.{_≡_, sym, ap}
+use mathlib.Core.Logic.{_↔_, ⊎-elim, Iff·trans, Iff·symm}
 use mathlib.Core.List.{List}
-use Prim.Native.Nat.{ℕ, suc, _+_, _*_, _-_, _≤_, _<_}
+use Prim.Native.Nat.{ℕ, suc, _+_, _*_, _-_, _<_}
 use native.Mathlib.Nat.{add-mul, mul-assoc, one-mul}
 use native.Mathlib.Omega.{arith}
-use lib.ListN.{length, getD}
-use lib.IntN.{ℤ, pos, negℤ, negsuc}
+use lib.IntN.{ℤ, pos, negℤ}
 use Rattle.lists.proofs.Blocks.{place-lt, place-split}
 use Rattle.instance.specs.declared.Sizes.{Sizes}
-use Rattle.instance.proofs.Instance.{instance-iff}
 use Rattle.formula.specs.Variables.{X, index, variableCount}
 use Rattle.formula.proofs.Variables.{index-is, index-lt, index-onto, index-inj}
 use Rattle.plan.specs.Plan.{planRow}
-use Rattle.valuation.specs.Valuation.{entry, true?}
+use Rattle.valuation.specs.Valuation.{entry}
 use Rattle.valuation.specs.Satisfying.{Valuation, Names}
 use Rattle.valuation.proofs.Entries.{true-yes}
 use Rattle.calls.proofs.Valuation.{true-iff}

@@ -293,6 +293,9 @@ table =
     ∷ example exchange 1 (encode (0 ∷ 1 ∷ 1 ∷ 0 ∷ []) (sevens 8)) (valuation (refuse 25 2) (sevens 8))
     ∷ example exchange 1 size (sized 72 24)
     ∷ example exchange 1 (write (sevens 72)) (words (accept 0) exchangeWords)
+    -- agent 0 is at both vertices at time 1, then agent 1 at time 0 too, whose variables are higher and whose clause is lower
+    ∷ example exchange 1 (decode (pos 1 ∷ neg 2 ∷ pos 3 ∷ pos 4 ∷ neg 5 ∷ pos 6 ∷ pos 7 ∷ neg 8 ∷ []) lentPlan) (plan (refuse 24 10) lentPlan)
+    ∷ example exchange 1 (decode (pos 1 ∷ neg 2 ∷ pos 3 ∷ pos 4 ∷ pos 5 ∷ pos 6 ∷ pos 7 ∷ neg 8 ∷ []) lentPlan) (plan (refuse 24 9) lentPlan)
     -- on the path one agent closes up behind another, then waits for it, then drives into it where it stays
     ∷ example (pathTwo 0 1 1 2) 1 (check (0 ∷ 1 ∷ 1 ∷ 2 ∷ [])) (answer (refuse 26 2))
     ∷ example (pathTwo 0 1 1 2) 2 (check (0 ∷ 1 ∷ 0 ∷ 2 ∷ 1 ∷ 2 ∷ [])) (answer (accept 3))

@@ -33,7 +33,7 @@ module _ (s : Sizes) where
     -- an agent's whole history is one stretch of (m+1)·n numbers, behind those of the agents before it
     pub stretch : (a x : ℕ) → a < k → ((a * ((m + 1) * n) < x) × (x ≤ (a + 1) * ((m + 1) * n))) ↔ ((t v : ℕ) × InRange t a v × (x ≡ number t a v))
 
-  -- the entry that a variable's number leads to says whether byte t·k + a of the plan is v
+  -- the entry of X(t,a,v), whose index is one less than its number, says whether byte t·k + a of the plan is v
   pub record Told (entries : List ℤ) (p : List ℕ) : Type 0 where
     pub yes : (t a v : ℕ) → InRange t a v → (entry entries ((a * (m + 1) + t) * n + v) ≡ pos (number t a v)) ↔ (getD p (t * k + a) 0 ≡ v)
     pub no : (t a v : ℕ) → InRange t a v → (entry entries ((a * (m + 1) + t) * n + v) ≡ negℤ (pos (number t a v))) ↔ (getD p (t * k + a) 0 ≢ v)

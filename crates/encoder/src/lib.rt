@@ -22,8 +22,8 @@ ghost use Rattle.instance.specs.Instance.{Instance};
 ghost use Rattle.instance.specs.Shows.{Shows};
 ghost use Rattle.calls.specs.Calls.{encodeRest, encodeAnswer, encodeSlice};
 
-// The entries of an agent at one time, which are of the n variables from `first` on: the negatives of all, then the one for its vertex.
-fn write_row(z: &mut [i32], n: usize, first: Variable, at: Vertex)
+// The entries of an agent at one time, for the n variables from `first` on: the negatives of all, then the one that is true.
+fn write_agent(z: &mut [i32], n: usize, first: Variable, at: Vertex)
     requires { ⌜ (first .0 + n ≤ highest) × (n ≤ length (now z)) ⌝ }
     ensures { λ _. ⌜ now (z .exit) ≡ filled (for n λ v. cond (eqb (at .0) v) (pos (first .0 + v)) (negℤ (pos (first .0 + v))) ∷ []) (now (z .entry)) ⌝ }
 {
@@ -36,7 +36,8 @@ fn write_row(z: &mut [i32], n: usize, first: Variable, at: Vertex)
     }
 }
 
-// The valuation of a plan, first in the slice: one agent after another and one time after another.
+// The valuation of a plan, first in the slice: one agent after another and one time after another. An agent's bytes in the plan are k
+// apart.
 fn write_valuation(z: &mut [i32], s: Sizes, p: &[u8])
     requires { ⌜ Limits s ⌝ }
     requires { ⌜ (length (now p) ≡ planBytes s) × (variableCount s ≤ length (now z)) ⌝ }
@@ -46,11 +47,13 @@ fn write_valuation(z: &mut [i32], s: Sizes, p: &[u8])
     let rows = s.m + 1;
     let mut at: usize = 0;
     for a in 0..k {
+        let mut byte = a;
         for t in 0..rows {
             let first = Variable(at + 1);
-            let vertex = Vertex(numbers::wide(p[t * k + a]));
-            write_row(&mut z[at..], s.n, first, vertex);
+            let vertex = Vertex(numbers::wide(p[byte]));
+            write_agent(&mut z[at..], s.n, first, vertex);
             at += s.n;
+            byte += k;
         }
     }
 }

@@ -169,16 +169,16 @@ module _ (s : Sizes) (es : List ℤ) (vertices : List ℕ) where
 
   -- the row of agent a at time t comes next
   module _ (t a : ℕ) (x : t < suc m) (y : a < k) (base r v : ℕ) (e : base ≡ index s t a 0) (o : Sofar s es vertices base) (c : Came es base n r v) where
-    pub sofar-more : t * k + a < 528 → base + n ≤ r → Sofar s es (set vertices (t * k + a) v) (base + n)
-    sofar-more l h =
-        record {
+    pub sofar-more : (at : ℕ) → at ≡ t * k + a → at < 528 → base + n ≤ r → Sofar s es (set vertices at v) (base + n)
+    sofar-more at w l h =
+        rw w (record {
           size = simp length-set (o .size);
           right = λ j b. by-cases (decLt j base) (λ p. o .right j p) (λ p. c .0 .before j (omega arith) (omega arith));
           seen = λ u b x′ y′ g.
               by-cases (ℕ-discrete (u * k + b) (t * k + a))
               (λ p. let (q, q′) = place-inj k u b t a y′ y p in rw (q, q′, getD-set-same vertices (t * k + a) v 0 (omega (arith, o .size))) here)
               (λ p. rw (getD-set-other vertices (t * k + a) (u * k + b) v 0 p) (o .seen u b x′ y′ (earlier u b x′ g p)));
-        }
+        })
       where
         here : Seen n (λ u. says es (index s t a u)) v
         here = seen-cong n _ _ v (λ u z. ap (says es) (let q : base + u ≡ index s t a u = omega (arith, vertices-run s t a u) in q)) (c .1 h)

@@ -4,7 +4,7 @@ use mathlib.Core.Logic.{_↔_, _≢_, by-cases}
 use mathlib.Core.List.{List, [], _∷_}
 use mathlib.Core.Bool.{Bool, not, _||_}
 use Prim.Native.Nat.{ℕ, suc, _+_, _*_, _-_, _/_, _≤_, _<_}
-use native.Mathlib.Nat.{le-refl, suc-mul, mul-le-mul-right}
+use native.Mathlib.Nat.{le-refl}
 use native.Mathlib.Decide.{decLt, ℕ-discrete}
 use native.Mathlib.Omega.{arith}
 use borrow.Author.Tests.{ne-eqb}
@@ -14,7 +14,7 @@ use lib.IntN.{ℤ}
 use Rattle.lists.specs.Loop.{for, when, all, every}
 use Rattle.lists.proofs.Tests.{or-imp, not-iff, eqb-iff}
 use Rattle.lists.proofs.Loops.{for-all, one-all, when-all, for-any, when-any, any-one, any-two, for-length, for-ext}
-use Rattle.lists.proofs.Blocks.{for1-length, place-lt}
+use Rattle.lists.proofs.Blocks.{for1-length}
 use Rattle.lists.proofs.Slices.{for-room}
 use Rattle.lists.specs.Pairs.{pairsBelow}
 use Rattle.lists.proofs.Sums.{others-length}

@@ -1,12 +1,12 @@
 -- `satisfaction::read_entries` meets its contract: before turn t of agent a the rows before theirs are read, and their entries are right. Assumes nothing.
-use Prim.Native.Nat.{ℕ, suc, _+_, _-_, _*_, _≤_, _<_}
+use Prim.Native.Nat.{suc, _+_, _-_, _*_, _≤_, _<_}
 use mathlib.Core.Path.{_≡_, sym, _∙_}
 use native.Mathlib.Omega.{arith}
 use borrow.Author.Needs.{needs}
 use Rattle.lists.proofs.Blocks.{place-lt}
 use Rattle.formula.specs.Variables.{index, variableCount}
 use Rattle.formula.proofs.Limits.{variables-most}
-use Rattle.formula.proofs.Variables.{run-fits, first-run, next-run, next-agent, last-run}
+use Rattle.formula.proofs.Variables.{run-fits, runs-before, first-run, next-run, next-agent, last-run}
 use Rattle.satisfaction.proofs.Entries.{Sofar, sofar-none, sofar-more, sofar-wrong, done-right, done-read}
 use Rattle.satisfaction.proofs.Bounds.{products}
 use Rattle.satisfaction.proofs.read_entries.Statement.{statement}
@@ -24,11 +24,17 @@ Inv-loop vertices₀ entries s k rows base₀ a₀ vertices base a = (a ≤ k) �
 abbrev μ-loop : tie.MeasureT-loop
 μ-loop vertices₀ entries s k rows base₀ a₀ vertices base a = k - a
 
--- the row of agent a at time t: its byte, and that it stands within the entries
-byte : (c : tie.In-loop2 Inv-loop2 μ-loop2 Inv-loop μ-loop) → c .before .loop2 .t * c .before .before .before .before .before .before .args .s .k + c .before .before .before .loop .a < 528
+-- the row of agent a at time t: its byte, how many rows stand before it (no fact needs that but with the edit old_numbering, which is
+-- to be refused by what it stores), and that it stands within the entries
+byte : (c : tie.In-loop2 Inv-loop2 μ-loop2 Inv-loop μ-loop) → (c .before .loop2 .t * c .before .before .before .before .before .before .args .s .k + c .before .before .before .loop .a < 528) × (c .before .before .before .loop .a * (c .before .before .before .before .before .before .args .s .m + 1) + c .before .loop2 .t < 528)
 byte c =
     let start = c .before .before .before .before .before .before in
-    omega (arith, place-lt (suc (start .args .s .m)) (start .args .s .k) (c .before .loop2 .t) (c .before .before .before .loop .a) (omega (arith, c .loop2-test .taken)) (c .before .before .loop-test .taken), products (start .args .s) (start .pre .0) .cells)
+    let s = start .args .s in
+    let t = c .before .loop2 .t in
+    let a = c .before .before .before .loop .a in (
+      omega (arith, place-lt (suc (s .m)) (s .k) t a (omega (arith, c .loop2-test .taken)) (c .before .before .loop-test .taken), products s (start .pre .0) .cells),
+      runs-before s (start .pre .0) t a (omega (arith, c .loop2-test .taken)) (c .before .before .loop-test .taken),
+    )
 
 fits : (c : tie.In-loop2 Inv-loop2 μ-loop2 Inv-loop μ-loop) → (c .before .loop2 .base + c .before .before .before .before .before .before .args .s .n ≤ variableCount (c .before .before .before .before .before .before .args .s)) × (variableCount (c .before .before .before .before .before .before .args .s) ≤ 33792)
 fits c =
@@ -82,7 +88,7 @@ loop2-again c =
     let start = c .before .before .before .before .before .before .before .before .before .before .before .before in (
       omega (arith, c .before .before .before .before .before .before .loop2-test .taken),
       omega (arith, c .before .before .before .before .before .before .before .loop2 .inv .1, next-run (start .args .s) (c .before .before .before .before .before .before .before .loop2 .t) (c .before .before .before .before .before .before .before .before .before .loop .a)),
-      sofar-more (start .args .s) (start .args .entries .now) (c .before .before .before .before .before .before .before .loop2 .vertices) (c .before .before .before .before .before .before .before .loop2 .t) (c .before .before .before .before .before .before .before .before .before .loop .a) (omega (arith, c .before .before .before .before .before .before .loop2-test .taken)) (c .before .before .before .before .before .before .before .before .loop-test .taken) (c .before .before .before .before .before .before .before .loop2 .base) (c .before .before .before .before .before .read-row .result .wrong) (c .before .before .before .before .before .read-row .result .vertex) (c .before .before .before .before .before .before .before .loop2 .inv .1) (c .before .before .before .before .before .before .before .loop2 .inv .2) (c .before .before .before .before .before .read-row .ensures) (byte (c .before .before .before .before .before .before)) (c .before .before .if1 .left),
+      sofar-more (start .args .s) (start .args .entries .now) (c .before .before .before .before .before .before .before .loop2 .vertices) (c .before .before .before .before .before .before .before .loop2 .t) (c .before .before .before .before .before .before .before .before .before .loop .a) (omega (arith, c .before .before .before .before .before .before .loop2-test .taken)) (c .before .before .before .before .before .before .before .before .loop-test .taken) (c .before .before .before .before .before .before .before .loop2 .base) (c .before .before .before .before .before .read-row .result .wrong) (c .before .before .before .before .before .read-row .result .vertex) (c .before .before .before .before .before .before .before .loop2 .inv .1) (c .before .before .before .before .before .before .before .loop2 .inv .2) (c .before .before .before .before .before .read-row .ensures) _ (omega arith) (omega (arith, byte (c .before .before .before .before .before .before))) (c .before .before .if1 .left),
     )
 
 -- after an agent's last time the next agent's first

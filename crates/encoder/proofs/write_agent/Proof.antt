@@ -1,4 +1,4 @@
--- `encoder::write_row` meets its contract: before turn v the negatives below v stand in the slice; the last store makes one of them
+-- `encoder::write_agent` meets its contract: before turn v the negatives below v stand in the slice; the last store makes one of them
 -- true. Assumes nothing.
 use Rattle.encoder.proofs.Laws.{filled-next, filled-but, filled-none}
 use mathlib.Core.Path.{_≡_, refl, sym, _∙_, ap}
@@ -12,8 +12,8 @@ use lib.IntN.{ℤ, pos, negℤ}
 use Rattle.lists.specs.Loop.{for}
 use Rattle.lists.specs.Slice.{filled}
 use Rattle.lists.proofs.Slices.{filled-nil}
-use Rattle.encoder.proofs.write_row.Statement.{statement}
-use Rattle.encoder.proofs.write_row.Tie as tie
+use Rattle.encoder.proofs.write_agent.Statement.{statement}
+use Rattle.encoder.proofs.write_agent.Tie as tie
 
 -- the two literals of the variable v after the first
 abbrev says : ℕ → ℕ → ℤ
@@ -88,8 +88,8 @@ returns-2 c =
     let args = c .before .before .before .args in
     all (c .before) ∙ filled-none (denies (args .first .0)) (says (args .first .0)) (args .at .0) (args .n) (args .z .now) (c .if1 .left)
 
-pub write-row-spec : {M : Type 1} → statement M
-write-row-spec =
+pub write-agent-spec : {M : Type 1} → statement M
+write-agent-spec =
     tie.close
     (tie.spec
     Inv-loop
