@@ -448,6 +448,9 @@ told 'entry 2 must be 3 or -3, for agent 0 (line 3) at vertex 0 at time 1'
 # Of two agents: each has its variables of all times in one stretch.
 expect 'refusal 23' 0 "$shuttles" refusal 23 3 path.txt 2
 told 'entry 3 must be 4 or -4, for agent 0 (line 4) at vertex 0 at time 1'
+# Without a horizon an index does not tell the variable.
+expect 'refusal 23' 0 "$shuttles" refusal 23 3 path.txt
+told 'the place is an entry of the valuation'
 for subject in '' 'pair.txt' 'pair.txt 1'; do
     # shellcheck disable=SC2086  # Words of the command.
     expect 'refusal 27' 0 "$shuttles" refusal 27 45 $subject
