@@ -113,8 +113,15 @@ pub fn worked_h() -> Vec<Pruned> {
         path(2, &[0], &[0], 0, &[-2]),
         path(2, &[0], &[0], 1, &[-2, -4]),
         path(3, &[0], &[0], 2, &[-2, -3, -6, -8, -9]),
-        // Two agents, 0 to 1 and 2 to 2: at time 0 the variables 1 to 3 and 7 to 9.
+        // Two agents, 0 to 1 and 2 to 2: at time 0 the variables 1 to 3 and 7 to 9, or 10 to 12 at m 2.
         path(3, &[0, 2], &[1, 2], 1, &[-2, -3, -7, -8, -4, -6, -10, -11]),
+        path(
+            3,
+            &[0, 2],
+            &[1, 2],
+            2,
+            &[-2, -3, -10, -11, -6, -13, -7, -9, -16, -17],
+        ),
         // Without the edge.
         apart(&[0], &[0], 1, &[-2, -4]),
         apart(&[0], &[0], 4, &[-2, -4, -6, -8, -10]),
@@ -422,6 +429,7 @@ impl Told {
     /// Adds an answer of the floor call that is 0 or 30.
     pub fn floor(&mut self, instance: &[u8], answer: Item) {
         let map = Map::new(instance);
+        assert_eq!(map.floor(&map.distances), answer, "{instance:?}");
         for (times, (_, wrong)) in self.floors.iter_mut().zip(FLOORS) {
             *times += u64::from(wrong(&map) != answer);
         }
@@ -431,10 +439,16 @@ impl Told {
     pub fn pruned(&mut self, instance: &[u8], m: u64, words: &[i32]) {
         let first = formula_size(instance, m).second as usize;
         let map = Map::new(instance);
-        for (times, (_, wrong)) in self.families_h.iter_mut().zip(FAMILIES_H) {
-            let clauses = wrong(&map, m as usize).into_iter();
+        let m = m as usize;
+        let written = |literals: Vec<i32>| {
+            let clauses = literals.into_iter();
             let family: Vec<i32> = clauses.flat_map(|literal| [literal, 0]).collect();
-            *times += u64::from(family != words[first..]);
+            family == words[first..]
+        };
+        let right = map.family_h(&map.distances, m, either);
+        assert!(written(right), "{instance:?}, m {m}");
+        for (times, (_, wrong)) in self.families_h.iter_mut().zip(FAMILIES_H) {
+            *times += u64::from(!written(wrong(&map, m)));
         }
     }
 

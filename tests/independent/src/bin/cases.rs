@@ -519,7 +519,7 @@ impl Cases {
         self.two(CLAUSE, &pair(1), 8, &[], 0, [(11, 8), (12, 2)]);
 
         let staying = |m: u64| given(2, &[], &[0, 1], &[0, 1], m);
-        let valuations: [(Given, &[i32], usize, [Item; 2]); 12] = [
+        let valuations: [(Given, &[i32], usize, [Item; 2]); 14] = [
             (pair(33), &[1, -2], 34, [(10, 0), (14, 2)]),
             (pair(1), &[1, -2, -3], 1, [(14, 3), (15, 2)]),
             (pair(1), &[1, -2, 4, -3], 1, [(15, 2), (23, 2)]),
@@ -534,7 +534,7 @@ impl Cases {
             ),
             (pair(1), &[-1, -2, -3, -4], 2, [(24, 0), (24, 1)]),
             // The lower clause is agent 1's; the other one is agent 0's, one time later and with lower variables. They are
-            // nowhere, against C, at both vertices, against D, and jump, against F.
+            // nowhere, against C, at both vertices, against D, and jump, against F. These begin at 4, at 12 and at 58.
             (
                 staying(3),
                 &[
@@ -544,10 +544,10 @@ impl Cases {
                 [(24, 7), (24, 8)],
             ),
             (
-                staying(1),
-                &[1, -2, 3, 4, 5, 6, -7, 8],
-                4,
-                [(24, 9), (24, 10)],
+                staying(3),
+                &[1, -2, 3, -4, 5, 6, 7, -8, -9, 10, 11, 12, -13, 14, -15, 16],
+                8,
+                [(24, 15), (24, 16)],
             ),
             (
                 given(4, &[], &[0, 1], &[2, 3], 2),
@@ -557,6 +557,25 @@ impl Cases {
                 ],
                 6,
                 [(24, 63), (24, 66)],
+            ),
+            // Agents 1 and 2 share a vertex at time 1, agents 0 and 1 at time 2: against E, which begins at 54.
+            (
+                given(3, &[], &[0, 1, 2], &[0, 1, 2], 3),
+                &[
+                    1, -2, -3, 4, -5, -6, 7, -8, -9, 10, -11, -12, -13, 14, -15, -16, 17, -18, 19,
+                    -20, -21, -22, 23, -24, -25, -26, 27, -28, 29, -30, -31, -32, 33, -34, -35, 36,
+                ],
+                12,
+                [(24, 68), (24, 72)],
+            ),
+            // Agent 1 follows agent 0, then agent 0 follows agent 1: against G, which begins at 49.
+            (
+                given(3, &[(0, 1), (1, 2)], &[1, 0], &[1, 0], 2),
+                &[
+                    -1, 2, -3, -4, -5, 6, -7, 8, -9, 10, -11, -12, -13, 14, -15, 16, -17, -18,
+                ],
+                6,
+                [(24, 53), (24, 56)],
             ),
             // Two agents change places: against G, and without the edge against F too.
             (
@@ -627,7 +646,7 @@ impl Cases {
         }
         self.occupied_and_more();
 
-        let texts: [(Given, &[u8], usize, [Item; 2]); 18] = [
+        let texts: [(Given, &[u8], usize, [Item; 2]); 19] = [
             (pair(33), b"", 67, [(10, 0), (16, 68)]),
             (pair(1), b"", 3, [(16, 4), (27, 0)]),
             (pair(1), b"v 5", 0, [(16, 4), (27, 0)]),
@@ -682,6 +701,13 @@ impl Cases {
                 b"s SATISFIABLE\nv 4 1 4 3 0\n",
                 4,
                 [(29, 2), (29, 4)],
+            ),
+            // Agent 0's at time 1, agent 1's at time 0.
+            (
+                staying(1),
+                b"s SATISFIABLE\nv 1 -2 3 6 -7 8 0\n",
+                8,
+                [(29, 4), (29, 5)],
             ),
         ];
         for (given, text, lent, items) in texts {

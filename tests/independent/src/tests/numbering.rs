@@ -1,6 +1,6 @@
 //! The numbers of the variables, worked out by hand from request S-7.
 
-use super::{compare_words, says};
+use super::{compare_words, says, UNWRITTEN};
 use crate::instance::Instance;
 use crate::sample::instance_bytes;
 use crate::*;
@@ -25,7 +25,7 @@ const NUMBERS: [([usize; 5], i32); 12] = [
 #[test]
 fn numbers() {
     for ([n, m, t, a, v], number) in NUMBERS {
-        let agents: Vec<u8> = (0..=a as u8).collect();
+        let agents: Vec<u8> = (0..n.min(16) as u8).collect();
         let bytes = instance_bytes(n, &[], &agents, &agents);
         let instance = Instance::read(&bytes, m as u64).unwrap_or_else(|no| panic!("{no:?}"));
         assert_eq!(instance.x(t, a, v), number);
@@ -60,11 +60,12 @@ fn formula_of_two_agents() {
     assert_eq!(plain::clauses(&instance, 1), clauses);
     compare_words(&instance, 1, false, &clauses);
     for (number, literals) in CLAUSES.into_iter().enumerate() {
-        let mut words = [7; 5];
-        let length = literals.len();
+        let mut words = [UNWRITTEN; 6];
+        let mut expected = [literals, &[0]].concat();
         let answer = clause(&instance, 1, number as u64, &mut words);
-        assert_eq!(answer, says(0, length as u64 + 1));
-        assert_eq!(&words[..length], literals);
+        assert_eq!(answer, says(0, expected.len() as u64));
+        expected.resize(words.len(), UNWRITTEN);
+        assert_eq!(words[..], expected);
     }
 }
 
@@ -82,5 +83,7 @@ fn valuation_of_two_agents() {
     assert_eq!(decoded, plan);
     // With the variables of one time together: agent 1 is then at 1 at time 0.
     let by_time = [1, -2, -3, -4, -5, 6, -7, 8, -9, -10, -11, 12];
-    assert_eq!(decode(&instance, 1, &by_time, &mut decoded), says(24, 1));
+    let mut lent = [7; 4];
+    assert_eq!(decode(&instance, 1, &by_time, &mut lent), says(24, 1));
+    assert_eq!(lent, [7; 4]);
 }

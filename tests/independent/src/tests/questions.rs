@@ -171,7 +171,9 @@ fn questions_14_and_15() {
     // The lowest index, though it is of a later time: X(1,0,1) and X(0,1,0) are 4 and 5.
     let apart = instance_bytes(2, &[], &[0, 1], &[0, 1]);
     let exchanged = [1, -2, 3, -5, -4, 6, -7, 8];
-    assert_eq!(decode(&apart, 1, &exchanged, &mut [7; 4]), says(23, 3));
+    let mut plan = [7; 4];
+    assert_eq!(decode(&apart, 1, &exchanged, &mut plan), says(23, 3));
+    assert_eq!(plan, [7; 4]);
 }
 
 /// The answer of the plan check, after seeing that the encoder refuses alike.
