@@ -27,8 +27,11 @@ fail() {
 # Descriptions for this test only.
 cp "$root"/examples/*.txt "$folder"
 printf '%s\n' 'vertices 1' 'agent 0 0' >"$folder/stay.txt"
-printf '%s\n' 'vertices 4' 'edge 0 1' 'edge 1 2' 'edge 2 3' 'edge 0 3' \
-    'agent 0 1' 'agent 1 2' 'agent 2 3' >"$folder/ring.txt"
+printf '%s\n' 'vertices 2' 'agent 1 -' 'agent 0 -' >"$folder/waiting.txt"
+printf '%s\n' 'vertices 2' 'edge 0 1' 'agent 1 -' 'agent 0 1' >"$folder/blocked.txt"
+ring=('vertices 4' 'edge 0 1' 'edge 1 2' 'edge 2 3' 'edge 0 3')
+printf '%s\n' "${ring[@]}" 'agent 0 1' 'agent 1 2' 'agent 2 3' >"$folder/ring.txt"
+printf '%s\n' "${ring[@]}" 'agent 0 1' 'agent 1 -' 'agent 2 -' >"$folder/push.txt"
 {
     echo 'vertices 64'
     for ((v = 0; v < 64; v++)); do for ((w = v + 1; w < 64; w++)); do echo "edge $v $w"; done; done
@@ -88,16 +91,26 @@ grep -v '^ *#' >>"$folder/cases" <<'END'
 # The start is the goal.
 stay 0 SAT
 stay 32 SAT
+# No agent has a destination.
+waiting 0 SAT
+waiting 32 SAT
+# The other one cannot leave the goal, although it has no destination: both vertices are always occupied.
+blocked 1 UNSAT
+blocked 32 UNSAT
 # Four vertices in a ring, three agents move on by one: only one can move in a step, so three steps.
 ring 1 UNSAT
 ring 2 UNSAT
 ring 3 SAT
+# The same ring, and the two in front have no destination: each must make room for the one behind it all the same.
+push 1 UNSAT
+push 2 UNSAT
+push 3 SAT
 # The largest formula. Every vertex is one step from every other, and all goals are vacant.
 complete 0 UNSAT
 complete 1 SAT
 complete 32 SAT
 END
-printf '%s\n' 'stay 0 0' 'ring 1 3' 'complete 1 1' >>"$folder/climbs"
+printf '%s\n' 'stay 0 0' 'waiting 0 0' 'blocked 1 none' 'ring 1 3' 'push 1 3' 'complete 1 1' >>"$folder/climbs"
 
 if [ "${INSTALL:-no}" = yes ]; then
     export DEBIAN_FRONTEND=noninteractive

@@ -134,6 +134,12 @@ described NumberCount 1 d3.txt 'edge 1'
 described NumberCount 2 d4.txt '' 'agent 1 2 3'
 described NotByte 1 d5.txt 'edge 0 256'
 described NotByte 2 d6.txt 'vertices 3' 'agent -1 x'
+described NotByte 2 d9.txt 'vertices 3' 'agent - 1'
+described NotByte 1 d10.txt 'agent 0 --'
+described NumberCount 1 d11.txt 'agent 0 - 1'
+# A number 255 is a vertex on no map, and no agent without a destination.
+described GoalByte 2 d12.txt 'vertices 3' 'agent 0 255'
+described GoalByte 3 d13.txt 'vertices 3' 'agent 0 -' 'agent 1 0255'
 described Vertices 1 d7.txt 'grid 16 16'
 described Vertices 2 d8.txt 'vertices 255' 'vertices 1'
 for _ in $(seq 256); do echo agent 0 0; done >agents.txt
@@ -214,6 +220,13 @@ description r.txt 'vertices 2' 'agent 0 1' 'agent 1 1'
 unfit 9 'agent 1 (line 3) has its goal at vertex 1, as agent 0 (line 2) does' r.txt
 bytes 1 1 0 0 0 1
 unfit 9 'agent 0 has its goal at vertex 1, the map has only vertex 0' bytes.bin
+# 255 is no goal, and may stand there more than once; 254 is a goal on no map.
+description r.txt 'vertices 3' 'agent 0 -' 'agent 1 254' 'agent 2 -'
+unfit 9 'agent 1 (line 3) has its goal at vertex 254, the map has only vertices 0 to 2' r.txt
+bytes 4 4 0 0 0 1 2 3 377 1 377 1
+unfit 9 'agent 3 has its goal at vertex 1, as agent 1 does' bytes.bin
+description r.txt 'vertices 2' 'agent 255 -'
+unfit 8 'agent 0 (line 2) starts at vertex 255, the map has only vertices 0 to 1' r.txt
 for horizon in 33 256 -1 02 +2 x '' 99999999999999999999; do
     refuse 10 "\"$horizon\" was given" "$shuttles" check path.txt "$horizon" 0 1
 done
@@ -255,8 +268,8 @@ refuse 21 'agent 1 (line 5) at time 1: at vertex 1, and so is agent 0 (line 4)' 
 refuse 21 'agent 1 (line 5) at time 2: at vertex 1, and so is agent 0 (line 4)' "$shuttles" encode r.txt 2  0 2  0 2  1 1
 refuse 22 'agent 0 (line 3) at time 0: at vertex 0, its goal is vertex 1' "$shuttles" check pair.txt 0  0
 refuse 22 'agent 0 (line 4) at time 1: at vertex 0, its goal is vertex 1' "$shuttles" check path.txt 1  0 1  0 1
-# valuation TERMS ENTRIES: a clause is false, for the pair at horizon 1.
-valuation() { refuse 24 "$1" fed "s SATISFIABLE\nv $2 0\n" "$shuttles" decode pair.txt 1; }
+# valuation TERMS ENTRIES [DESCRIPTION]: a clause is false at horizon 1, for the pair if for no other.
+valuation() { refuse 24 "$1" fed "s SATISFIABLE\nv $2 0\n" "$shuttles" decode "${3:-pair.txt}" 1; }
 valuation 'clause 0 of family A (each agent begins at its start), for agent 0 (line 3) at vertex 0 at time 0' '-1 -2 -3 -4'
 valuation 'clause 1 of family B (each agent ends at its goal), for agent 0 (line 3) at vertex 1 at time 1' '1 -2 3 -4'
 valuation 'clause 5 of family D (no agent is at two vertices at one time), for agent 0 (line 3) at vertices 0 and 1 at time 1' '1 -2 3 4'
@@ -366,13 +379,10 @@ reads 0 "$passes" "$("$shuttles" encode pair.txt 1 0 1)\n"
 { echo 's SATISFIABLE'; echo 'v 1 -2 -3 4 0'; head -c 524260 /dev/zero | tr '\0' '\n'; } >long.txt
 result "$([ "$(wc -c <long.txt) $(from long.txt "$shuttles" decode pair.txt 1 2>&1 | tail -n 1)" = "524288 $passes" ] || echo refused)" \
     'the longest text'
+# says TEXT COMMAND...: the command says just this and ends with status 0.
+says() { result "$([ "$("${@:2}" 2>&1) $?" = "$1 0" ] || echo said otherwise)" "$1: ${*:2}"; }
 # costs COST MAKESPAN DESCRIPTION PLAN...: the plan passes, and that is its cost.
-costs() {
-    local cost=$1 makespan=$2 map=$3
-    shift 3
-    result "$([ "$("$shuttles" check "$map" "$makespan" "$@" 2>&1)" = "plan passes: makespan $makespan, cost $cost" ] || echo said otherwise)" \
-        "cost $cost: $map $*"
-}
+costs() { says "plan passes: makespan $2, cost $1" "$shuttles" check "$3" "$2" "${@:4}"; }
 printf 'vertices 2\nedge 0 1\nagent 0 0\n' >home.txt
 costs 3 2 "$root/examples/path.txt" 0 1 0 2 1 2
 costs 3 3 pair.txt 0 0 0 1
@@ -380,9 +390,7 @@ costs 1 3 pair.txt 0 1 1 1
 costs 3 4 home.txt 0 1 1 0 0
 costs 0 0 home.txt 0
 # floors FLOOR DESCRIPTION: that is its floor.
-floors() {
-    result "$([ "$("$shuttles" floor "$2" 2>&1) $?" = "makespan at least $1 0" ] || echo said otherwise)" "floor $1: $2"
-}
+floors() { says "makespan at least $1" "$shuttles" floor "$2"; }
 description line32.txt 'grid 1 33' 'agent 0 32'
 description line33.txt 'grid 1 34' 'agent 0 33'
 description line63.txt 'grid 1 64' 'agent 5 4' 'agent 63 0' 'agent 0 5'
@@ -436,6 +444,67 @@ same_sizes() {
 same_sizes four.txt 3
 same_sizes "$root/examples/grid4.txt" 6
 same_sizes "$root/examples/grid8.txt" 10
+
+# Agents without a destination.
+idle=$root/examples/idle.txt
+description free.txt 'vertices 2' 'edge 0 1' 'agent 0 -' 'agent 1 1'
+description all.txt 'vertices 3' 'agent 2 -' 'agent 0 - # waits' 'agent 1 -'
+description roam.txt 'vertices 2' 'edge 0 1' 'agent 0 -'
+description lone.txt 'vertices 1' 'agent 0 -'
+result "$("$shuttles" instance all.txt | cmp - <(printf '\3\3\0\0\2\0\1\377\377\377') 2>&1)" 'the goal bytes 255'
+# A plan is shown with a line before its rows that names them; where every agent has a destination there is no such line.
+free_rows=$'without a destination: agent0\nt=0: agent0@0 agent1@1\nt=1: agent0@0 agent1@1'
+free_values='1 -2 3 -4 -5 6 -7 8'
+says "$free_rows" "$shuttles" show free.txt 0 1 0 1
+says $'without a destination: agent0 agent1 agent2\nt=0: agent0@2 agent1@0 agent2@1' "$shuttles" show all.txt 2 0 1
+says 't=0: agent0@0 agent1@1' "$shuttles" show path.txt 0 1
+says "$free_rows"$'\nplan passes: makespan 1, cost 0' fed "s SATISFIABLE\nv $free_values 0\n" "$shuttles" decode free.txt 1
+says $'0 1\n0 1' fed "s SATISFIABLE\nv $free_values 0\n" "$shuttles" decode --numbers free.txt 1
+says "s SATISFIABLE"$'\n'"v $free_values"$'\nv 0' "$shuttles" encode free.txt 1 0 1 0 1
+"$shuttles" instance free.txt >bytes.bin
+says "$free_rows" "$shuttles" show bytes.bin 0 1 0 1
+# They end anywhere, but on the map; what they drive costs as it does with a destination.
+costs 4 3 "$idle" 0 1  0 3  1 3  2 3
+costs 7 4 "$idle" 0 1  0 3  1 3  2 3  2 1
+costs 0 0 all.txt 2 0 1
+costs 2 2 roam.txt 0 1 0
+refuse 17 'agent 0 (line 3) at time 1: at vertex 255, the map has only vertices 0 to 1' "$shuttles" check free.txt 1  0 1  255 1
+refuse 22 'agent 0 (line 9) at time 1: at vertex 0, its goal is vertex 2' "$shuttles" check "$idle" 1  0 1  0 3
+description r.txt 'grid 1 3' 'agent 0 -' 'agent 1 2'
+refuse 22 'agent 1 (line 3) at time 1: at vertex 1, its goal is vertex 2' "$shuttles" encode r.txt 1  0 1  0 1
+# Their goals are at no distance, and none is out of reach: agent 0 stands alone.
+floors 0 all.txt
+floors 2 "$idle"
+description r.txt 'vertices 3' 'edge 0 1' 'agent 2 -' 'agent 0 1'
+floors 1 r.txt
+description r.txt 'vertices 3' 'edge 0 1' 'agent 2 -' 'agent 0 2'
+refuse 30 "agent 1 (line 4) from vertex 0 to vertex 2, $nowhere" "$shuttles" floor r.txt
+# Family B has no clause for them, so the clauses behind it have lower numbers; family H goes by their starts alone.
+sizes lone.txt 0 '1 variable' '2 clauses, 4 words' '2 clauses, 4 words'
+sizes roam.txt 1 '4 variables' '7 clauses, 22 words' '8 clauses, 24 words'
+sizes free.txt 1 '8 variables' '23 clauses, 70 words' '26 clauses, 76 words'
+sizes "$idle" 2 '24 variables' '89 clauses, 300 words' '101 clauses, 324 words'
+sizes "$idle" 3 '32 variables' '123 clauses, 418 words' '136 clauses, 444 words'
+same_sizes "$idle" 3
+same_sizes all.txt 2
+says "$(printf '%s\n' 'p cnf 4 8' '1 0' '1 2 0' '3 4 0' '-1 -2 0' '-3 -4 0' '-1 3 4 0' '-2 4 3 0' '-2 0')" "$shuttles" pruned roam.txt 1
+valuation 'clause 1 of family A (each agent begins at its start), for agent 1 (line 4) at vertex 1 at time 0' '1 -2 3 -4 5 -6 -7 8' free.txt
+valuation 'clause 2 of family B (each agent ends at its goal), for agent 1 (line 4) at vertex 1 at time 1' '1 -2 3 -4 -5 6 7 -8' free.txt
+valuation 'clause 5 of family C (each agent is at some vertex at each time), for agent 0 (line 3) at vertices 0 to 1 at time 1' '1 -2 -3 -4 -5 6 -7 8' free.txt
+expect 'refusal 24' 0 "$shuttles" refusal 24 22 free.txt 1
+told 'clause 22 of family G (no agent enters a vertex where another stood as the step began), for agent 1 (line 4) at vertex 1 at time 1, where agent 0 (line 3) is at time 0'
+expect 'refusal 24' 0 "$shuttles" refusal 24 23 free.txt 1
+told 'the place is a clause'
+# With one vertex the clause of A and that of C are the same.
+expect 'refusal 24' 0 "$shuttles" refusal 24 1 lone.txt 0
+told 'clause 1 of family C (each agent is at some vertex at each time), for agent 0 (line 2) at vertices 0 to 0 at time 0'
+# What the library does not refuse: 8 is the goal byte, 2 the byte of the plan's last row.
+for subject in '9 8' '22 2' '30 8'; do
+    # shellcheck disable=SC2086  # Words of the command.
+    expect "refusal ${subject% *}" 0 "$shuttles" refusal $subject free.txt 1
+    told 'agent 0 (line 3) has no destination'
+done
+
 # Refusals that the library does not give for what the tool asks of it.
 for number in 11 12 14 15 16 23; do
     expect "refusal $number" 0 "$shuttles" refusal "$number" 24
@@ -542,8 +611,9 @@ shows() {
     [ "$(grep -c '^note: ' errors) $(wc -l <errors)" = "$2 $2" ] || fault="not $2 notes alone: $(cat errors)"
     result "$fault" "${*:5}"
 }
-# after FAKE: a solver that finds no plan for the path at horizon 1, where its formula has 12 variables, and then does so.
-after() { printf 'read -r _ _ n _ <$2; [ $n != 12 ] || { echo s UNSATISFIABLE >$3; exit 20; }; %s' "$1"; }
+# after FAKE [VARIABLES]: a solver that finds no plan while the formula has so many variables, and then does so; if none
+# are given 12, which the path's formula has at horizon 1.
+after() { printf 'read -r _ _ n _ <$2; [ $n != %s ] || { echo s UNSATISFIABLE >$3; exit 20; }; %s' "${2:-12}" "$1"; }
 at1='path.txt, horizon 1: 12 variables, 46 clauses, minisat: '
 at2='path.txt, horizon 2: 18 variables, 71 clauses, minisat: '
 rows=$'t=0: agent0@0 agent1@1\nt=1: agent0@0 agent1@2\nt=2: agent0@1 agent1@2\nplan passes: makespan 2, cost 3'
@@ -561,6 +631,14 @@ shows 3 1 'echo UNSAT >$3; exit 20' "$none" "$solve" pair.txt
 shows 3 0 'echo s UNSATISFIABLE >$3; exit 20' "$none" "$solve" pair.txt
 # A floor of 0, of 32 and above; above it no solver is asked.
 shows 0 1 'printf "SAT\n1 -2 0\n" >$3; exit 10' $'home.txt, horizon 0: 2 variables, 5 clauses, minisat: a plan\nt=0: agent0@0\nplan passes: makespan 0, cost 0' "$solve" home.txt
+# Without a destination: the others' goals give the floor, and it is 0 where there are none.
+idle_plan='printf "SAT\n1 -2 -3 -4 5 -6 -7 -8 -9 10 -11 -12 -13 -14 15 -16 -17 18 -19 -20 -21 -22 -23 24 -25 -26 -27 28 -29 -30 -31 32 0\n" >$3; exit 10'
+idle_rows=$'without a destination: agent1\nt=0: agent0@0 agent1@1\nt=1: agent0@0 agent1@3\nt=2: agent0@1 agent1@3\nt=3: agent0@2 agent1@3\nplan passes: makespan 3, cost 4'
+idle2='idle.txt, horizon 2: 24 variables, 101 clauses, minisat: no plan'
+idle3='idle.txt, horizon 3: 32 variables, 136 clauses, minisat: a plan'
+shows 0 1 "$(after "$idle_plan" 24)" "$idle2"$'\n'"$idle3"$'\n'"$idle_rows" "$solve" "$idle"
+shows 0 1 "$idle_plan" $'idle.txt, horizon 3: 32 variables, 123 clauses, minisat\n'"$idle_rows" "$solve" "$idle" 3
+shows 0 1 'printf "SAT\n1 0\n" >$3; exit 10' $'lone.txt, horizon 0: 1 variables, 2 clauses, minisat: a plan\nwithout a destination: agent0\nt=0: agent0@0\nplan passes: makespan 0, cost 0' "$solve" lone.txt
 # 18,515 clauses of the base formula, and 1,056 of family H: at each time one vertex of 33 is left.
 clauses=19571
 shows 3 1 'echo UNSAT >$3; exit 20' "line32.txt, horizon 32: 1089 variables, $clauses clauses, minisat: no plan"$'\nno plan of makespan 0 to 32' "$solve" line32.txt
@@ -616,6 +694,8 @@ expect NotText 2 with "$plan" "$solve" nul.txt 1
 expect ByteOrderMark 2 with "$plan" "$solve" mark8.txt 1
 expect CarriageReturn 2 with "$plan" "$solve" mac.txt 1
 expect Keyword 2 with "$plan" "$solve" d1.txt 1
+expect GoalByte 2 with "$plan" "$solve" d12.txt 1
+expect GoalByte 2 with "$plan" "$solve" d12.txt
 expect NoFile 2 with "$plan" "$solve" absent.txt
 expect Keyword 2 with "$plan" "$solve" d1.txt
 description r.txt 'vertices 2' 'agent 0 1' 'agent 1 1'

@@ -28,6 +28,11 @@ CASES = [
     (5, instance(64, 1, [], [63], [0]), 0, 0),
     (5, instance(3, 3, PATH, [0, 1, 2], [2, 0, 1]), 0, 0),
     (5, instance(16, 16, [], range(16), range(16)), 0, 0),
+    # accepted with free agents: one, the first, all, on the largest map
+    (1, instance(2, 1, [(0, 1)], [0], [255]), 0, 0),
+    (1, instance(3, 2, PATH, [0, 1], [255, 2]), 0, 0),
+    (1, instance(3, 2, PATH, [0, 1], [255, 255]), 0, 0),
+    (32, instance(64, 16, ALL_64, range(16), [255] * 16), 0, 0),
     # 1: length below 4
     (1, b"", 1, 0),
     (1, b"\x02", 1, 1),
@@ -72,11 +77,16 @@ CASES = [
     (1, instance(3, 2, PATH, [0, 0], [1, 2]), 8, 9),
     (1, instance(3, 3, PATH, [2, 1, 2], [0, 1, 2]), 8, 10),
     (1, instance(3, 2, PATH, [255, 0], [3, 3]), 8, 8),
+    # 255 is no start, even of a free agent
+    (1, instance(3, 2, PATH, [255, 0], [255, 255]), 8, 8),
     # 9: the same of the goals, at 4 + 2e + k
     (1, instance(2, 1, [(0, 1)], [0], [2]), 9, 7),
     (1, instance(3, 2, PATH, [0, 1], [2, 2]), 9, 11),
     (1, instance(3, 2, PATH, [0, 1], [3, 2]), 9, 10),
     (33, instance(3, 3, PATH, [0, 1, 2], [0, 1, 0]), 9, 13),
+    # free agents are passed over: 254 is on no map, and a goal stands twice around one
+    (1, instance(3, 2, PATH, [0, 1], [255, 254]), 9, 11),
+    (1, instance(3, 3, PATH, [0, 1, 2], [1, 255, 1]), 9, 13),
     # 10: the horizon
     (32, PAIR, 0, 0),
     (33, PAIR, 10, 0),

@@ -2,7 +2,7 @@
 use mathlib.Core.Path.{_≡_, refl, sym, _∙_, ap, ap₂}
 use mathlib.Core.Logic.{_↔_, _≢_, _⊎_, inl, inr, ⊎-elim, by-cases, Iff·rfl}
 use mathlib.Core.List.{List, [], _∷_, _++_, append-assoc, cons≢nil}
-use mathlib.Core.Bool.{Bool}
+use mathlib.Core.Bool.{Bool, not}
 use Prim.Native.Nat.{ℕ, zero, suc, _≤_, _<_, _-_, _+_}
 use native.Mathlib.Numerals.{add-one}
 use native.Mathlib.Decide.{ℕ-discrete, decLt}
@@ -11,7 +11,7 @@ use lib.ListN.{length, take}
 use lib.Dec.{T, ltb, ltb→lt}
 use Rattle.lists.specs.Loop.{for, unless, all}
 use Rattle.lists.specs.Slice.{filled}
-use Rattle.lists.proofs.Tests.{and-iff}
+use Rattle.lists.proofs.Tests.{and-iff, not-iff}
 use Rattle.lists.proofs.Loops.{all-append, for-all, for-nil, for-split, unless-nil, unless-all, unless-one}
 use Rattle.lists.proofs.Slices.{take-filled}
 use Rattle.answers.specs.declared.Answer.{Answer}
@@ -154,6 +154,14 @@ unfolding decide
 decide-past p [] rs c h = inl tt
 decide-past p ([] ∷ qs) rs c h = decide-past p qs rs c h
 decide-past p ((r ∷ rs′) ∷ qs) rs c h = inr (and-iff (p r) _ .0 (and-iff (all p (r ∷ rs′)) _ .0 h .0) .0)
+
+-- an answer that none of the first questions gives comes from those behind them
+pub decide-behind : (p : Answer → Bool) (qs rs : List Question) (c : ℕ) → T (all (all (λ r. not (p r))) qs) → T (p (decide (qs ++ rs) c))
+    → T (all clear qs) × (decide (qs ++ rs) c ≡ decide rs c)
+decide-behind p qs rs c h o =
+    let yes : T (all clear qs) =
+    ⊎-elim (λ yes. yes) (λ other. absurd (not-iff (p (decide (qs ++ rs) c)) .0 other o)) (decide-past (λ r. not (p r)) qs rs c h) in
+    (yes, decide-after qs rs c yes)
 
 -- an accepted call's slice, and a refused one's
 module _ {A : Type 0} where

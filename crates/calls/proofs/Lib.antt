@@ -4,3 +4,4 @@ pub mod Plan
 pub mod Size
 pub mod Text
 pub mod Valuation
+pub mod Goals

@@ -7,11 +7,11 @@ use mathlib.Core.Bool.{Bool, not, _||_}
 use Prim.Native.Nat.{ℕ, suc, _<_}
 use lib.Dec.{T, ltb, eqb}
 use Rattle.lists.specs.Loop.{all}
-use Rattle.lists.proofs.Tests.{and-iff, not-iff}
+use Rattle.lists.proofs.Tests.{and-iff}
 use Rattle.answers.specs.declared.Answer.{Answer}
 use Rattle.answers.specs.Answers.{Question, refuse, decide, clear}
 use Rattle.answers.specs.Fault.{FirstFault}
-use Rattle.answers.proofs.Laws.{each-all, decide-after, decide-each, decide-past, decide-count}
+use Rattle.answers.proofs.Laws.{each-all, decide-each, decide-behind, decide-count}
 use Rattle.instance.specs.declared.Sizes.{Sizes}
 use Rattle.instance.specs.Instance.{Instance, adjacent}
 use Rattle.plan.specs.Plan.{Row, planRow, planIndex, condition1, condition2, Leaving, stays, exchanges, movesOn, occupantLeaves}
@@ -32,10 +32,7 @@ Others qs = T (all (all (λ r. not (occupied? (r .number)))) qs)
 -- so one of question 20's numbers comes from the questions behind them
 pub past : (qs rs : List Question) (c : ℕ) → Others qs → Occupied (decide (qs ++ rs) c)
     → T (all clear qs) × (decide (qs ++ rs) c ≡ decide rs c)
-past qs rs c h o =
-    let yes : T (all clear qs) =
-    ⊎-elim (λ yes. yes) (λ other. absurd (not-iff (occupied? (decide (qs ++ rs) c .number)) .0 other o)) (decide-past (λ r. not (occupied? (r .number))) qs rs c h) in
-    (yes, decide-after qs rs c yes)
+past qs rs c h o = decide-behind (λ r. occupied? (r .number)) qs rs c h o
 
 pub number-occupied : (w : Leaving) → T (occupied? (occupiedNumber w))
 unfolding occupiedNumber

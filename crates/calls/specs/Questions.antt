@@ -1,5 +1,6 @@
 -- The questions asked after 1 to 10: under each number, what is asked and the place that a no names.
 use mathlib.Core.List.{List, [], _∷_}
+use mathlib.Core.Bool.{_||_}
 use Prim.Native.Nat.{ℕ, suc, _+_}
 use lib.ListN.{length, getD}
 use lib.Dec.{leb, ltb, eqb}
@@ -7,7 +8,7 @@ use lib.IntN.{ℤ}
 use Rattle.lists.specs.Loop.{any}
 use Rattle.answers.specs.Answers.{Question, ask, askEach, refuse}
 use Rattle.instance.specs.declared.Sizes.{Sizes}
-use Rattle.instance.specs.Instance.{Instance, adjacent}
+use Rattle.instance.specs.Instance.{Instance, free, adjacent}
 use Rattle.distances.specs.Distance.{reachable}
 use Rattle.formula.specs.Formula.{Formula}
 use Rattle.plan.specs.Plan.{planBytes, planIndex, planRow, condition1, condition2, condition3, Leaving, stays, exchanges, movesOn, occupantLeaves}
@@ -72,9 +73,9 @@ module _ (I : Instance) (p : List ℕ) where
   abbrev pub question21 : ℕ → Question
   question21 t = askEach k (condition3 (planRow sizes p (suc t))) λ a. refuse 21 (planIndex sizes (suc t) a)
 
-  -- Is row m the goals?
+  -- Is row m the goals? Free agents are passed over.
   abbrev pub question22 : Question
-  question22 = askEach k (λ a. eqb (planRow sizes p m a) (goal a)) λ a. refuse 22 (planIndex sizes m a)
+  question22 = askEach k (λ a. free (goal a) || eqb (planRow sizes p m a) (goal a)) λ a. refuse 22 (planIndex sizes m a)
 
 -- of a formula f and a list of entries
 module _ (f : Formula) (entries : List ℤ) where
@@ -104,7 +105,7 @@ module _ (N : ℕ) (text : List ℕ) where
   abbrev pub question29 : Question
   question29 = askEach N (λ i. eqb (times (suc i) (given text)) 1) λ i. refuse 29 (suc i)
 
--- Can each goal be reached from its start? In the floor call only: of k agents with d a from start to goal, where `place` is the offset of
+-- Can each goal be reached from its start? In the floor call only: of k agents with d a from start to goal, 0 of a free agent, where `place` is the offset of
 -- the first goal.
 abbrev pub question30 : ℕ → (ℕ → ℕ) → ℕ → Question
 question30 k d place = askEach k (λ a. reachable (d a)) λ a. refuse 30 (place + a)

@@ -12,17 +12,19 @@ use Rattle.lists.proofs.Tests.{or-iff, not-iff, eqb-iff}
 use Rattle.lists.proofs.Sums.{greatest-le, greatest-one}
 use Rattle.answers.specs.Answers.{clear}
 use Rattle.answers.proofs.Laws.{decide-iff}
-use Rattle.instance.specs.Instance.{Instance, instance, agents, startOf, goalOf, adjacent, neighbourWords}
+use Rattle.instance.specs.Instance.{Instance, noGoal, HasGoal, instance, agents, startOf, goalOf, adjacent, neighbourWords}
 use Rattle.instance.specs.Questions.{question10, bytesQuestions, instanceQuestions}
-use Rattle.instance.proofs.Instance.{instance-iff, edges-known, endpoints, limits}
+use Rattle.instance.proofs.Goals.{goal-or-none}
+use Rattle.instance.proofs.Instance.{instance-iff, goals-counted, edges-known, endpoints, limits}
 use Rattle.instance.proofs.Neighbours.{joined-adjacent}
 use Rattle.distances.specs.Distance.{unreachable, reachable, further, distance, startToGoal, floor}
-use Rattle.distances.specs.Walk.{Shortest}
+use Rattle.distances.specs.Walk.{Shortest, Further}
 use Rattle.distances.proofs.Within.{below-is}
 use Rattle.distances.proofs.Walks.{shortest, mark-iff, further-walk, distance-back}
 use Rattle.distances.proofs.Table.{table-distance}
+use Rattle.distances.proofs.Goals.{to-goal-free, to-goal-has, further-goal}
 use Rattle.formula.specs.Formula.{formula}
-use Rattle.formula.specs.Pruned.{fromStart, pruned}
+use Rattle.formula.specs.Pruned.{fromStart, fromGoal, pruned}
 use Rattle.formula.proofs.Pruned.{pruned-clause-count, pruned-word-count, pruned-words-most}
 use Rattle.valuation.proofs.Pruned.{sat-pruned}
 use Rattle.calls.specs.Calls.{checkQuestions, checkAnswer, floorAnswer}
@@ -59,9 +61,10 @@ module _ (b : List ℕ) (m : ℕ) (ok : T (all clear (instanceQuestions b m))) w
         far = λ t a v l r i.
             let ends = endpoints b m ok in
             let x = further-walk I (edges-known b m ok) few (I .start a) v t (ends .startsInside a r) i in
-            let y = further-walk I (edges-known b m ok) few (I .goal a) v (m - t) (ends .goalsInside a r) i in (
-              (λ f. ⊎-elim (λ p. inl (x .0 p)) (λ p. inr (y .0 p)) (or-iff (further t (fromStart I a v)) _ .0 f)),
-              (λ f. or-iff (further t (fromStart I a v)) _ .1 (⊎-elim (λ p. inl (x .1 p)) (λ p. inr (y .1 p)) f)),
+            let y : (g : HasGoal (I .goal a)) → T (further (m - t) (distance I (I .goal a) v)) ↔ Further I (m - t) (I .goal a) v = λ g. further-walk I (edges-known b m ok) few (I .goal a) v (m - t) (ends .goalsInside a r g) i in
+            let z = further-goal (m - t) (I .goal a) (distance I (I .goal a) v) in (
+              (λ f. ⊎-elim (λ p. inl (x .0 p)) (λ p. let (g, o) = z .0 p in inr (g, y g .0 o)) (or-iff (further t (fromStart I a v)) (further (m - t) (fromGoal I a v)) .0 f)),
+              (λ f. or-iff (further t (fromStart I a v)) (further (m - t) (fromGoal I a v)) .1 (⊎-elim (λ p. inl (x .1 p)) (λ (g, p). inr (z .1 (g, y g .1 p))) f)),
             );
         variables = refl;
         valuations = λ es w.
@@ -69,15 +72,15 @@ module _ (b : List ℕ) (m : ℕ) (ok : T (all clear (instanceQuestions b m))) w
             let base = satisfies-mem (formula I) es in
             let more = satisfies-mem (pruned I) es in
             ((λ q. base .0 (same .0 (more .1 q))), (λ q. more .0 (same .1 (base .1 q))));
-        clauseTotal = pruned-clause-count I (omega arith);
-        wordTotal = pruned-word-count I (omega arith) (edges-known b m ok);
-        mostWords = omega (arith, pruned-word-count I (omega arith) (edges-known b m ok), pruned-words-most I (limits b m ok));
+        clauseTotal = pruned-clause-count I (omega arith) (goals-counted b m);
+        wordTotal = pruned-word-count I (omega arith) (edges-known b m ok) (goals-counted b m);
+        mostWords = omega (arith, pruned-word-count I (omega arith) (edges-known b m ok) (goals-counted b m), pruned-words-most I (limits b m ok));
         size = λ e.
             let c = size-call pruned b m in
-            (c .wordsCounted e ∙ pruned-word-count I (omega arith) (edges-known b m ok), c .clausesCounted e ∙ pruned-clause-count I (omega arith));
+            (c .wordsCounted e ∙ pruned-word-count I (omega arith) (edges-known b m ok) (goals-counted b m), c .clausesCounted e ∙ pruned-clause-count I (omega arith) (goals-counted b m));
       }
 
-  bytes-ok : T (all clear (bytesQuestions b))
+  pub bytes-ok : T (all clear (bytesQuestions b))
   unfolding instanceQuestions
   bytes-ok = all-append clear (bytesQuestions b) (question10 m ∷ []) .0 ok .0
 
@@ -95,25 +98,40 @@ module _ (b : List ℕ) where
   reached a = simp (not-iff, eqb-iff) Iff·rfl
 
   module _ (ok : T (all clear (instanceQuestions b 0))) where
-    walk : (a : ℕ) → a < agents b → T (reachable (startToGoal (instance b 0) a))
+    -- what is measured of an agent that has a goal is the distance
+    measured : (a : ℕ) → HasGoal (goalOf b a) → startToGoal (instance b 0) a ≡ distance (instance b 0) (startOf b a) (goalOf b a)
+    unfolding instance
+    measured a g = to-goal-has (goalOf b a) _ g
+
+    walk : (a : ℕ) → a < agents b → HasGoal (goalOf b a) → T (reachable (startToGoal (instance b 0) a))
         → Shortest (instance b 0) (startOf b a) (goalOf b a) (startToGoal (instance b 0) a)
     unfolding instance
-    walk a l t =
-        shortest (instance b 0) (edges-known b 0 ok) (few b 0 ok) _ _ (endpoints b 0 ok .startsInside a l) (endpoints b 0 ok .goalsInside a l)
-        (reached a .0 t)
+    walk a l g t =
+        rw (measured a g)
+        (shortest (instance b 0) (edges-known b 0 ok) (few b 0 ok) _ _ (endpoints b 0 ok .startsInside a l) (endpoints b 0 ok .goalsInside a l g)
+        (rw (measured a g) at (reached a .0 t)))
 
   greatest : floorAnswer b .number ≡ 0 → Greatest b (floorAnswer b .second)
   unfolding floor instance
   greatest e =
       let (ok, all′) = all-reached b e in
-      let (a, l, q) = greatest-one (agents b) (startToGoal (instance b 0)) (limits b 0 (bytes-clear b ok) .k-least) in
+      let d = startToGoal (instance b 0) in
+      let (a, l, q) = greatest-one (agents b) d (limits b 0 (bytes-clear b ok) .k-least) in
+      let least : (c : ℕ) → c < agents b → d c ≤ floorAnswer b .second = λ c l. rw (floor-count b e) (greatest-le (agents b) d c l) in
+      let witness : (c : ℕ) → c < agents b → HasGoal (goalOf b c) → d c ≡ floorAnswer b .second → Shortest (instance b 0) (startOf b c) (goalOf b c) (floorAnswer b .second) =
+      λ c l g z. subst (Shortest (instance b 0) (startOf b c) (goalOf b c)) z (walk (bytes-clear b ok) c l g (all′ c l)) in
       record {
-        each = λ a l. (
-          startToGoal (instance b 0) a,
-          rw (floor-count b e) (greatest-le (agents b) (startToGoal (instance b 0)) a l),
-          walk (bytes-clear b ok) a l (all′ a l),
-        );
-        one = (a, l, subst (Shortest (instance b 0) (startOf b a) (goalOf b a)) (q ∙ sym (floor-count b e)) (walk (bytes-clear b ok) a l (all′ a l)));
+        each = λ a l g. (d a, least a l, walk (bytes-clear b ok) a l g (all′ a l));
+        one =
+            ⊎-elim
+            (λ (c, o, g).
+            by-cases (ℕ-discrete (goalOf b a) noGoal)
+            (λ f.
+            let z : d a ≡ 0 = to-goal-free (goalOf b a) _ (eqb-iff _ noGoal .1 f) in
+            inl (c, o, g, witness c o g (omega (arith, least c o, q, floor-count b e))))
+            (λ g′. inl (a, l, g′, witness a l g′ (q ∙ sym (floor-count b e)))))
+            (λ none. inr (none, let z : d a ≡ 0 = to-goal-free (goalOf b a) _ (eqb-iff _ noGoal .1 (none a l)) in omega (arith, q, floor-count b e)))
+            (goal-or-none (agents b) (goalOf b));
       }
 
   cut : floorAnswer b .number ≡ 30 → (a : ℕ) × FirstUnreachable b (floorAnswer b .second) a
@@ -121,18 +139,18 @@ module _ (b : List ℕ) where
   cut e =
       let ok = bytes-clear b (past-bytes b e) in
       let ends = endpoints b 0 ok in
-      let (a, l, f, q) = first-cut b e in (
+      let (a, l, f, q) = first-cut b e in
+      let far : startToGoal (instance b 0) a ≡ unreachable =
+      by-cases (ℕ-discrete (startToGoal (instance b 0) a) unreachable) (λ z. z) (λ d. absurd (f .here l (reached a .1 d))) in
+      let g : HasGoal (goalOf b a) = λ z. let o = to-goal-free (goalOf b a) (distance (instance b 0) (startOf b a) (goalOf b a)) (eqb-iff _ noGoal .1 z) in omega (arith, far, o) in (
         a,
         record {
           agent = l;
+          has = g;
           cut =
-              mark-iff (instance b 0) (edges-known b 0 ok) (few b 0 ok) _ _ (ends .startsInside a l) (ends .goalsInside a l) .0
-              (by-cases (ℕ-discrete (startToGoal (instance b 0) a) unreachable) (λ z. z) (λ d. absurd (f .here l (reached a .1 d))));
-          lower = λ c o. (
-            _,
-            shortest (instance b 0) (edges-known b 0 ok) (few b 0 ok) _ _ (ends .startsInside c (omega arith)) (ends .goalsInside c (omega arith))
-                (reached c .0 (f .before c o)) .walk,
-          );
+              mark-iff (instance b 0) (edges-known b 0 ok) (few b 0 ok) _ _ (ends .startsInside a l) (ends .goalsInside a l g) .0
+              (sym (measured ok a g) ∙ far);
+          lower = λ c o h. (_, walk ok c (omega arith) h (f .before c o) .walk);
           offset = q;
         },
       )

@@ -2,7 +2,7 @@
 use mathlib.Core.Path.{refl}
 use Rattle.lists.specs.Slice.{filled}
 use Rattle.answers.specs.Answers.{ask, askEach, decide, lent, withClauses}
-use Rattle.instance.specs.Instance.{instance, adjacent}
+use Rattle.instance.specs.Instance.{goalCount, instance, adjacent}
 use Rattle.distances.specs.Distance.{within, below, floor}
 use Rattle.formula.specs.Variables.{index}
 use Rattle.formula.specs.Formula.{A, B, C, D, E, F, G, clauses, words}
@@ -17,5 +17,5 @@ use Rattle.calls.specs.Calls.{planQuestions, sizeAnswer, writeAnswer, writeSlic
 use Rattle.claims.specs.Examples.{Claim}
 
 pub examples : Claim
-unfolding filled ask askEach decide lent withClauses instance adjacent index A B C D E F G clauses words condition1 condition2 condition3 occupantLeaves rests restTime cost true? named namedPlan planValuation instanceQuestions occupiedNumber planQuestions sizeAnswer writeAnswer writeSlice clauseAnswer clauseSlice checkAnswer decodeAnswer decodeSlice encodeAnswer encodeSlice ahead behind token? value kind status? satisfiable? closing? complete? offset rightLine statusPlace literalsOf times inOrder textQuestions readAnswer readSlice within below floor H floorAnswer
+unfolding filled ask askEach decide lent withClauses goalCount instance adjacent index A B C D E F G clauses words condition1 condition2 condition3 occupantLeaves rests restTime cost true? named namedPlan planValuation instanceQuestions occupiedNumber planQuestions sizeAnswer writeAnswer writeSlice clauseAnswer clauseSlice checkAnswer decodeAnswer decodeSlice encodeAnswer encodeSlice ahead behind token? value kind status? satisfiable? closing? complete? offset rightLine statusPlace literalsOf times inOrder textQuestions readAnswer readSlice within below floor H floorAnswer
 examples = refl

@@ -21,7 +21,7 @@ use Rattle.plan.specs.Plan.{makespan}
 use Rattle.plan.specs.Passing.{Passes}
 use Rattle.instance.specs.Questions.{instanceQuestions}
 use Rattle.calls.specs.Calls.{clauseQuestions, clauseAnswer, checkAnswer, decodeQuestions, decodeAnswer, encodeQuestions, encodeAnswer, readQuestions, readAnswer}
-use Rattle.instance.proofs.Instance.{instance-iff, edges-known, limits}
+use Rattle.instance.proofs.Instance.{instance-iff, goals-counted, edges-known, limits}
 use Rattle.calls.proofs.Plan.{check-counts, check-iff}
 use Rattle.claims.proofs.Refusals.{numbered-clause, numbered-decode, numbered-encode, numbered-read}
 use Rattle.claims.proofs.Size.{size-call}
@@ -52,11 +52,11 @@ module _ (b : List ℕ) (m : ℕ) (ok : T (all clear (instanceQuestions b m))) w
   unfolding instance clauseAnswer checkAnswer decodeAnswer encodeAnswer readAnswer
   counts =
       record {
-        size = λ e. let c = size-call formula b m in (c .wordsCounted e ∙ word-count I (edges-known b m ok), c .clausesCounted e ∙ clause-count I);
+        size = λ e. let c = size-call formula b m in (c .wordsCounted e ∙ word-count I (edges-known b m ok) (goals-counted b m), c .clausesCounted e ∙ clause-count I (goals-counted b m));
         clause = λ c room e.
             let t = decide-iff (clauseQuestions b m c room) _ (numbered-clause b m c room) .0 e in
             let l = ltb-iff c (length (clauses I)) .0 (ask-nil _ _ .0 (next-clear b m _ _ t)) in (
-              rw (clause-count I) at l,
+              rw (clause-count I (goals-counted b m)) at l,
               counted (clauseQuestions b m c room) _ (numbered-clause b m c room) e ∙ length-append (getD (clauses I) c []) _ ∙ add-one _,
             );
         check = λ p e. check-counts b m p e .count;
@@ -73,12 +73,13 @@ formula-claim =
           let ok : T (all clear (instanceQuestions b m)) = instance-iff b m .0 e in
           let g = edges-known b m ok in
           let l = limits b m ok in
+          let w = goals-counted b m in
           record {
-            clausesByFamily = record { inA = count-A I; inB = count-B I; inC = count-C I; inD = count-D I; inE = count-E I; inF = count-F I; inG = count-G I };
-            wordsByFamily = record { inA = words-A I; inB = words-B I; inC = words-C I; inD = words-D I; inE = words-E I; inF = words-F I g; inG = words-G I };
-            clauseTotal = clause-count I;
-            wordTotal = word-count I g;
-            mostWords = rw (word-count I g) (words-most (I .sizes) l);
+            clausesByFamily = record { inA = count-A I; inB = count-B I w; inC = count-C I; inD = count-D I; inE = count-E I; inF = count-F I; inG = count-G I };
+            wordsByFamily = record { inA = words-A I; inB = words-B I w; inC = words-C I; inD = words-D I; inE = words-E I; inF = words-F I g; inG = words-G I };
+            clauseTotal = clause-count I w;
+            wordTotal = word-count I g w;
+            mostWords = rw (word-count I g w) (words-most (I .sizes) l);
             longest = clause-most I g (l .n-most);
           };
       check = λ b m e.

@@ -7,7 +7,7 @@ use lib.ListN.{length}
 use lib.Dec.{T}
 use lib.IntN.{ℤ}
 use Rattle.instance.specs.declared.Sizes.{Sizes}
-use Rattle.instance.specs.Instance.{Instance, instance, agents, goals, startOf, goalOf, neighbourWords}
+use Rattle.instance.specs.Instance.{Instance, noGoal, HasGoal, instance, agents, goals, startOf, goalOf, neighbourWords}
 use Rattle.instance.specs.Questions.{instanceAnswer}
 use Rattle.distances.specs.Distance.{unreachable, distance}
 use Rattle.distances.specs.Table.{cell, TableOf}
@@ -36,9 +36,10 @@ module _ (b : List ℕ) (m : ℕ) where
     pub table : (table : List (List ℕ)) → TableOf n (neighbourWords I) table → (v w : ℕ) → v < n → w < n → cell table v w ≡ distance I v w
 
   pub record Pruned : Type 0 where
-    -- H forbids an agent a vertex at a time exactly where no walk of so few edges leads there from its start, or from its goal
+    -- H forbids an agent a vertex at a time exactly where no walk of so few edges leads there from its start, or from its goal, if it
+    -- has one
     pub far : (t a v : ℕ) → t ≤ m → a < k → v < n
-        → T (tooFar m t (fromStart I a v) (fromGoal I a v)) ↔ (Further I t (I .start a) v ⊎ Further I (m - t) (I .goal a) v)
+        → T (tooFar m t (fromStart I a v) (fromGoal I a v)) ↔ (Further I t (I .start a) v ⊎ (HasGoal (I .goal a) × Further I (m - t) (I .goal a) v))
     -- the pruned formula has the variables of the base formula, and exactly its satisfying valuations
     pub variables : pruned I .variables ≡ formula I .variables
     pub valuations : (entries : List ℤ) → Valuation (formula I .variables) entries → Satisfies (pruned I) entries ↔ Satisfies (formula I) entries
@@ -51,16 +52,20 @@ module _ (b : List ℕ) (m : ℕ) where
     pub size : sizeAnswer pruned b m .number ≡ 0
         → (sizeAnswer pruned b m .second ≡ prunedWords I) × (sizeAnswer pruned b m .clauses ≡ prunedClauses I)
 
--- a shortest walk from an agent's start to its goal has at most x edges, and that of some agent has x
+-- of the agents that have a goal: a shortest walk from the start to the goal has at most x edges, and that of some agent has x; where no
+-- agent has a goal, x is 0
 pub record Greatest (b : List ℕ) (x : ℕ) : Type 0 where
-  pub each : (a : ℕ) → a < agents b → (d : ℕ) × (d ≤ x) × Shortest (instance b 0) (startOf b a) (goalOf b a) d
-  pub one : (a : ℕ) × (a < agents b) × Shortest (instance b 0) (startOf b a) (goalOf b a) x
+  pub each : (a : ℕ) → a < agents b → HasGoal (goalOf b a) → (d : ℕ) × (d ≤ x) × Shortest (instance b 0) (startOf b a) (goalOf b a) d
+  pub one : ((a : ℕ) × (a < agents b) × HasGoal (goalOf b a) × Shortest (instance b 0) (startOf b a) (goalOf b a) x)
+      ⊎ (((a : ℕ) → a < agents b → goalOf b a ≡ noGoal) × (x ≡ 0))
 
--- the goal of agent a cannot be reached from its start, but each lower agent's can, and the place is the offset of that goal
+-- agent a has a goal, which cannot be reached from its start, but that of each lower agent that has one can, and the place is the offset
+-- of that goal
 pub record FirstUnreachable (b : List ℕ) (place a : ℕ) : Type 0 where
   pub agent : a < agents b
+  pub has : HasGoal (goalOf b a)
   pub cut : Unreachable (instance b 0) (startOf b a) (goalOf b a)
-  pub lower : (c : ℕ) → c < a → (d : ℕ) × Walk (instance b 0) d (startOf b c) (goalOf b c)
+  pub lower : (c : ℕ) → c < a → HasGoal (goalOf b c) → (d : ℕ) × Walk (instance b 0) d (startOf b c) (goalOf b c)
   pub offset : place ≡ goals b + a
 
 pub record Claim : Type 0 where

@@ -20,9 +20,12 @@ pairWith s g = 2 ∷ 1 ∷ 1 ∷ 0 ∷ 0 ∷ 1 ∷ s ∷ g ∷ []
 abbrev pub pair : List ℕ
 pair = pairWith 0 1
 
--- the pair's edge, agents 0→1 and 1→0
+-- the pair's edge, agents from 0 and from 1; "exchange" is 0→1 and 1→0
+abbrev pub pairTwo : ℕ → ℕ → List ℕ
+pairTwo g₀ g₁ = 2 ∷ 2 ∷ 1 ∷ 0 ∷ 0 ∷ 1 ∷ 0 ∷ 1 ∷ g₀ ∷ g₁ ∷ []
+
 abbrev pub exchange : List ℕ
-exchange = 2 ∷ 2 ∷ 1 ∷ 0 ∷ 0 ∷ 1 ∷ 0 ∷ 1 ∷ 1 ∷ 0 ∷ []
+exchange = pairTwo 1 0
 
 -- the path, with edges 0-1 and 1-2, and one agent or two
 abbrev pub pathOne : ℕ → ℕ → List ℕ
@@ -31,9 +34,16 @@ pathOne s g = 3 ∷ 1 ∷ 2 ∷ 0 ∷ 0 ∷ 1 ∷ 1 ∷ 2 ∷ s ∷ g ∷ []
 abbrev pub pathTwo : ℕ → ℕ → ℕ → ℕ → List ℕ
 pathTwo s₀ s₁ g₀ g₁ = 3 ∷ 2 ∷ 2 ∷ 0 ∷ 0 ∷ 1 ∷ 1 ∷ 2 ∷ s₀ ∷ s₁ ∷ g₀ ∷ g₁ ∷ []
 
--- the path with an agent on each vertex, whose goals are their starts
+-- the path with an agent on each vertex; in "pathFull" their goals are their starts
+abbrev pub pathThree : ℕ → ℕ → ℕ → List ℕ
+pathThree g₀ g₁ g₂ = 3 ∷ 3 ∷ 2 ∷ 0 ∷ 0 ∷ 1 ∷ 1 ∷ 2 ∷ 0 ∷ 1 ∷ 2 ∷ g₀ ∷ g₁ ∷ g₂ ∷ []
+
 abbrev pub pathFull : List ℕ
-pathFull = 3 ∷ 3 ∷ 2 ∷ 0 ∷ 0 ∷ 1 ∷ 1 ∷ 2 ∷ 0 ∷ 1 ∷ 2 ∷ 0 ∷ 1 ∷ 2 ∷ []
+pathFull = pathThree 0 1 2
+
+-- no goal
+abbrev none : ℕ
+none = 255
 
 -- two vertices without an edge, one agent
 abbrev pub cutOne : ℕ → ℕ → List ℕ
@@ -102,11 +112,10 @@ abbrev unsized : ℕ → ℕ → Seen
 unsized number place = counts (record { number = number; second = place; clauses = 0 })
 
 -- ---- the words of formulas, a clause a line
-abbrev pairWords : List ℤ
-pairWords =
-    pos 1 ∷ pos 0
-    ∷ pos 4 ∷ pos 0
-    ∷ pos 1 ∷ pos 2 ∷ pos 0
+-- the pair's: behind A and B, and all
+abbrev pairBehind : List ℤ
+pairBehind =
+    pos 1 ∷ pos 2 ∷ pos 0
     ∷ pos 3 ∷ pos 4 ∷ pos 0
     ∷ neg 1 ∷ neg 2 ∷ pos 0
     ∷ neg 3 ∷ neg 4 ∷ pos 0
@@ -114,13 +123,13 @@ pairWords =
     ∷ neg 2 ∷ pos 4 ∷ pos 3 ∷ pos 0
     ∷ []
 
-abbrev exchangeWords : List ℤ
-exchangeWords =
-    pos 1 ∷ pos 0
-    ∷ pos 6 ∷ pos 0
-    ∷ pos 4 ∷ pos 0
-    ∷ pos 7 ∷ pos 0
-    ∷ pos 1 ∷ pos 2 ∷ pos 0
+abbrev pairWords : List ℤ
+pairWords = pos 1 ∷ pos 0 ∷ pos 4 ∷ pos 0 ∷ pairBehind
+
+-- the exchange's
+abbrev exchangeBehind : List ℤ
+exchangeBehind =
+    pos 1 ∷ pos 2 ∷ pos 0
     ∷ pos 5 ∷ pos 6 ∷ pos 0
     ∷ pos 3 ∷ pos 4 ∷ pos 0
     ∷ pos 7 ∷ pos 8 ∷ pos 0
@@ -141,6 +150,9 @@ exchangeWords =
     ∷ neg 1 ∷ neg 7 ∷ pos 0
     ∷ neg 2 ∷ neg 8 ∷ pos 0
     ∷ []
+
+abbrev exchangeWords : List ℤ
+exchangeWords = pos 1 ∷ pos 0 ∷ pos 6 ∷ pos 0 ∷ pos 4 ∷ pos 0 ∷ pos 7 ∷ pos 0 ∷ exchangeBehind
 
 -- the valuation of two agents on the path, a time a line: agent 0 waits at 0 and goes to 1, agent 1 goes from 1 to 2 and waits
 abbrev waitThenFollow : List ℤ
@@ -328,6 +340,43 @@ table =
     -- no step at all
     ∷ example pair 0 (check (0 ∷ [])) (answer (refuse 22 0))
     ∷ example (pairWith 0 0) 0 (check (0 ∷ [])) (answer (accept 0))
+    -- a free agent on the pair: B is empty; it may end anywhere on the map; family H forbids vertex 1 at time 0, by the start alone
+    ∷ example (pairWith 0 none) 1 size (sized 22 7)
+    ∷ example (pairWith 0 none) 1 (write (sevens 22)) (words (accept 0) (pos 1 ∷ pos 0 ∷ pairBehind))
+    ∷ example (pairWith 0 none) 1 prunedSize (sized 24 8)
+    ∷ example (pairWith 0 none) 1 (prune (sevens 24)) (words (accept 0) (pos 1 ∷ pos 0 ∷ pairBehind ++ neg 2 ∷ pos 0 ∷ []))
+    ∷ example (pairWith 0 none) 1 (check (0 ∷ 0 ∷ [])) (answer (accept 0))
+    ∷ example (pairWith 0 none) 1 (check (0 ∷ 1 ∷ [])) (answer (accept 1))
+    ∷ example (pairWith 0 none) 1 (check (0 ∷ none ∷ [])) (answer (refuse 17 1))
+    ∷ example (pairWith 0 none) 1 (encode (0 ∷ 0 ∷ []) (sevens 4)) (valuation (accept 4) (pos 1 ∷ neg 2 ∷ pos 3 ∷ neg 4 ∷ []))
+    ∷ example (pairWith 0 none) 1 (decode (pos 1 ∷ neg 2 ∷ pos 3 ∷ neg 4 ∷ []) lentPlan) (plan (accept 2) (0 ∷ 0 ∷ 7 ∷ 7 ∷ []))
+    -- its start is asked as any other's: by 8, by 18, by A
+    ∷ example (pairWith none none) 1 size (unsized 8 6)
+    ∷ example (pairWith 0 none) 1 (check (1 ∷ 1 ∷ [])) (answer (refuse 18 0))
+    ∷ example (pairWith 0 none) 1 (decode (neg 1 ∷ pos 2 ∷ neg 3 ∷ pos 4 ∷ []) lentPlan) (plan (refuse 24 0) lentPlan)
+    -- 254 is a goal, and on no map; a goal twice is refused with a free agent between, but no goal may stand twice
+    ∷ example (pairWith 0 254) 1 size (unsized 9 7)
+    ∷ example (pathThree 0 none 0) 1 size (unsized 9 13)
+    ∷ example (pathThree none none 0) 0 (check (0 ∷ 1 ∷ 2 ∷ [])) (answer (refuse 22 2))
+    -- agent 0 is free and agent 1 goes to 0: its clause of B is number 2, and C begins at 3
+    ∷ example (pairTwo none 0) 1 size (sized 70 23)
+    ∷ example (pairTwo none 0) 1 (write (sevens 70)) (words (accept 0) (pos 1 ∷ pos 0 ∷ pos 6 ∷ pos 0 ∷ pos 7 ∷ pos 0 ∷ exchangeBehind))
+    ∷ example (pairTwo none 0) 1 (clause 2 (sevens 2)) (words (accept 2) (pos 7 ∷ pos 0 ∷ []))
+    ∷ example (pairTwo none 0) 1 (clause 3 (sevens 3)) (words (accept 3) (pos 1 ∷ pos 2 ∷ pos 0 ∷ []))
+    ∷ example (pairTwo none 0) 1 (clause 23 (sevens 0)) (words (refuse 11 23) (sevens 0))
+    -- both stay: agent 1 is not at its goal
+    ∷ example (pairTwo none 0) 1 (check (0 ∷ 1 ∷ 0 ∷ 1 ∷ [])) (answer (refuse 22 3))
+    ∷ example (pairTwo none 0) 1 (decode (pos 1 ∷ neg 2 ∷ pos 3 ∷ neg 4 ∷ neg 5 ∷ pos 6 ∷ neg 7 ∷ pos 8 ∷ []) lentPlan) (plan (refuse 24 2) lentPlan)
+    -- with agent 1 free, or both, they may stay
+    ∷ example (pairTwo 0 none) 1 (check (0 ∷ 1 ∷ 0 ∷ 1 ∷ [])) (answer (accept 0))
+    ∷ example (pairTwo none none) 1 size (sized 68 22)
+    ∷ example (pairTwo none none) 1 (check (0 ∷ 1 ∷ 0 ∷ 1 ∷ [])) (answer (accept 0))
+    -- floors: a free agent counts 0, and gives no 30 where it is cut off
+    ∷ example (pairTwo none none) 0 floor (answer (accept 0))
+    ∷ example (pathTwo 0 1 none 2) 0 floor (answer (accept 1))
+    ∷ example (cutOne 0 none) 0 floor (answer (accept 0))
+    ∷ example (cutTwo none 0) 0 floor (answer (refuse 30 9))
+    ∷ example (cutTwo 1 none) 0 floor (answer (accept 1))
     ∷ []
 
 -- every row's call gives what the row says is seen

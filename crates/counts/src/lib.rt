@@ -97,7 +97,7 @@ pub fn clauses_by(s: Sizes) -> Families
     let agent_pairs = pair_count(k);
     Families {
         a: k,
-        b: k,
+        b: s.g,
         c: (m + 1) * k,
         d: (m + 1) * k * vertex_pairs,
         e: (m + 1) * n * agent_pairs,
@@ -121,9 +121,8 @@ pub fn word_count(s: Sizes) -> usize
     ensures { λ r. ⌜ r ≡ wordCount s ⌝ }
 {
     let c = clauses_by(s);
-    let units = 2 * s.k;
-    units
-        + units
+    2 * s.k
+        + 2 * s.g
         + (s.m + 1) * s.k * (s.n + 1)
         + 3 * c.d
         + 3 * c.e

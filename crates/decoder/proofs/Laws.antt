@@ -15,7 +15,7 @@ use Rattle.answers.specs.Answers.{Question, refuse, accept, decide, clear}
 use Rattle.answers.specs.Fault.{FirstFault}
 use Rattle.answers.proofs.Laws.{clear-iff, clear-second, numbered-second, decide-iff, ask-yes, ask-no, fault-pass, fault-stop, ask-nil, ask-all}
 use Rattle.instance.specs.declared.Sizes.{Sizes}
-use Rattle.instance.specs.Instance.{Instance}
+use Rattle.instance.specs.Instance.{Instance, Counted}
 use Rattle.formula.specs.Variables.{variableCount}
 use Rattle.formula.specs.Formula.{clauses, Formula, formula}
 use Rattle.formula.specs.Counts.{clauseCount}
@@ -86,9 +86,9 @@ module _ (I : Instance) (s : Sizes) (same : s ≡ I .sizes) (es : List ℤ) (siz
           pass-23 : asked ≡ decide (q24 ∷ []) bytes
           pass-23 = pass-15 ∙ fault-pass entries-fault (refuse 23) (q24 ∷ []) bytes (omega (arith, count-same))
 
-          module _ (r count : ℕ) (g : Fault es (clauses I) r) (ec : count ≡ clauseCount s) where
+          module _ (r count : ℕ) (g : Fault es (clauses I) r) (ec : count ≡ clauseCount s) (w : Counted I) where
             all-count : count ≡ length (clauses I)
-            all-count = ec ∙ ap clauseCount same ∙ sym (clause-count I)
+            all-count = ec ∙ ap clauseCount same ∙ sym (clause-count I w)
 
             pub stop-24 : r < count → refuse 24 r ≡ asked
             unfolding Fault

@@ -9,7 +9,7 @@ use Rattle.lists.specs.Loop.{each, all}
 use Rattle.lists.proofs.Tests.{and-iff}
 use Rattle.lists.proofs.Loops.{all-append, for-all, when-all, one-all, each-append}
 use Rattle.instance.specs.declared.Sizes.{Sizes}
-use Rattle.instance.specs.Instance.{Instance, adjacent}
+use Rattle.instance.specs.Instance.{Instance, adjacent, Counted}
 use Rattle.formula.specs.Variables.{variableCount}
 use Rattle.formula.specs.Formula.{Clause, A, B, C, D, E, F, G, clauses, formula, line, words}
 use Rattle.formula.specs.Counts.{clauseCount}
@@ -57,7 +57,7 @@ module _ (I : Instance) where
 
   literals-B : T (all (all literal?) (B (I .sizes) (I .goal)))
   unfolding B
-  literals-B = simp (for-all, one-all) (λ a l. tt)
+  literals-B = simp (for-all, when-all, one-all) (λ a l h. tt)
 
   literals-C : T (all (all literal?) (C (I .sizes)))
   unfolding C
@@ -91,6 +91,6 @@ module _ (I : Instance) where
   formula-lines = clauses-lines (clauses I) literals
 
   -- what the program prints: the header with the closed count, then the text of the words
-  pub formula-text : formulaText (formula I) ≡ headerText (variableCount sizes) (clauseCount sizes) ++ wordsText (words (formula I))
+  pub formula-text : Counted I → formulaText (formula I) ≡ headerText (variableCount sizes) (clauseCount sizes) ++ wordsText (words (formula I))
   unfolding formulaText
-  formula-text = ap₂ (λ (c : ℕ) (l : List ℕ). headerText (variableCount sizes) c ++ l) (clause-count I) (sym formula-lines)
+  formula-text w = ap₂ (λ (c : ℕ) (l : List ℕ). headerText (variableCount sizes) c ++ l) (clause-count I w) (sym formula-lines)

@@ -3,7 +3,7 @@ use mathlib.Core.Bool.{Bool, not, _&&_, _||_, cond}
 use Prim.Native.Nat.{ℕ, zero, suc}
 use lib.Dec.{ltb, eqb}
 use Rattle.lists.specs.Loop.{some, first, greatest}
-use Rattle.instance.specs.Instance.{Instance, adjacent}
+use Rattle.instance.specs.Instance.{Instance, free, adjacent}
 
 -- the mark for unreachable: no distance is 64 or more
 abbrev pub unreachable : ℕ
@@ -16,6 +16,10 @@ reachable d = not (eqb d unreachable)
 -- a vertex with this distance is further than t: unreachable counts as further
 abbrev pub further : ℕ → ℕ → Bool
 further t d = eqb d unreachable || ltb t d
+
+-- what is measured to or from this goal: d, and 0 where it is none
+abbrev pub toGoal : ℕ → ℕ → ℕ
+toGoal goal d = cond (free goal) 0 d
 
 -- On the vertices below n, where near u w says that w is a neighbour of u.
 module _ (n : ℕ) (near : ℕ → ℕ → Bool) where
@@ -36,9 +40,9 @@ module _ (I : Instance) where
   abbrev pub distance : ℕ → ℕ → ℕ
   distance = distanceIn (I .sizes .n) (adjacent I)
 
-  -- from each agent's start to its goal
+  -- from each agent's start to its goal; a free agent counts 0
   abbrev pub startToGoal : ℕ → ℕ
-  startToGoal a = distance (I .start a) (I .goal a)
+  startToGoal a = toGoal (I .goal a) (distance (I .start a) (I .goal a))
 
   -- the floor: the greatest of these
   unfoldable pub floor : ℕ

@@ -1,9 +1,10 @@
 -- The table of distances: a row of bytes for each vertex. It stands in the contracts of the functions that fill and read it.
 use mathlib.Core.Path.{_≡_}
 use mathlib.Core.List.{List, []}
+use mathlib.Core.Bool.{cond}
 use Prim.Native.Nat.{ℕ, _<_}
-use lib.ListN.{getD}
-use Rattle.instance.specs.Instance.{joined}
+use lib.ListN.{getD, replicate}
+use Rattle.instance.specs.Instance.{free, joined}
 use Rattle.distances.specs.Distance.{distanceIn}
 
 -- row v, column w
@@ -18,6 +19,17 @@ RowOf n near v row = (w : ℕ) → w < n → getD row w 0 ≡ distanceIn n (join
 abbrev pub TableOf : ℕ → List ℕ → List (List ℕ) → Type 0
 TableOf n near table = (v : ℕ) → v < n → RowOf n near v (getD table v [])
 
--- the distance of v from the vertex of agent a in an array of starts or goals
-abbrev pub byTable : List (List ℕ) → List ℕ → ℕ → ℕ → ℕ
-byTable table vertices a v = cell table (getD vertices a 0) v
+-- the row of agent a, of its vertex in an array of starts
+abbrev pub startRow : List (List ℕ) → List ℕ → ℕ → List ℕ
+startRow table starts a = getD table (getD starts a 0) []
+
+-- of its vertex in an array of goals; zeros where the agent is free
+abbrev pub goalRow : List (List ℕ) → List ℕ → ℕ → List ℕ
+goalRow table goals a = cond (free (getD goals a 0)) (replicate 64 0) (getD table (getD goals a 0) [])
+
+-- the distance of v from the start of agent a, and from its goal, by the table
+abbrev pub startBy : List (List ℕ) → List ℕ → ℕ → ℕ → ℕ
+startBy table starts a v = getD (startRow table starts a) v 0
+
+abbrev pub goalBy : List (List ℕ) → List ℕ → ℕ → ℕ → ℕ
+goalBy table goals a v = getD (goalRow table goals a) v 0

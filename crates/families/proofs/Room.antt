@@ -12,6 +12,7 @@ use Rattle.lists.proofs.Loops.{each-for, each-when}
 use Rattle.lists.proofs.Blocks.{for1-length}
 use Rattle.lists.proofs.Pairs.{pairs-most, above-length}
 use Rattle.instance.specs.declared.Sizes.{Sizes}
+use Rattle.instance.specs.Instance.{free}
 use Rattle.instance.specs.Limits.{Limits}
 use Rattle.formula.specs.Variables.{Literal, X, ¬X}
 use Rattle.formula.specs.Formula.{Clause, line, noTwo, somewhere, onward}
@@ -39,7 +40,10 @@ module _ (g : Given) (w : Limits (g .sizes)) where
   pub block-most : (j t x : ℕ) → length (each line (block g j t x)) ≤ 6048
   unfolding block
   block-most zero t x = omega arith
-  block-most (suc zero) t x = omega arith
+  block-most (suc zero) t x =
+      let has = not (free (g .goal x)) in
+      let c = (X (g .sizes) (g .sizes .m) x (g .goal x) ∷ []) ∷ [] in
+      rw (each-when line has c) (omega (arith, when-most has (each line c)))
   block-most (suc (suc zero)) t x = omega (arith, one-line (somewhere (g .sizes) t x), for1-length n (X (g .sizes) t x), w .n-most)
   block-most (suc (suc (suc zero))) t x = omega (arith, no-two n (¬X (g .sizes) t x), pairs-most n 64 (w .n-most))
   block-most (suc (suc (suc (suc zero)))) t x = omega (arith, no-two k (λ a. ¬X (g .sizes) t a x), pairs-most k 16 (w .k-most))

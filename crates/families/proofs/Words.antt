@@ -8,7 +8,7 @@ use lib.Dec.{T, leb, eqb}
 use lib.IntN.{ℤ, pos, natAbs}
 use lib.ListN.{length, getD}
 use Rattle.lists.specs.Loop.{all, each}
-use Rattle.lists.proofs.Tests.{and-iff, leb-iff, eqb-iff}
+use Rattle.lists.proofs.Tests.{and-iff, not-iff, leb-iff, eqb-iff}
 use Rattle.lists.proofs.Loops.{all-append, for-all, when-all, one-all}
 use Rattle.instance.specs.declared.Sizes.{Sizes}
 use Rattle.instance.specs.Ready.{Ready}
@@ -33,7 +33,7 @@ module _ (s : Sizes) (starts goals near : List ℕ) (r : Ready s starts goals ne
   literals : (j t x : ℕ) → t < times s j → x < blocksAt s j → T (all (all within) (block g j t x))
   unfolding block times blocksAt
   literals zero t x h l = simp (one-all, leb-iff) (most 0 x (g .start x) (omega arith) l (r .starts-below x l))
-  literals (suc zero) t x h l = simp (one-all, leb-iff) (most m x (g .goal x) (omega arith) l (r .goals-below x l))
+  literals (suc zero) t x h l = simp (when-all, one-all, not-iff, eqb-iff, leb-iff) (λ o. most m x (g .goal x) (omega arith) l (r .goals-below x l o))
   literals (suc (suc zero)) t x h l = simp (for-all, one-all, leb-iff) (λ v p. most t x v h l p)
   literals (suc (suc (suc zero))) t x h l =
       simp (for-all, when-all, one-all, and-iff, leb-iff) (λ v p w q o. (most t x v h l p, (most t x w h l q, tt)))

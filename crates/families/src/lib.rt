@@ -12,9 +12,9 @@ ghost use lib.ListN.{length, getD};
 ghost use Rattle.lists.specs.Loop.{for, each};
 ghost use Rattle.lists.specs.Slice.{Wrote};
 ghost use Rattle.formula.specs.Variables.{X, highest};
-ghost use Rattle.formula.specs.Formula.{line, noTwo, blockD, blockE, blockF, blockG};
+ghost use Rattle.formula.specs.Formula.{line, noTwo, blockB, blockD, blockE, blockF, blockG};
 ghost use Rattle.formula.specs.Blocks.{times, blocksAt, heldIn, block, family};
-ghost use Rattle.instance.specs.Instance.{joined};
+ghost use Rattle.instance.specs.Instance.{HasGoal, joined};
 ghost use Rattle.instance.specs.Limits.{Limits};
 ghost use Rattle.instance.specs.Ready.{Ready};
 ghost use Rattle.families.specs.Runs.{nots, above, apart};
@@ -33,7 +33,7 @@ fn vertex(x: u8) -> Vertex
     Vertex(x as usize)
 }
 
-// A and B, of agent a: it is at time t where its byte of a row says.
+// A, of agent a: it is at time t where its byte of a row says.
 fn write_unit(f: &mut [i32], s: Sizes, t: Step, row: &[u8; 16], a: Agent) -> usize
     requires { ⌜ Limits s ⌝ }
     requires { ⌜ (t .0 ≤ s .m) × (a .0 < s .k) × (getD (now row) (a .0) 0 < s .n) × (2 ≤ length (now f)) ⌝ }
@@ -42,6 +42,20 @@ fn write_unit(f: &mut [i32], s: Sizes, t: Step, row: &[u8; 16], a: Agent) -> usi
     let i = a.0;
     let v = vertex(row[i]);
     clauses::put_unit(f, clauses::positive(s, t, a, v))
+}
+
+// B, of agent a: at time m it is at its goal, if it has one.
+fn write_goal(f: &mut [i32], s: Sizes, goals: &[u8; 16], a: Agent) -> usize
+    requires { ⌜ Limits s ⌝ }
+    requires { ⌜ (a .0 < s .k) × (HasGoal (getD (now goals) (a .0) 0) → getD (now goals) (a .0) 0 < s .n) ⌝ }
+    requires { ⌜ length (each line (blockB s (λ i. getD (now goals) i 0) (a .0))) ≤ length (now f) ⌝ }
+    ensures { λ r. ⌜ Wrote (each line (blockB s (λ i. getD (now (goals .entry)) i 0) (a .0))) (now (f .entry)) (now (f .exit)) r ⌝ }
+{
+    let i = a.0;
+    if goals::is_free(goals[i]) {
+        return 0;
+    }
+    write_unit(f, s, Step(s.m), goals, a)
 }
 
 // The negation of variable i of a run.
@@ -185,7 +199,7 @@ pub fn write_block(
 {
     match which {
         0 => write_unit(f, s, Step(0), starts, Agent(x)),
-        1 => write_unit(f, s, Step(s.m), goals, Agent(x)),
+        1 => write_goal(f, s, goals, Agent(x)),
         2 => clauses::put_somewhere(f, s, Step(t), Agent(x)),
         3 => write_d(f, s, Step(t), Agent(x)),
         4 => write_e(f, s, Step(t), Vertex(x)),

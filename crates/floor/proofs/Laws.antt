@@ -22,6 +22,7 @@ use Rattle.instance.proofs.Accepted.{ready, shown, k-same, e-same}
 use Rattle.instance.proofs.Call.{passed, horizon, instance-refuses, call-answers}
 use Rattle.distances.specs.Distance.{unreachable, reachable, distance, startToGoal, floor}
 use Rattle.distances.proofs.Table.{table-distance}
+use Rattle.distances.proofs.Goals.{to-goal-ext}
 use Rattle.calls.specs.Calls.{goalQuestion, floorAnswer}
 use Rattle.calls.proofs.Floor.{floor-asks}
 use Rattle.distances.specs.Table.{TableOf}
@@ -85,8 +86,9 @@ module _ (b : List ℕ) (a : Answer) (c : Checked) (ea : a ≡ instanceAnswer b 
     at table t i l =
         let s = shown b c known in
         let r = ready b c known in
-        table-distance (instanceOf b c) (c .sizes) (c .near) (s .graph) table t (getD (c .starts) i 0) (getD (c .goals) i 0) (r .starts-below i l) (r .goals-below i l)
-        ∙ ap₂ (distance (instanceOf b c)) (s .starts-at i l) (s .goals-at i l)
+        to-goal-ext (getD (c .goals) i 0) (instanceOf b c .goal i) _ _ (s .goals-at i l) (λ g.
+        table-distance (instanceOf b c) (c .sizes) (c .near) (s .graph) table t (getD (c .starts) i 0) (getD (c .goals) i 0) (r .starts-below i l) (r .goals-below i l g)
+        ∙ ap₂ (distance (instanceOf b c)) (s .starts-at i l) (s .goals-at i l))
         ∙ ap (λ (I : Instance). startToGoal I i) (horizon b 0 a c ea ec o)
 
     pub answered : (table : List (List ℕ)) → TableOf (c .sizes .n) (c .near) table

@@ -2,7 +2,7 @@
 -- agents below k and vertices below n.
 use mathlib.Core.Path.{_≡_, refl, sym, _∙_, ap}
 use mathlib.Core.List.{[], _∷_}
-use mathlib.Core.Bool.{Bool}
+use mathlib.Core.Bool.{Bool, not}
 use mathlib.Core.Logic.{_≢_, by-cases}
 use Prim.Native.Nat.{ℕ, zero, suc, _*_, _/_, _%_, _≤_, _<_}
 use native.Mathlib.Decide.{ℕ-discrete}
@@ -11,7 +11,7 @@ use Rattle.lists.specs.Loop.{for, when}
 use Rattle.lists.proofs.Loops.{for-ext}
 use Rattle.lists.proofs.Blocks.{for-flat}
 use Rattle.instance.specs.declared.Sizes.{Sizes}
-use Rattle.instance.specs.Instance.{Instance}
+use Rattle.instance.specs.Instance.{Instance, free}
 use Rattle.formula.specs.Variables.{X, ¬X}
 use Rattle.formula.specs.Formula.{Clause, A, B, C, D, E, F, G, clauses}
 use Rattle.formula.specs.Blocks.{Given, given, family, times, blocksAt, block}
@@ -92,7 +92,7 @@ module _ (g h : Given) (e : Same g h) where
   family-again : (j : ℕ) → family g j ≡ family again j
   unfolding family A B F again
   family-again zero = for-ext k _ _ (λ a l. ap (λ (v : ℕ). (X (g .sizes) 0 a v ∷ []) ∷ []) (e .start a l))
-  family-again (suc zero) = for-ext k _ _ (λ a l. ap (λ (v : ℕ). (X (g .sizes) m a v ∷ []) ∷ []) (e .goal a l))
+  family-again (suc zero) = for-ext k _ _ (λ a l. ap (λ (v : ℕ). when (not (free v)) ((X (g .sizes) m a v ∷ []) ∷ [])) (e .goal a l))
   family-again (suc (suc zero)) = refl
   family-again (suc (suc (suc zero))) = refl
   family-again (suc (suc (suc (suc zero)))) = refl

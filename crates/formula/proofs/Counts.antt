@@ -1,18 +1,21 @@
 -- The closed counts are the lengths of the lists of clauses and words.
 use mathlib.Core.Path.{_≡_, refl, sym, _∙_, ap, ap₂}
 use mathlib.Core.List.{[], _∷_, append-nil}
+use mathlib.Core.Bool.{Bool, true, false, not}
 use Prim.Native.Nat.{ℕ, suc, _+_, _*_, _-_}
 use native.Mathlib.Nat.{mul-comm, mul-assoc, mul-left-comm}
 use native.Mathlib.Numerals.{add-one}
 use native.Mathlib.Omega.{arith}
 use lib.ListN.{length, length-append}
-use Rattle.lists.specs.Loop.{each, pairs}
+use lib.IntN.{ℤ}
+use Rattle.lists.specs.Loop.{when, each, pairs}
 use Rattle.lists.proofs.Loops.{for-length, each-for, each-append, each-when}
 use Rattle.lists.proofs.Blocks.{for1-length}
-use Rattle.lists.proofs.Sums.{for-sum, sum-ext, sum-const, sum-add, others-length}
+use Rattle.lists.proofs.Sums.{ind, for-sum, sum-ext, sum-const, sum-mul, sum-add, others-length}
 use Rattle.lists.proofs.Pairs.{above-length, above-one}
 use Rattle.instance.specs.declared.Sizes.{Sizes}
-use Rattle.instance.specs.Instance.{Instance, adjacent, degree, Edges}
+use Rattle.instance.specs.Instance.{Instance, free, adjacent, degree, Edges, Counted}
+use Rattle.instance.proofs.Goals.{goal-count, goals-once}
 use Rattle.instance.proofs.Graph.{for-neighbours, handshake}
 use Rattle.formula.specs.Variables.{X}
 use Rattle.formula.specs.Formula.{Clause, A, B, C, D, E, F, G, clauses, formula, line, words}
@@ -24,8 +27,13 @@ one-line c = ap length (append-nil (line c)) ∙ length-append c _ ∙ add-one (
 thrice : (x y z : ℕ) → x * (y * (z * 3)) ≡ 3 * (x * y * z)
 thrice x y z = simp (mul-comm, mul-left-comm)
 
+-- the words of a clause of one literal that stands where a test holds
+pub unit-words : (b : Bool) (x y : ℤ) → length (when b (x ∷ y ∷ [])) ≡ ind b * 2
+unit-words true x y = refl
+unit-words false x y = refl
+
 module _ (I : Instance) where
-  open Instance I using (sizes)
+  open Instance I using (sizes, goal)
   open Sizes sizes using (n, k, e, m)
 
   -- ---- clauses
@@ -33,9 +41,9 @@ module _ (I : Instance) where
   unfolding A
   count-A = for1-length k _
 
-  pub count-B : length (B (I .sizes) (I .goal)) ≡ clausesBy sizes .B
+  pub count-B : Counted I → length (B (I .sizes) (I .goal)) ≡ clausesBy sizes .B
   unfolding B
-  count-B = for1-length k _
+  count-B w = goals-once goal k (λ a. X sizes m a (goal a) ∷ []) ∙ sym w
 
   pub count-C : length (C (I .sizes)) ≡ clausesBy sizes .C
   unfolding C
@@ -63,18 +71,24 @@ module _ (I : Instance) where
       for-length m _ _ (λ t l. for-length k _ _ (λ a r. others-length k n a r _ (λ b h. for1-length n _)))
       ∙ sym (ap (λ x. x * n) (mul-assoc m k (k - 1)) ∙ mul-assoc m (k * (k - 1)) n ∙ ap (λ x. m * x) (mul-assoc k (k - 1) n))
 
-  pub clause-count : length (clauses I) ≡ clauseCount sizes
+  pub clause-count : Counted I → length (clauses I) ≡ clauseCount sizes
   unfolding clauses clauseCount
-  clause-count = simp (length-append, count-A, count-B, count-C, count-D, count-E, count-F, count-G)
+  clause-count w = simp (length-append, count-A, count-B w, count-C, count-D, count-E, count-F, count-G)
 
   -- ---- words
   pub words-A : length (each line (A (I .sizes) (I .start))) ≡ wordsBy sizes .A
   unfolding A
   words-A = simp each-for (for-length k 2 _ (λ a l. refl) ∙ mul-comm k 2)
 
-  pub words-B : length (each line (B (I .sizes) (I .goal))) ≡ wordsBy sizes .B
+  pub words-B : Counted I → length (each line (B (I .sizes) (I .goal))) ≡ wordsBy sizes .B
   unfolding B
-  words-B = simp each-for (for-length k 2 _ (λ a l. refl) ∙ mul-comm k 2)
+  words-B w =
+      simp (each-for, each-when)
+      (for-sum k _
+      ∙ sum-ext k _ (λ a. ind (not (free (goal a))) * 2) (λ a l. unit-words (not (free (goal a))) _ _)
+      ∙ sum-mul k (λ a. ind (not (free (goal a)))) 2
+      ∙ mul-comm _ 2
+      ∙ ap (λ x. 2 * x) (sym (w ∙ goal-count goal k)))
 
   pub words-C : length (each line (C (I .sizes))) ≡ wordsBy sizes .C
   unfolding C
@@ -118,11 +132,11 @@ module _ (I : Instance) where
       ∙ thrice m (k * (k - 1)) n
       ∙ ap (λ x. 3 * (x * n)) (sym (mul-assoc m k (k - 1))))
 
-  pub word-count : Edges I → length (words (formula I)) ≡ wordCount sizes
+  pub word-count : Edges I → Counted I → length (words (formula I)) ≡ wordCount sizes
   unfolding words clauses wordCount
-  word-count g = simp (each-append, length-append, words-A, words-B, words-C, words-D, words-E, words-F g, words-G)
+  word-count g w = simp (each-append, length-append, words-A, words-B w, words-C, words-D, words-E, words-F g, words-G)
 
--- the largest formula: 64 vertices, 16 agents, 2,016 edges, horizon 32
-pub largest : wordCount (record { n = 64; k = 16; e = 2016; m = 32 }) ≡ 7_625_296
+-- the largest formula: 64 vertices, 16 agents, 2,016 edges, horizon 32, every agent with a goal
+pub largest : wordCount (record { n = 64; k = 16; e = 2016; m = 32; g = 16 }) ≡ 7_625_296
 unfolding wordCount
 largest = refl

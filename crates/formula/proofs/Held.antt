@@ -11,7 +11,7 @@ use Rattle.instance.specs.declared.Checked.{Checked}
 use Rattle.instance.specs.Instance.{Instance}
 use Rattle.instance.specs.Shows.{Shows}
 use Rattle.instance.specs.Accepted.{Accepted, instanceOf}
-use Rattle.instance.proofs.Accepted.{sizes-same, graph, shown}
+use Rattle.instance.proofs.Accepted.{sizes-same, graph, counted-known, shown}
 use Rattle.formula.specs.Formula.{clauses, formula, line, words}
 use Rattle.formula.specs.Counts.{clauseCount, wordCount}
 use Rattle.formula.specs.Blocks.{Given, given, heldIn, held, family}
@@ -47,7 +47,7 @@ module _ (b : List ℕ) (c : Checked) (w : Accepted b c) where
   words-held = ap (each line) families-held
 
   pub clause-count-held : length (clauses J) ≡ clauseCount (c .sizes)
-  clause-count-held = clause-count J ∙ ap clauseCount (sym (sizes-same b c w))
+  clause-count-held = clause-count J (counted-known b c w) ∙ ap clauseCount (sym (sizes-same b c w))
 
   pub word-count-held : length (words (formula J)) ≡ wordCount (c .sizes)
-  word-count-held = word-count J (graph b c w) ∙ ap wordCount (sym (sizes-same b c w))
+  word-count-held = word-count J (graph b c w) (counted-known b c w) ∙ ap wordCount (sym (sizes-same b c w))

@@ -104,7 +104,7 @@ module _ (I : Instance) (g : Edges I) where
 
     short-B : T (all short (B (I .sizes) (I .goal)))
     unfolding B short
-    short-B = simp (for-all, one-all, leb-iff) (λ a l. omega arith)
+    short-B = simp (for-all, when-all, one-all, leb-iff) (λ a l h. omega arith)
 
     short-C : T (all short (C (I .sizes)))
     unfolding C short

@@ -1,22 +1,45 @@
--- Where a clause stands: at a place of a block, and at a place of its family, whose blocks all have the same number of clauses.
+-- Where a clause stands: at a place of a block, and at a place of its family, whose blocks, but in B, all have the same number of clauses.
 use mathlib.Core.Path.{_≡_, _∙_, ap}
 use mathlib.Core.Logic.{by-cases}
 use mathlib.Core.List.{List, [], _∷_}
 use Prim.Native.Nat.{ℕ, suc, _+_, _*_, _-_, _/_, _%_, _≤_, _<_}
 use native.Mathlib.Decide.{decLt}
 use native.Mathlib.Omega.{arith}
+use borrow.Author.Tests.{ne-eqb}
 use lib.ListN.{length, getD}
-use Rattle.lists.specs.Loop.{for, pairs}
+use Rattle.lists.specs.Loop.{for, sum, pairs}
 use Rattle.lists.specs.Pairs.{pairsBelow}
 use Rattle.lists.proofs.Loops.{for-length, for-getD}
 use Rattle.lists.proofs.Blocks.{for1-length, for1-getD, cell-at}
-use Rattle.lists.proofs.Sums.{others-length, others-below, others-above}
+use Rattle.lists.proofs.Sums.{for-sum, for-at, others-length, others-below, others-above}
 use Rattle.lists.proofs.Pairs.{above-one, above-getD}
 use Rattle.instance.specs.declared.Sizes.{Sizes}
-use Rattle.formula.specs.Variables.{Literal, ¬X}
-use Rattle.formula.specs.Formula.{Clause, noTwo, blockG}
+use Rattle.instance.specs.Instance.{noGoal, HasGoal, goalCount}
+use Rattle.instance.proofs.Goals.{goals-once}
+use Rattle.formula.specs.Variables.{Literal, X, ¬X}
+use Rattle.formula.specs.Formula.{Clause, B, noTwo, blockB, blockG}
 use Rattle.formula.specs.Blocks.{Given, family, times, blocksAt, block}
 use Rattle.formula.proofs.Blocks.{family-flat}
+
+-- B: the clause of an agent that has a goal stands behind those of the lower agents that have one
+module _ (s : Sizes) (goal : ℕ → ℕ) where
+  open Sizes s using (k, m)
+
+  abbrev atGoal : ℕ → List Clause
+  atGoal a = blockB s goal a
+
+  pub goals-before : (a : ℕ) → length (for a atGoal) ≡ goalCount a goal
+  goals-before a = goals-once goal a (λ i. X s m i (goal i) ∷ [])
+
+  pub goal-block : (a : ℕ) → HasGoal (goal a) → atGoal a ≡ (X s m a (goal a) ∷ []) ∷ []
+  goal-block a h = rw (ne-eqb (goal a) noGoal h)
+
+  pub goal-getD : (a : ℕ) → a < k → HasGoal (goal a) → getD (B s goal) (goalCount a goal) [] ≡ X s m a (goal a) ∷ []
+  unfolding B
+  goal-getD a l h =
+      let one : 0 < length (atGoal a) = rw (goal-block a h) (omega arith) in
+      let e : goalCount a goal ≡ sum a (λ i. length (atGoal i)) + 0 = omega (arith, goals-before a, for-sum a atGoal) in
+      ap (λ (x : ℕ). getD (for k atGoal) x []) e ∙ for-at k atGoal [] a 0 l one ∙ ap (λ (c : List Clause). getD c 0 []) (goal-block a h)
 
 -- D and E: the pair v < w stands behind the pairs that begin below v
 module _ (n : ℕ) (¬x : ℕ → Literal) where

@@ -2,26 +2,25 @@
 use mathlib.Core.Path.{_≡_, refl, sym, _∙_, ap, ap₂}
 use mathlib.Core.Logic.{_↔_, _⊎_, inl, inr, ⊎-elim, by-cases}
 use mathlib.Core.List.{[], _∷_}
-use mathlib.Core.Bool.{Bool, true, false, _||_}
+use mathlib.Core.Bool.{Bool, _||_}
 use Prim.Native.Nat.{ℕ, zero, suc, _+_, _*_, _-_, _≤_, _<_, min}
 use native.Mathlib.Nat.{le-refl, mul-comm, mul-assoc}
 use native.Mathlib.Decide.{decLt}
 use native.Mathlib.Omega.{arith}
 use lib.ListN.{length, length-append}
 use lib.Dec.{T, ltb, eqb}
-use lib.IntN.{ℤ}
 use Rattle.lists.specs.Loop.{when, each, sum}
 use Rattle.lists.proofs.Tests.{T-ext, or-iff, eqb-iff, ltb-iff}
 use Rattle.lists.proofs.Loops.{for-ext, each-for, each-when, each-append}
 use Rattle.lists.proofs.Sums.{ind, ind-yes, ind-no, for-sum, sum-ext, sum-mul, sum-swap, when-count, sum-below}
 use Rattle.instance.specs.declared.Sizes.{Sizes}
-use Rattle.instance.specs.Instance.{Instance, Edges}
+use Rattle.instance.specs.Instance.{Instance, Edges, Counted}
 use Rattle.instance.specs.Limits.{Limits}
 use Rattle.distances.specs.Distance.{unreachable, further}
 use Rattle.formula.specs.Variables.{variableCount, ¬X}
 use Rattle.formula.specs.Formula.{clauses, line, words}
 use Rattle.formula.specs.Pruned.{tooFar, H, countH, fromStart, fromGoal, pruned, prunedClauses, prunedWords}
-use Rattle.formula.proofs.Counts.{clause-count, word-count}
+use Rattle.formula.proofs.Counts.{unit-words, clause-count, word-count}
 use Rattle.formula.proofs.Limits.{words-most, variables-most}
 
 -- ---- one vertex: the first x times are too early, the last y too late
@@ -103,10 +102,6 @@ module _ (s : Sizes) (from to : ℕ → ℕ → ℕ) (h : s .m < unreachable) wh
       ∙ sum-ext (suc m) _ _ (λ t l. for-sum k _ ∙ sum-ext k _ _ (λ a r. when-count n (test t a) (λ v. ¬X s t a v ∷ [])))
       ∙ summed
 
-  two : (b : Bool) (x y : ℤ) → length (when b (x ∷ y ∷ [])) ≡ ind b * 2
-  two true x y = refl
-  two false x y = refl
-
   words-H : length (each line (H s from to)) ≡ 2 * countH s from to
   unfolding H
   words-H =
@@ -115,7 +110,7 @@ module _ (s : Sizes) (from to : ℕ → ℕ → ℕ) (h : s .m < unreachable) wh
       ∙ sum-ext (suc m) _ (λ t. (sum k λ a. sum n λ v. ind (test t a v)) * 2) (λ t l.
       for-sum k _
       ∙ sum-ext k _ (λ a. (sum n λ v. ind (test t a v)) * 2) (λ a r.
-      for-sum n _ ∙ sum-ext n _ (λ v. ind (test t a v) * 2) (λ v q. two (test t a v) _ _) ∙ sum-mul n (λ v. ind (test t a v)) 2)
+      for-sum n _ ∙ sum-ext n _ (λ v. ind (test t a v) * 2) (λ v q. unit-words (test t a v) _ _) ∙ sum-mul n (λ v. ind (test t a v)) 2)
       ∙ sum-mul k (λ a. sum n λ v. ind (test t a v)) 2)
       ∙ sum-mul (suc m) (λ t. sum k λ a. sum n λ v. ind (test t a v)) 2
       ∙ mul-comm _ 2
@@ -124,16 +119,16 @@ module _ (s : Sizes) (from to : ℕ → ℕ → ℕ) (h : s .m < unreachable) wh
 module _ (I : Instance) (h : I .sizes .m < unreachable) where
   open Instance I using (sizes)
 
-  pub pruned-clause-count : length (pruned I .clauses) ≡ prunedClauses I
+  pub pruned-clause-count : Counted I → length (pruned I .clauses) ≡ prunedClauses I
   unfolding prunedClauses
-  pruned-clause-count = length-append (clauses I) _ ∙ ap₂ _+_ (clause-count I) (count-H sizes (fromStart I) (fromGoal I) h)
+  pruned-clause-count w = length-append (clauses I) _ ∙ ap₂ _+_ (clause-count I w) (count-H sizes (fromStart I) (fromGoal I) h)
 
-  pub pruned-word-count : Edges I → length (words (pruned I)) ≡ prunedWords I
+  pub pruned-word-count : Edges I → Counted I → length (words (pruned I)) ≡ prunedWords I
   unfolding words prunedWords
-  pruned-word-count g =
+  pruned-word-count g w =
       ap length (each-append line (clauses I) _)
       ∙ length-append (each line (clauses I)) _
-      ∙ ap₂ _+_ (word-count I g) (words-H sizes (fromStart I) (fromGoal I) h)
+      ∙ ap₂ _+_ (word-count I g w) (words-H sizes (fromStart I) (fromGoal I) h)
 
 -- ---- distances that agree give the same family, and as many clauses
 module _ (s : Sizes) (from to from′ to′ : ℕ → ℕ → ℕ) where

@@ -17,13 +17,13 @@ abbrev pub total : Families → ℕ
 total c = c .A + c .B + c .C + c .D + c .E + c .F + c .G
 
 module _ (s : Sizes) where
-  open Sizes s using (n, k, e, m)
+  open Sizes s using (n, k, e, m, g)
 
   abbrev pub clausesBy : Families
   clausesBy =
       record {
         A = k;
-        B = k;
+        B = g;
         C = suc m * k;
         D = suc m * k * pairs n;
         E = suc m * n * pairs k;
@@ -36,7 +36,7 @@ module _ (s : Sizes) where
   wordsBy =
       record {
         A = 2 * k;
-        B = 2 * k;
+        B = 2 * g;
         C = suc m * k * (n + 1);
         D = 3 * clausesBy .D;
         E = 3 * clausesBy .E;

@@ -8,7 +8,7 @@ use lib.Dec.{ltb, eqb}
 use lib.IntN.{ℤ, pos}
 use Rattle.lists.specs.Loop.{for, when, each}
 use Rattle.instance.specs.declared.Sizes.{Sizes}
-use Rattle.instance.specs.Instance.{Instance, adjacent}
+use Rattle.instance.specs.Instance.{Instance, free, adjacent}
 use Rattle.formula.specs.Variables as variables
 use Rattle.formula.specs.Variables.{Literal, variableCount}
 
@@ -35,9 +35,9 @@ module _ (s : Sizes) where
   unfoldable pub A : (ℕ → ℕ) → List Clause
   A start = for k λ a. blockA start a
 
-  -- agent a is at its goal at time m
+  -- agent a is at its goal at time m, if it has one
   abbrev pub blockB : (ℕ → ℕ) → ℕ → List Clause
-  blockB goal a = (X m a (goal a) ∷ []) ∷ []
+  blockB goal a = when (not (free (goal a))) ((X m a (goal a) ∷ []) ∷ [])
 
   unfoldable pub B : (ℕ → ℕ) → List Clause
   B goal = for k λ a. blockB goal a

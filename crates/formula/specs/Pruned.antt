@@ -6,7 +6,7 @@ use Prim.Native.Nat.{ℕ, suc, _+_, _*_, _-_, min}
 use Rattle.lists.specs.Loop.{for, when, sum}
 use Rattle.instance.specs.declared.Sizes.{Sizes}
 use Rattle.instance.specs.Instance.{Instance}
-use Rattle.distances.specs.Distance.{further, distance}
+use Rattle.distances.specs.Distance.{further, toGoal, distance}
 use Rattle.formula.specs.Variables.{variableCount, ¬X}
 use Rattle.formula.specs.Formula.{Clause, Formula, clauses}
 use Rattle.formula.specs.Counts.{clauseCount, wordCount}
@@ -35,12 +35,12 @@ module _ (s : Sizes) where
 module _ (I : Instance) where
   open Instance I using (sizes, start, goal)
 
-  -- the distance of v from the start of agent a, and from its goal
+  -- the distance of v from the start of agent a, and from its goal; 0 of a free agent, which is further than no time
   abbrev pub fromStart : ℕ → ℕ → ℕ
   fromStart a v = distance I (start a) v
 
   abbrev pub fromGoal : ℕ → ℕ → ℕ
-  fromGoal a v = distance I (goal a) v
+  fromGoal a v = toGoal (goal a) (distance I (goal a) v)
 
   abbrev pub familyH : List Clause
   familyH = H sizes fromStart fromGoal

@@ -9,13 +9,14 @@ use Rattle.lists.specs.Slice.{filled}
 use Rattle.answers.proofs.Laws.{byNumber-accepted}
 use Rattle.instance.specs.declared.Sizes.{Sizes}
 use Rattle.instance.specs.declared.Checked.{Checked}
-use Rattle.instance.specs.Instance.{Instance, instance, checked, unchecked, forAgents, vertices, agents, edges, starts, goals, adjacent, neighbourWords, joined, Edges, Endpoints}
+use Rattle.instance.specs.Instance.{Instance, HasGoal, goalCount, instance, checked, unchecked, forAgents, vertices, agents, edges, starts, goals, adjacent, neighbourWords, joined, Edges, Endpoints, Counted}
 use Rattle.instance.specs.Limits.{Limits}
 use Rattle.instance.specs.Ready.{Ready}
 use Rattle.instance.specs.Shows.{Shows}
 use Rattle.instance.specs.Questions.{instanceAnswer, instanceChecked}
 use Rattle.instance.specs.Accepted.{Accepted, instanceOf}
-use Rattle.instance.proofs.Instance.{instance-iff, endpoints, edges-known, length-known, limits, agents-below}
+use Rattle.instance.proofs.Goals.{goal-count-ext}
+use Rattle.instance.proofs.Instance.{instance-iff, goals-counted, endpoints, edges-known, length-known, limits, agents-below}
 use Rattle.instance.proofs.Neighbours.{word-below, joined-adjacent}
 
 -- the instance check's answer and checked instance, where the number is 0
@@ -40,12 +41,20 @@ module _ (b : List ℕ) (offset : ℕ) (h : agents b ≤ 16) (l : offset + agent
   taken : length (take (agents b) (drop offset b)) ≡ agents b
   taken = length-take-le (agents b) (drop offset b) (simp length-drop (omega arith))
 
-  forAgents-at : (a : ℕ) → a < agents b → getD (forAgents b offset) a 0 ≡ getD b (offset + a) 0
+  pub forAgents-at : (a : ℕ) → a < agents b → getD (forAgents b offset) a 0 ≡ getD b (offset + a) 0
   unfolding forAgents filled
   forAgents-at a q =
       List·getD-append (take (agents b) (drop offset b)) _ 0 a (omega (arith, taken))
       ∙ getD-take (agents b) (drop offset b) a 0 q
       ∙ getD-drop offset b a 0
+
+-- parts that are ready show an instance whose agents with a goal are counted
+pub shown-counted : (I : Instance) (s : Sizes) (starts goals near : List ℕ) → Shows I s starts goals near → Ready s starts goals near → Counted I
+shown-counted I s starts goals near g r =
+    sym (ap (λ (z : Sizes). z .g) (g .graph .sizes))
+    ∙ r .counted
+    ∙ goal-count-ext (s .k) _ (I .goal) (g .goals-at)
+    ∙ ap (λ (z : Sizes). goalCount (z .k) (I .goal)) (g .graph .sizes)
 
 module _ (b : List ℕ) (c : Checked) (w : Accepted b c) where
   abbrev I : Instance
@@ -104,10 +113,21 @@ module _ (b : List ℕ) (c : Checked) (w : Accepted b c) where
   starts-inside a l =
       rw (start-at a l, sizes-same) (endpoints-known .startsInside a (subst (λ (s : Sizes). a < s .k) sizes-same l))
 
-  goals-inside : (a : ℕ) → a < c .sizes .k → getD (c .goals) a 0 < c .sizes .n
+  goals-inside : (a : ℕ) → a < c .sizes .k → HasGoal (getD (c .goals) a 0) → getD (c .goals) a 0 < c .sizes .n
   unfolding instance
   goals-inside a l =
       rw (goal-at a l, sizes-same) (endpoints-known .goalsInside a (subst (λ (s : Sizes). a < s .k) sizes-same l))
+
+  -- those that have a goal are counted
+  pub counted-known : Counted I
+  counted-known = goals-counted b (c .sizes .m)
+
+  counted-held : c .sizes .g ≡ goalCount (c .sizes .k) (λ a. getD (c .goals) a 0)
+  counted-held =
+      ap (λ (s : Sizes). s .g) sizes-same
+      ∙ counted-known
+      ∙ ap (λ (s : Sizes). goalCount (s .k) (I .goal)) (sym sizes-same)
+      ∙ sym (goal-count-ext (c .sizes .k) _ (I .goal) goal-at)
 
   -- the words mean the graph
   near-same : c .near ≡ neighbourWords I
@@ -129,5 +149,6 @@ module _ (b : List ℕ) (c : Checked) (w : Accepted b c) where
         limits = limits-known;
         starts-below = starts-inside;
         goals-below = goals-inside;
+        counted = counted-held;
         words-below = λ v l. rw near-same (subst (λ (s : Sizes). getD (neighbourWords I) v 0 < 2 ^ s .n) (sym sizes-same) (word-below I v));
       }

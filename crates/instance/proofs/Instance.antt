@@ -1,5 +1,5 @@
 -- What an accepted instance and horizon are known to have.
-use mathlib.Core.Path.{_≡_, sym, _∙_, ap}
+use mathlib.Core.Path.{_≡_, refl, sym, _∙_, ap}
 use mathlib.Core.Logic.{_↔_, _≢_, inl, inr, ⊎-elim}
 use mathlib.Core.List.{List, _++_}
 use Prim.Native.Nat.{ℕ, suc, _+_, _*_, _-_, _≤_}
@@ -8,13 +8,14 @@ use native.Mathlib.Omega.{arith}
 use lib.ListN.{length}
 use lib.Dec.{T, ltb}
 use Rattle.lists.specs.Loop.{all}
-use Rattle.lists.proofs.Tests.{and-iff, or-iff, not-iff, eqb-iff, ltb-iff, leb-iff, every-iff}
+use Rattle.lists.proofs.Tests.{and-iff, or-iff, or-imp, not-iff, eqb-iff, ltb-iff, leb-iff, every-iff}
 use Rattle.answers.specs.declared.Answer.{Answer}
 use Rattle.answers.specs.Answers.{Question, decide, clear}
 use Rattle.answers.proofs.Laws.{numbered, clear-iff, each-all, each-nil, decide-iff, decide-after, decide-refused, ask-nil, ask-all}
-use Rattle.instance.specs.Instance.{instance, vertices, agents, edges, lowEnd, Edges, Endpoints}
+use Rattle.instance.specs.Instance.{instance, vertices, agents, edges, lowEnd, goalOf, Edges, Endpoints, Counted}
 use Rattle.instance.specs.Limits.{Limits}
 use Rattle.instance.specs.Questions.{instanceQuestions, instanceAnswer}
+use Rattle.instance.proofs.Goals.{goal-count-most}
 
 module _ (b : List ℕ) (m : ℕ) where
   pub numbered-instance : T (all numbered (instanceQuestions b m))
@@ -22,6 +23,10 @@ module _ (b : List ℕ) (m : ℕ) where
   numbered-instance =
       simp (and-iff, each-all, ask-all)
       ((λ f. tt), ((λ f. tt), ((λ f. tt), ((λ f. tt), ((λ f. tt), ((λ j l f. tt), ((λ j l f. tt), ((λ a l f. tt), ((λ a l f. tt), ((λ f. tt), tt))))))))))
+
+  pub goals-counted : Counted (instance b m)
+  unfolding instance
+  goals-counted = refl
 
   -- questions 1 to 10 are all answered yes exactly where the number is 0
   pub instance-iff : (instanceAnswer b m .number ≡ 0) ↔ T (all clear (instanceQuestions b m))
@@ -43,11 +48,11 @@ module _ (b : List ℕ) (m : ℕ) where
     pub endpoints : Endpoints (instance b m)
     unfolding instanceQuestions instance
     endpoints =
-        let h = simp (and-iff, clear-iff, each-nil, ask-nil, every-iff, not-iff, eqb-iff, ltb-iff) at ok in
+        let h = simp (and-iff, or-imp, clear-iff, each-nil, ask-nil, every-iff, not-iff, eqb-iff, ltb-iff) at ok in
         record {
           startsInside = λ a l. h .1 .1 .1 .1 .1 .1 .1 .0 a l .0;
           startsApart = λ a l. h .1 .1 .1 .1 .1 .1 .1 .0 a l .1;
-          goalsInside = λ a l. h .1 .1 .1 .1 .1 .1 .1 .1 .0 a l .0;
+          goalsInside = λ a l g. h .1 .1 .1 .1 .1 .1 .1 .1 .0 a l g .0;
         }
 
     pub edges-known : Edges (instance b m)
@@ -82,6 +87,7 @@ module _ (b : List ℕ) (m : ℕ) where
           k-most = h .1 .1 .0 .0 .1;
           e-most = omega (arith, h .1 .1 .1 .0, q);
           m-most = h .1 .1 .1 .1 .1 .1 .1 .1 .1 .0;
+          g-most = goal-count-most (goalOf b) (agents b);
         }
 
     pub agents-below : agents b ≤ vertices b

@@ -1,3 +1,4 @@
+pub mod Goals
 pub mod Graph
 pub mod Neighbours
 pub mod Instance

@@ -2,7 +2,7 @@
 use mathlib.Core.Path.{_≡_}
 use mathlib.Core.Logic.{_⊎_, _≢_}
 use mathlib.Core.List.{List, [], _∷_}
-use mathlib.Core.Bool.{Bool, _&&_, _||_}
+use mathlib.Core.Bool.{Bool, not, _&&_, _||_}
 use Prim.Native.Nat.{ℕ, suc, _+_, _*_, _<_}
 use lib.ListN.{length, getD, take, drop, replicate}
 use lib.Dec.{eqb}
@@ -12,7 +12,25 @@ use Rattle.bits.specs.Bits.{set?, word}
 use Rattle.instance.specs.declared.Sizes.{Sizes}
 use Rattle.instance.specs.declared.Checked.{Checked}
 
--- The sizes n, k, e and the horizon m; the low and the high end of edge j; the start and the goal of agent a.
+-- A goal byte of 255 means no goal.
+abbrev pub noGoal : ℕ
+noGoal = 255
+
+-- an agent with this goal byte is free, and as a proposition that it has a goal
+abbrev pub free : ℕ → Bool
+free goal = eqb goal noGoal
+
+abbrev pub HasGoal : ℕ → Type 0
+HasGoal goal = goal ≢ noGoal
+
+-- the agents that have a goal, of k with these goal bytes, in their order; and how many they are
+abbrev pub withGoal : ℕ → (ℕ → ℕ) → List ℕ
+withGoal k goal = for k λ a. when (not (free (goal a))) (a ∷ [])
+
+unfoldable pub goalCount : ℕ → (ℕ → ℕ) → ℕ
+goalCount k goal = length (withGoal k goal)
+
+-- The sizes n, k, e, the horizon m, and the number g of agents that have a goal; the low and the high end of edge j; the start and the goal of agent a.
 pub record Instance : Type 0 where
   pub sizes : Sizes
   pub low : ℕ → ℕ
@@ -61,7 +79,7 @@ module _ (b : List ℕ) where
   unfoldable pub instance : ℕ → Instance
   instance m =
       record {
-        sizes = record { n = vertices; k = agents; e = edges; m = m };
+        sizes = record { n = vertices; k = agents; e = edges; m = m; g = goalCount agents goalOf };
         low = lowEnd;
         high = highEnd;
         start = startOf;
@@ -70,7 +88,7 @@ module _ (b : List ℕ) where
 
 module _ (I : Instance) where
   open Instance I using (sizes, low, high, start, goal)
-  open Sizes sizes using (n, k, e)
+  open Sizes sizes using (n, k, e, g)
 
   -- edge j has the ends v and w, in this order or the other
   abbrev pub joins : ℕ → ℕ → ℕ → Bool
@@ -100,11 +118,15 @@ module _ (I : Instance) where
     pub ends : (j : ℕ) → j < e → (low j < high j) × (high j < n)
     pub order : (i : ℕ) → suc i < e → (low i < low (suc i)) ⊎ ((low i ≡ low (suc i)) × (high i < high (suc i)))
 
-  -- what questions 8 and 9 say of the starts and the goals; that the goals differ is not needed
+  -- what questions 8 and 9 say of the starts and of the goals there are; that the goals differ is not needed
   pub record Endpoints : Type 0 where
     pub startsInside : (a : ℕ) → a < k → start a < n
     pub startsApart : (a : ℕ) → a < k → (b : ℕ) → b < a → start b ≢ start a
-    pub goalsInside : (a : ℕ) → a < k → goal a < n
+    pub goalsInside : (a : ℕ) → a < k → HasGoal (goal a) → goal a < n
+
+  -- g is the number of the agents that have a goal
+  abbrev pub Counted : Type 0
+  Counted = g ≡ goalCount k goal
 
 -- bit w of word v is set
 abbrev pub joined : List ℕ → ℕ → ℕ → Bool
@@ -129,7 +151,7 @@ module _ (b : List ℕ) where
 abbrev pub unchecked : Checked
 unchecked =
     record {
-      sizes = record { n = 0; k = 0; e = 0; m = 0 };
+      sizes = record { n = 0; k = 0; e = 0; m = 0; g = 0 };
       starts = replicate 16 0;
       goals = replicate 16 0;
       near = replicate 64 0;

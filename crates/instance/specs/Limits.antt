@@ -9,3 +9,4 @@ pub record Limits (s : Sizes) : Type 0 where
   pub k-most : s .k ≤ 16
   pub e-most : s .e ≤ 2016
   pub m-most : s .m ≤ 32
+  pub g-most : s .g ≤ s .k

@@ -9,7 +9,7 @@ use Rattle.lists.specs.Loop.{pairs, unlikeEarlier}
 use Rattle.answers.specs.declared.Answer.{Answer}
 use Rattle.answers.specs.Answers.{Question, ask, askEach, refuse, decide, byNumber}
 use Rattle.instance.specs.declared.Checked.{Checked}
-use Rattle.instance.specs.Instance.{vertices, agents, edges, lows, starts, goals, lowEnd, highEnd, startOf, goalOf, checked, unchecked}
+use Rattle.instance.specs.Instance.{free, vertices, agents, edges, lows, starts, goals, lowEnd, highEnd, startOf, goalOf, checked, unchecked}
 
 -- The tests that are asked of several items.
 module _ (b : List ℕ) where
@@ -24,6 +24,10 @@ module _ (b : List ℕ) where
   -- f a is below n and unlike f 0, .., f (a - 1)
   abbrev pub newVertex : (ℕ → ℕ) → ℕ → Bool
   newVertex f a = ltb (f a) (vertices b) && unlikeEarlier f a
+
+  -- agent a is free, or its goal is such a vertex
+  abbrev pub newGoal : ℕ → Bool
+  newGoal a = free (goalOf b a) || newVertex (goalOf b) a
 
 module _ (b : List ℕ) where
   -- Has the instance 4 bytes or more?
@@ -58,9 +62,9 @@ module _ (b : List ℕ) where
   abbrev pub question8 : Question
   question8 = askEach (agents b) (newVertex b (startOf b)) λ a. refuse 8 (starts b + a)
 
-  -- Is each goal below n and unlike earlier goals?
+  -- Is each goal below n and unlike earlier goals? Free agents are passed over.
   abbrev pub question9 : Question
-  question9 = askEach (agents b) (newVertex b (goalOf b)) λ a. refuse 9 (goals b + a)
+  question9 = askEach (agents b) (newGoal b) λ a. refuse 9 (goals b + a)
 
 -- Is m at most 32?
 abbrev pub question10 : ℕ → Question

@@ -1,14 +1,15 @@
 // The instance as it travels after the check.
 
-// Vertices, agents, edges, and the horizon that was given beside the instance.
+// Vertices, agents, edges, the horizon that was given beside the instance, and how many agents have a goal.
 pub struct Sizes {
     pub n: usize,
     pub k: usize,
     pub e: usize,
     pub m: usize,
+    pub g: usize,
 }
 
-// The checked instance. Starts and goals are in arrays for 16 agents, 0 beyond agent k - 1. The neighbours are words, one for each of
+// The checked instance. Starts and goals are in arrays for 16 agents, 0 beyond agent k - 1; the goal of a free agent is 255. The neighbours are words, one for each of
 // 64 vertices: bit w of word v is set where w is a neighbour of v.
 pub struct Checked {
     pub sizes: Sizes,

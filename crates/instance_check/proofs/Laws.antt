@@ -2,12 +2,12 @@
 use mathlib.Core.Path.{_≡_, refl, sym, _∙_, ap}
 use mathlib.Core.Logic.{_≢_, by-cases}
 use mathlib.Core.List.{List, [], _∷_, _++_}
-use mathlib.Core.Bool.{Bool, true, false, not, _&&_, and-true, and-false}
+use mathlib.Core.Bool.{Bool, true, false, not, _&&_, _||_, and-true, and-false}
 use Prim.Native.Nat.{ℕ, zero, suc, _+_, _-_, _*_, _≤_, _<_}
 use native.Mathlib.Decide.{ℕ-discrete, decLt}
 use native.Mathlib.Numerals.{add-one}
 use native.Mathlib.Omega.{arith}
-use borrow.Author.Tests.{le-leb, lt-leb, eq-eqb, ne-eqb}
+use borrow.Author.Tests.{le-leb, lt-leb, le-ltb, eq-eqb, ne-eqb}
 use lib.ListN.{length, getD, take, drop, set, replicate, length-drop}
 use lib.Seq.{take-suc, getD-drop, length-take-le, getD-set-same, getD-set-other}
 use lib.Dec.{T, ltb, eqb}
@@ -22,8 +22,10 @@ use Rattle.answers.proofs.Faults.{holds, fails}
 use Rattle.answers.proofs.Laws.{clear-iff, decide-iff, decide-front, decide-after, decide-pass, fault-pass, fault-stop, byNumber-accepted, byNumber-refused, ask-nil, ask-all}
 use Rattle.instance.specs.declared.Sizes.{Sizes}
 use Rattle.instance.specs.declared.Checked.{Checked}
-use Rattle.instance.specs.Instance.{vertices, agents, edges, instance, neighbourWords, forAgents, checked, unchecked, Edges}
-use Rattle.instance.proofs.Instance.{instance-iff, edges-known}
+use Rattle.instance.specs.Instance.{noGoal, free, goalCount, vertices, agents, edges, goals, goalOf, instance, neighbourWords, forAgents, checked, unchecked, Edges}
+use Rattle.instance.proofs.Goals.{goal-count-ext}
+use Rattle.instance.proofs.Instance.{instance-iff, edges-known, length-known, limits}
+use Rattle.instance.proofs.Accepted.{forAgents-at}
 use Rattle.instance.specs.Questions.{question2, question3, question4, question5, question6, question7, question8, question9, question10, properEdge, laterEdge, newVertex, instanceQuestions, instanceAnswer, instanceChecked}
 use Rattle.instance_check.specs.declared.Inspection.{Inspection}
 use Rattle.instance_check.specs.Read.{Read}
@@ -37,9 +39,9 @@ filled-more b l row from i er hs hl =
     rw (add-one, take-suc (drop from b) i 0 h, getD-drop) in
     rw (er, t) (filled-set (take i (drop from b)) l i (getD b (from + i) 0) 0 (length-take-le i _ (omega arith)) hl)
 
--- ---- the vertices seen so far: f 0, .., f (a - 1)
+-- ---- the vertices seen so far: f 0, .., f (a - 1), but for goals that are none
 abbrev pub Seen : (ℕ → ℕ) → ℕ → List Bool → Type 0
-Seen f a seen = (v : ℕ) → not (getD seen v false) ≡ every a (λ c. not (eqb (f c) v))
+Seen f a seen = (v : ℕ) → v < 64 → not (getD seen v false) ≡ every a (λ c. not (eqb (f c) v))
 
 unmarked : (n v : ℕ) → getD (replicate n false) v false ≡ false
 unmarked zero v = refl
@@ -47,18 +49,26 @@ unmarked (suc n) zero = refl
 unmarked (suc n) (suc v) = unmarked n v
 
 pub seen-none : (f : ℕ → ℕ) → Seen f 0 (replicate 64 false)
-seen-none f v = rw (unmarked 64 v)
+seen-none f v l = rw (unmarked 64 v)
 
 module _ (f : ℕ → ℕ) (a x : ℕ) (seen : List Bool) (e : x ≡ f a) (h : Seen f a seen) where
   pub seen-more : x < length seen → Seen f (a + 1) (set seen x true)
-  seen-more l v =
+  seen-more l v q =
       rw add-one
       (by-cases (ℕ-discrete v x)
       (λ p. rw (p, getD-set-same seen x true false l, eq-eqb (f a) x (sym e), and-false))
-      (λ d. rw (getD-set-other seen x v true false d, h v, ne-eqb (f a) v (λ q. d (omega arith)), and-true)))
+      (λ d. rw (getD-set-other seen x v true false d, h v q, ne-eqb (f a) v (λ z. d (omega arith)), and-true)))
 
-  pub seen-test : (b : List ℕ) → ltb x (vertices b) && not (getD seen x false) ≡ newVertex b f a
-  seen-test b = rw (e, h (f a))
+  pub seen-free : T (free x) → Seen f (a + 1) seen
+  seen-free t v q =
+      let o = eqb-iff x noGoal .0 t in
+      rw (add-one, h v q, ne-eqb (f a) v (λ z. omega arith), and-true)
+
+  pub seen-test : (b : List ℕ) → vertices b ≤ 64 → ltb x (vertices b) && not (getD seen x false) ≡ newVertex b f a
+  seen-test b few =
+      by-cases (decLt x (vertices b))
+      (λ l. rw (e, h (f a) (omega arith)))
+      (λ l. rw (e, le-ltb (f a) (vertices b) (omega arith)))
 
 -- ---- questions 6 to 10
 -- an edge that fails fails the order, where all are proper
@@ -76,9 +86,10 @@ edges-pass b qs e =
     ∙ decide-pass (edges b - 1) (λ i. laterEdge b (suc i) i) _ _ 0 (every-iff (edges b - 1) (λ i. laterEdge b (suc i) i) .0 y))
 
 -- the k bytes from an offset on, by the code's offset and by the definition's
-module _ (b : List ℕ) (number : ℕ) (qs : List Question) {offset from r : ℕ} (e : offset ≡ from) (f : FirstFault (agents b) (newVertex b (λ c. getD b (offset + c) 0)) r) where
+module _ (b : List ℕ) (optional : Bool) (number : ℕ) (qs : List Question) {offset from r : ℕ} (e : offset ≡ from)
+    (f : FirstFault (agents b) (λ a. optional && free (getD b (offset + a) 0) || newVertex b (λ c. getD b (offset + c) 0) a) r) where
   abbrev vertexQuestion : ℕ → Question
-  vertexQuestion x = askEach (agents b) (newVertex b (λ c. getD b (x + c) 0)) λ a. refuse number (x + a)
+  vertexQuestion x = askEach (agents b) (λ a. optional && free (getD b (x + a) 0) || newVertex b (λ c. getD b (x + c) 0) a) λ a. refuse number (x + a)
 
   pub vertices-stop : r < agents b → refuse number (offset + r) ≡ decide (vertexQuestion from ∷ qs) 0
   vertices-stop l = sym (fault-stop f _ _ _ l) ∙ ap (λ x. decide (vertexQuestion x ∷ qs) 0) e
@@ -130,12 +141,13 @@ module _ (b : List ℕ) (m : ℕ) where
             (h .0 .1, (h .1 .0 .0 .1, h .1 .1 .1 .0))
 
   -- ---- the checked instance beside the answer
-  fields : (s : Sizes) → Read b s → s .m ≡ m → s ≡ instance b m .sizes
+  -- the sizes read, with the number of agents that have a goal
+  abbrev completed : Sizes → ℕ → Sizes
+  completed s g = record { n = s .n; k = s .k; e = s .e; m = m; g = g }
+
+  fields : (s : Sizes) (g : ℕ) → Read b s → g ≡ goalCount (agents b) (goalOf b) → completed s g ≡ instance b m .sizes
   unfolding instance
-  fields s w em =
-      let z : _≡_ {A = Sizes} (record { n = s .n; k = s .k; e = s .e; m = s .m }) (record { n = vertices b; k = agents b; e = edges b; m = m }) =
-      rw (w .n-same, w .k-same, w .e-same, em) in
-      z
+  fields s g w eg = rw (w .n-same, w .k-same, w .e-same, eg)
 
   module _ (r : Answer) (er : r ≡ instanceAnswer b m) where
     pub is-refused : r .number ≢ 0 → (i : Inspection) → (i .answer ≡ r) × (i .checked ≡ unchecked)
@@ -152,15 +164,19 @@ module _ (b : List ℕ) (m : ℕ) where
         sym (byNumber-accepted (instanceAnswer b m .number) (checked b m) unchecked (sym (ap (λ (a : Answer). a .number) er) ∙ e))
 
     -- the record that the code makes of sizes read from the bytes
-    pub made : (s : Sizes) → Read b s → s .m ≡ m → (first second near : List ℕ)
+    pub made : (s : Sizes) → Read b s → (g : ℕ) (first second near : List ℕ)
         → first ≡ filled (take (s .k) (drop (4 + 2 * s .e) b)) (replicate 16 0)
         → second ≡ filled (take (s .k) (drop (4 + 2 * s .e + s .k) b)) (replicate 16 0)
         → near ≡ neighbourWords (instance b m)
-        → r .number ≡ 0 → _≡_ {A = Checked} (record { sizes = s; starts = first; goals = second; near = near }) (instanceChecked b m)
+        → g ≡ goalCount (s .k) (λ a. getD second a 0)
+        → r .number ≡ 0 → _≡_ {A = Checked} (record { sizes = completed s g; starts = first; goals = second; near = near }) (instanceChecked b m)
     unfolding instance checked forAgents
-    made s w em first second near e₁ e₂ e₃ e =
-        let same : s ≡ instance b m .sizes = fields s w em in
-        rw (e₁, e₂, e₃, w .k-same, w .e-same, same) (is-checked e)
+    made s w g first second near e₁ e₂ e₃ e₄ e =
+        let ok = instance-iff b m .0 (sym (ap (λ (a : Answer). a .number) er) ∙ e) in
+        let held : (a : ℕ) → a < agents b → getD (forAgents b (goals b)) a 0 ≡ goalOf b a = forAgents-at b (goals b) (limits b m ok .k-most) (omega (arith, length-known b m ok)) in
+        let e₅ : g ≡ goalCount (agents b) (goalOf b) = rw (e₄, e₂, w .k-same, w .e-same) (goal-count-ext (agents b) _ (goalOf b) held) in
+        let same : completed s g ≡ instance b m .sizes = fields s g w e₅ in
+        rw (same, e₁, e₂, e₃, w .k-same, w .e-same) (is-checked e)
 
     -- what is known of the edges where all is accepted
     pub edges-checked : r .number ≡ 0 → Edges (instance b 0)

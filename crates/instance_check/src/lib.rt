@@ -11,7 +11,7 @@ ghost use Rattle.lists.specs.Loop.{every};
 ghost use Rattle.lists.specs.Slice.{filled};
 ghost use Rattle.answers.specs.Answers.{Question, refuse, decide};
 ghost use Rattle.answers.specs.Fault.{FirstFault};
-ghost use Rattle.instance.specs.Instance.{instance, vertices, agents, edges, neighbourWords, joined, unchecked, Edges};
+ghost use Rattle.instance.specs.Instance.{free, instance, vertices, agents, edges, neighbourWords, joined, unchecked, Edges};
 ghost use Rattle.instance.specs.Questions.{question2, question3, question4, question5, question6, question7, question8, question9, question10, properEdge, laterEdge, newVertex, instanceAnswer, instanceChecked};
 ghost use Rattle.instance_check.specs.Read.{Read};
 ghost use Rattle.instance_check.specs.Marked.{Ends, Marked, fan};
@@ -32,7 +32,7 @@ fn refuse(number: u32, place: usize) -> Answer
     }
 }
 
-// The sizes, where there are bytes for them: n, k, and e in two bytes, low byte first.
+// The sizes, where there are bytes for them: n, k, and e in two bytes, low byte first. No goal is looked at yet.
 fn sizes_of(b: &[u8], m: usize) -> Sizes
     requires { ⌜ 4 ≤ length (now b) ⌝ }
     ensures { λ r. ⌜ Read (now (b .entry)) r × (r .m ≡ m) ⌝ }
@@ -40,7 +40,7 @@ fn sizes_of(b: &[u8], m: usize) -> Sizes
     let n = numbers::wide(b[0]);
     let k = numbers::wide(b[1]);
     let e = numbers::wide(b[2]) + 256 * numbers::wide(b[3]);
-    Sizes { n, k, e, m }
+    Sizes { n, k, e, m, g: 0 }
 }
 
 // Questions 2 to 5: the sizes and the length.
@@ -156,22 +156,26 @@ fn refuse_edge(b: &[u8], e: usize) -> Answer
     refuse(7, 5 + i)
 }
 
-// The first of k bytes, from an offset on, that is no vertex or like an earlier one, or k.
-fn vertex_fault(b: &[u8], offset: usize, k: usize) -> usize
+// The first of k bytes, from an offset on, that is no vertex or like an earlier one, or k. Those of goals may also say that there is
+// none.
+fn vertex_fault(b: &[u8], offset: usize, k: usize, optional: bool) -> usize
     requires { ⌜ (offset + k ≤ length (now b)) × (0 < length (now b)) × (k ≡ agents (now b)) × (vertices (now b) ≤ 64) ⌝ }
-    ensures { λ r. ⌜ FirstFault (agents (now (b .entry))) (newVertex (now (b .entry)) (λ c. getD (now (b .entry)) (offset + c) 0)) r ⌝ }
+    ensures { λ r. ⌜ FirstFault (agents (now (b .entry))) (λ a. (optional && free (getD (now (b .entry)) (offset + a) 0)) || newVertex (now (b .entry)) (λ c. getD (now (b .entry)) (offset + c) 0) a) r ⌝ }
 {
     let n = numbers::wide(b[0]);
     let mut seen = [false; 64];
     for a in 0..k {
-        let v = numbers::wide(b[offset + a]);
-        if n <= v {
-            return a;
+        let x = b[offset + a];
+        if !(optional & goals::is_free(x)) {
+            let v = numbers::wide(x);
+            if n <= v {
+                return a;
+            }
+            if seen[v] {
+                return a;
+            }
+            seen[v] = true;
         }
-        if seen[v] {
-            return a;
-        }
-        seen[v] = true;
     }
     k
 }
@@ -187,12 +191,12 @@ fn ask_items(b: &[u8], s: Sizes) -> Answer
         return refuse_edge(b, e);
     }
     let starts = 4 + 2 * e;
-    let a = vertex_fault(b, starts, k);
+    let a = vertex_fault(b, starts, k, false);
     if a < k {
         return refuse(8, starts + a);
     }
     let goals = starts + k;
-    let c = vertex_fault(b, goals, k);
+    let c = vertex_fault(b, goals, k, true);
     if c < k {
         return refuse(9, goals + c);
     }
@@ -298,6 +302,7 @@ fn refused(answer: Answer) -> Inspection
                 k: 0,
                 e: 0,
                 m: 0,
+                g: 0,
             },
             starts: none,
             goals: none,
@@ -328,10 +333,17 @@ pub fn check_instance(b: &[u8], m: usize) -> Inspection
     let starts = for_agents(b, at, k);
     let goals = for_agents(b, at + k, k);
     let near = neighbour_words(b, sizes.n, sizes.e);
+    let g = goals::count(&goals, k);
     Inspection {
         answer,
         checked: Checked {
-            sizes,
+            sizes: Sizes {
+                n: sizes.n,
+                k,
+                e: sizes.e,
+                m,
+                g,
+            },
             starts,
             goals,
             near,

@@ -1,5 +1,6 @@
 -- The clause at a place of a block, as it is put together, and how many clauses a block has.
 use mathlib.Core.Path.{_≡_, refl, sym, _∙_, ap}
+use mathlib.Core.Logic.{_≢_}
 use mathlib.Core.List.{List, [], _∷_}
 use mathlib.Core.Bool.{Bool}
 use Prim.Native.Nat.{ℕ, zero, suc, _*_, _-_, _/_, _%_, _≤_, _<_}
@@ -43,13 +44,14 @@ module _ (s : Sizes) (t a : ℕ) where
       ap (λ (x : ℕ). getD (blockG s t a) x []) (sym (div-add-mod' p n))
       ∙ others-getD s t a q (p / n) b (p % n) (i .1 .0) (i .1 .1) low high
 
-pub block-length : (g : Given) (j t x : ℕ) → x < blocksAt (g .sizes) j → length (block g j t x) ≡ countEach (g .sizes) j
+-- but for B
+pub block-length : (g : Given) (j t x : ℕ) → j ≢ 1 → x < blocksAt (g .sizes) j → length (block g j t x) ≡ countEach (g .sizes) j
 unfolding block blocksAt
-block-length g zero t x l = refl
-block-length g (suc zero) t x l = refl
-block-length g (suc (suc zero)) t x l = refl
-block-length g (suc (suc (suc zero))) t x l = two-length (g .sizes .n) (λ v. ¬X (g .sizes) t x v)
-block-length g (suc (suc (suc (suc zero)))) t x l = two-length (g .sizes .k) (λ a. ¬X (g .sizes) t a x)
-block-length g (suc (suc (suc (suc (suc zero))))) t x l = for1-length (g .sizes .n) (λ v. onward (g .sizes) (g .near v) t x v)
-block-length g (suc (suc (suc (suc (suc (suc zero)))))) t x l = others-size (g .sizes) t x l
-block-length g (suc (suc (suc (suc (suc (suc (suc j))))))) t x l = refl
+block-length g zero t x d l = refl
+block-length g (suc zero) t x d l = absurd (d refl)
+block-length g (suc (suc zero)) t x d l = refl
+block-length g (suc (suc (suc zero))) t x d l = two-length (g .sizes .n) (λ v. ¬X (g .sizes) t x v)
+block-length g (suc (suc (suc (suc zero)))) t x d l = two-length (g .sizes .k) (λ a. ¬X (g .sizes) t a x)
+block-length g (suc (suc (suc (suc (suc zero))))) t x d l = for1-length (g .sizes .n) (λ v. onward (g .sizes) (g .near v) t x v)
+block-length g (suc (suc (suc (suc (suc (suc zero)))))) t x d l = others-size (g .sizes) t x l
+block-length g (suc (suc (suc (suc (suc (suc (suc j))))))) t x d l = refl

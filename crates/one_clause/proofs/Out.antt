@@ -17,7 +17,7 @@ use Rattle.answers.proofs.Laws.{ask-yes, ask-no}
 use Rattle.instance.specs.declared.Checked.{Checked}
 use Rattle.instance.specs.Instance.{Instance}
 use Rattle.instance.specs.Accepted.{Accepted, instanceOf}
-use Rattle.instance.proofs.Accepted.{sizes-same, graph, limits-known}
+use Rattle.instance.proofs.Accepted.{sizes-same, graph, counted-known, limits-known}
 use Rattle.formula.specs.Formula.{Clause, clauses}
 use Rattle.formula.specs.Blocks.{held, family}
 use Rattle.formula.specs.Counts.{clauseCount}
@@ -40,7 +40,7 @@ module _ (b : List ℕ) (c : Checked) (w : Accepted b c) (number size : ℕ) whe
   asked = decide (clauseRest I number size) (length out)
 
   counted : length (clauses I) ≡ clauseCount (c .sizes)
-  counted = clause-count I ∙ ap clauseCount (sym (sizes-same b c w))
+  counted = clause-count I (counted-known b c w) ∙ ap clauseCount (sym (sizes-same b c w))
 
   pub stop-11 : clauseCount (c .sizes) ≤ number → refuse 11 (clauseCount (c .sizes)) ≡ asked
   stop-11 l =
@@ -78,4 +78,4 @@ module _ (b : List ℕ) (c : Checked) (w : Accepted b c) (number : ℕ) where
       let I : Instance = instanceOf b c in
       rw (← clause-held)
       (clause-most I (graph b c w) (rw (← (sizes-same b c w)) (limits-known b c w .n-most)) _
-      (getD-mem [] (clauses I) number (rw (clause-count I, ← (sizes-same b c w)) l)))
+      (getD-mem [] (clauses I) number (rw (clause-count I (counted-known b c w), ← (sizes-same b c w)) l)))

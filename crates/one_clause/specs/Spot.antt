@@ -1,5 +1,6 @@
 -- Where a clause stands. These stand in the contracts of this crate's functions, and in no public one.
 use mathlib.Core.Path.{_≡_}
+use mathlib.Core.Logic.{_≢_}
 use mathlib.Core.List.{List, [], _∷_}
 use Prim.Native.Nat.{ℕ, suc, _+_, _*_, _-_, _<_}
 use lib.ListN.{getD}
@@ -7,10 +8,11 @@ use lib.IntN.{ℤ}
 use Rattle.lists.specs.Loop.{sum, pairs}
 use Rattle.lists.specs.Pairs.{pairsBelow}
 use Rattle.instance.specs.declared.Sizes.{Sizes}
+use Rattle.instance.specs.Instance.{HasGoal, goalCount}
 use Rattle.formula.specs.Formula.{Clause, line}
 use Rattle.formula.specs.Counts.{clausesBy}
 
--- How many clauses a family has, by its number, A 0 to G 6, and how many each of its blocks has.
+-- How many clauses a family has, by its number, A 0 to G 6, and how many each of its blocks has; in B that of a free agent has none.
 module _ (s : Sizes) where
   open Sizes s using (n, k)
 
@@ -29,6 +31,12 @@ pub record Stands (s : Sizes) (c j each place : ℕ) : Type 0 where
   pub blocks : each ≡ countEach s j
   pub inside : place < count s j
   pub at : c ≡ sum j (count s) + place
+
+-- A family has `countEach` slots in each block, and each holds a clause, but for those of free agents in B. Slot r of family j holds the
+-- clause at this place of the family.
+pub record Slot (s : Sizes) (goal : ℕ → ℕ) (j place r : ℕ) : Type 0 where
+  pub full : j ≢ 1 → r ≡ place
+  pub goals : j ≡ 1 → (r < s .k) × HasGoal (goal r) × (goalCount r goal ≡ place)
 
 -- the pair low < high is pair number p of the numbers below n, by low, then high
 pub record PairAt (n p low high : ℕ) : Type 0 where

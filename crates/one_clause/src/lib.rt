@@ -10,6 +10,7 @@ ghost use Prim.Native.Nat.{suc, _*_, _-_, _≤_, _<_};
 ghost use lib.ListN.{length, getD, take};
 ghost use Rattle.lists.specs.Loop.{for, sum, pairs};
 ghost use Rattle.lists.specs.Slice.{filled, Wrote};
+ghost use Rattle.instance.specs.Instance.{HasGoal, goalCount};
 ghost use Rattle.instance.specs.Limits.{Limits};
 ghost use Rattle.instance.specs.Ready.{Ready};
 ghost use Rattle.formula.specs.Variables.{X};
@@ -17,7 +18,7 @@ ghost use Rattle.formula.specs.Formula.{line, blockD, blockE, blockG};
 ghost use Rattle.formula.specs.Blocks.{times, blocksAt, heldIn, block, family};
 ghost use Rattle.formula.specs.Counts.{clausesBy, total, clauseCount};
 ghost use Rattle.calls.specs.Calls.{clauseAnswer, clauseSlice};
-ghost use Rattle.one_clause.specs.Spot.{count, countEach, Stands, PairAt, lineAt};
+ghost use Rattle.one_clause.specs.Spot.{count, countEach, Stands, Slot, PairAt, lineAt};
 
 // A family's number, A 0 to G 6; how many clauses each of its blocks has; a place in the family.
 pub struct Spot(pub usize, pub usize, pub usize);
@@ -76,6 +77,19 @@ fn spot_of(s: Sizes, number: usize) -> Spot
     }
     let f = e + count.e;
     spot_from(s, number, e, f, f + count.f)
+}
+
+// The slot of the clause at a place of a family. In B free agents have no clause, so it is that of the agent at this place among those
+// that have a goal.
+fn slot_of(s: Sizes, goals: &[u8; 16], which: usize, place: usize) -> usize
+    requires { ⌜ Limits s × (s .g ≡ goalCount (s .k) (λ a. getD (now goals) a 0)) ⌝ }
+    requires { ⌜ (which < 7) × (place < count s which) ⌝ }
+    ensures { λ r. ⌜ Slot s (λ a. getD (now (goals .entry)) a 0) which place r ⌝ }
+{
+    if which == 1 {
+        return goals::agent_at(goals, s.k, place);
+    }
+    place
 }
 
 // Pair number p of the numbers below n: its lower number is the greatest whose count of pairs below is not above p.
@@ -181,7 +195,7 @@ fn put_clause(
     place: usize,
 ) -> usize
     requires { ⌜ Ready s (now starts) (now goals) (now near) ⌝ }
-    requires { ⌜ (which < 7) × (t < times s which) × (x < blocksAt s which) × (place < countEach s which) ⌝ }
+    requires { ⌜ (which < 7) × (t < times s which) × (x < blocksAt s which) × (place < countEach s which) × (which ≡ 1 → HasGoal (getD (now goals) x 0)) ⌝ }
     requires { ⌜ length (lineAt (block (heldIn s (now starts) (now goals) (now near)) which t x) place) ≤ length (now f) ⌝ }
     ensures { λ r. ⌜ Wrote (lineAt (block (heldIn s (now (starts .entry)) (now (goals .entry)) (now (near .entry))) which t x) place) (now (f .entry)) (now (f .exit)) r ⌝ }
 {
@@ -212,7 +226,8 @@ fn put_number(
     let spot = spot_of(s, number);
     let which = spot.0;
     let each = spot.1;
-    let block = spot.2 / each;
+    let slot = slot_of(s, goals, which, spot.2);
+    let block = slot / each;
     let width = counts::blocks_at(s, which);
     put_clause(
         f,
@@ -223,7 +238,7 @@ fn put_number(
         which,
         block / width,
         block % width,
-        spot.2 % each,
+        slot % each,
     )
 }
 

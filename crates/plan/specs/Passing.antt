@@ -5,7 +5,7 @@ use mathlib.Core.List.{List}
 use Prim.Native.Nat.{ℕ, suc, _<_}
 use lib.ListN.{length, getD}
 use Rattle.instance.specs.declared.Sizes.{Sizes}
-use Rattle.instance.specs.Instance.{Instance, Edge}
+use Rattle.instance.specs.Instance.{Instance, HasGoal, Edge}
 use Rattle.plan.specs.Plan.{Row, planBytes, planRow}
 
 module _ (I : Instance) where
@@ -21,13 +21,17 @@ module _ (I : Instance) where
     -- 3: no two agents share a vertex in the next row
     pub apart : (a b : ℕ) → a < k → b < k → a ≢ b → next a ≢ next b
 
-  -- from the starts to the goals by valid steps, where P t is row t
+  -- the row has the goals there are: each agent that has a goal is at it
+  abbrev pub AtGoals : Row → Type 0
+  AtGoals row = (a : ℕ) → a < k → HasGoal (goal a) → row a ≡ goal a
+
+  -- from the starts to the goals there are by valid steps, where P t is row t
   pub record Leads (P : ℕ → Row) : Type 0 where
     pub starts : (a : ℕ) → a < k → P 0 a ≡ start a
     pub steps : (t : ℕ) → t < m → ValidStep (P t) (P (suc t))
-    pub goals : (a : ℕ) → a < k → P m a ≡ goal a
+    pub goals : AtGoals (P m)
 
-  -- a plan passes: it has (m+1)·k bytes, each a vertex, and its rows lead from the starts to the goals by valid steps
+  -- a plan passes: it has (m+1)·k bytes, each a vertex, and its rows lead from the starts to the goals there are by valid steps
   pub record Passes (p : List ℕ) : Type 0 where
     pub size : length p ≡ planBytes sizes
     pub inside : (i : ℕ) → i < planBytes sizes → getD p i 0 < n

@@ -2,7 +2,7 @@
 use mathlib.Core.Path.{_≡_, sym, _∙_, ap, ap₂, subst}
 use mathlib.Core.Logic.{_≢_}
 use mathlib.Core.List.{List, [], _∷_, _++_}
-use mathlib.Core.Bool.{Bool, not}
+use mathlib.Core.Bool.{Bool, true, false, not, _&&_, _||_}
 use Prim.Native.Nat.{ℕ, suc, _+_, _-_, _*_, _≤_, _<_}
 use native.Mathlib.Nat.{suc-mul, zero-add, zero-mul}
 use native.Mathlib.Numerals.{add-one}
@@ -19,7 +19,7 @@ use Rattle.answers.proofs.Laws.{numbered, decide-iff, decide-count, decide-afte
 use Rattle.answers.proofs.Faults.{fault-ext}
 use Rattle.instance.specs.declared.Sizes.{Sizes}
 use Rattle.instance.specs.declared.Checked.{Checked}
-use Rattle.instance.specs.Instance.{Instance, adjacent, joined}
+use Rattle.instance.specs.Instance.{Instance, free, adjacent, joined}
 use Rattle.plan.specs.Plan.{Row, planBytes, planIndex, planRow, condition, condition2, occupantLeaves, restTime, cost}
 use Rattle.plan.proofs.Rest.{rest-until, rest-keeps, rest-moves}
 use Rattle.plan.proofs.Steps.{occupant-inside, leaves-stays, leaves-exchanges, leaves-on}
@@ -192,21 +192,21 @@ module _ (I : Instance) (s : Sizes) (starts goals near : List ℕ) (w : Shows I 
     unfolding planQuestions
     pass-17 l = sym (fault-pass bytes-fault (refuse 17) _ 0 (rw (← size-same) l))
 
-  -- a row compared with an array
-  row-is : (row at : ℕ) → at ≡ row * s .k → (wanted : List ℕ) (vertex : ℕ → ℕ)
+  -- a row compared with an array, which may have free agents
+  row-is : (optional : Bool) (row at : ℕ) → at ≡ row * s .k → (wanted : List ℕ) (vertex : ℕ → ℕ)
       → ((a : ℕ) → a < s .k → getD wanted a 0 ≡ vertex a) → (r : ℕ)
-      → FirstFault (s .k) (λ a. eqb (getD p (at + a) 0) (getD wanted a 0)) r
-      → FirstFault (I .sizes .k) (λ a. eqb (planRow (I .sizes) p row a) (vertex a)) r
-  row-is row at ea wanted vertex h r f =
-      subst (λ (z : Sizes). FirstFault (z .k) (λ a. eqb (planRow z p row a) (vertex a)) r) (sym same-sizes)
-      (fault-ext (λ a l. ap₂ eqb (ap (λ (x : ℕ). getD p (x + a) 0) ea) (h a l)) f)
+      → FirstFault (s .k) (λ a. optional && free (getD wanted a 0) || eqb (getD p (at + a) 0) (getD wanted a 0)) r
+      → FirstFault (I .sizes .k) (λ a. optional && free (vertex a) || eqb (planRow (I .sizes) p row a) (vertex a)) r
+  row-is optional row at ea wanted vertex h r f =
+      subst (λ (z : Sizes). FirstFault (z .k) (λ a. optional && free (vertex a) || eqb (planRow z p row a) (vertex a)) r) (sym same-sizes)
+      (fault-ext (λ a l. ap₂ (λ (x v : ℕ). optional && free v || eqb x v) (ap (λ (x : ℕ). getD p (x + a) 0) ea) (h a l)) f)
 
   agents-same : s .k ≡ I .sizes .k
   agents-same = ap (λ (z : Sizes). z .k) (sym same-sizes)
 
   module _ (r : ℕ) (f : FirstFault (s .k) (λ a. eqb (getD p (0 + a) 0) (getD starts a 0)) r) (qs : List Question) where
     start-fault : FirstFault (I .sizes .k) (λ a. eqb (planRow (I .sizes) p 0 a) (I .start a)) r
-    start-fault = row-is 0 0 (sym (zero-mul (s .k))) starts (I .start) (w .starts-at) r f
+    start-fault = row-is false 0 0 (sym (zero-mul (s .k))) starts (I .start) (w .starts-at) r f
 
     pub stop-18 : r < s .k → refuse 18 r ≡ decide (question18 I p ∷ qs) 0
     stop-18 l =
@@ -231,12 +231,12 @@ module _ (I : Instance) (s : Sizes) (starts goals near : List ℕ) (w : Shows I 
         for-all numbered (I .sizes .m) (stepQuestions I p) .1 (λ t l. numbered-step I p t) in
         sym (decide-after stepsQuestions goalQuestions 0 (decide-iff stepsQuestions 0 known .0 (sym (ap (λ (a : Answer). a .number) steps-same) ∙ e)))
 
-  module _ (r : ℕ) (f : FirstFault (s .k) (λ a. eqb (getD p (s .m * s .k + a) 0) (getD goals a 0)) r) where
+  module _ (r : ℕ) (f : FirstFault (s .k) (λ a. free (getD goals a 0) || eqb (getD p (s .m * s .k + a) 0) (getD goals a 0)) r) where
     horizon : s .m * s .k ≡ I .sizes .m * s .k
     horizon = ap (λ (z : Sizes). z .m * s .k) (sym same-sizes)
 
-    goal-fault : FirstFault (I .sizes .k) (λ a. eqb (planRow (I .sizes) p (I .sizes .m) a) (I .goal a)) r
-    goal-fault = row-is (I .sizes .m) (s .m * s .k) horizon goals (I .goal) (w .goals-at) r f
+    goal-fault : FirstFault (I .sizes .k) (λ a. free (I .goal a) || eqb (planRow (I .sizes) p (I .sizes .m) a) (I .goal a)) r
+    goal-fault = row-is true (I .sizes .m) (s .m * s .k) horizon goals (I .goal) (w .goals-at) r f
 
     pub stop-22 : r < s .k → refuse 22 (s .m * s .k + r) ≡ decide goalQuestions 0
     stop-22 l = stop-agents I (s .k) agents-same _ r goal-fault (λ a. 22) (I .sizes .m) [] _ horizon l

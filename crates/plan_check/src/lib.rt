@@ -11,7 +11,8 @@ ghost use Rattle.answers.specs.Fault.{FirstFault};
 ghost use Rattle.plan.specs.Plan.{planBytes, planRow, condition2, occupantLeaves, restTime, cost};
 ghost use Rattle.calls.specs.Questions.{occupiedNumber};
 ghost use Rattle.calls.specs.Calls.{stepQuestions, planQuestions, checkAnswer};
-ghost use Rattle.instance.specs.Instance.{Instance};
+ghost use mathlib.Core.Bool.{_&&_, _||_};
+ghost use Rattle.instance.specs.Instance.{Instance, free};
 ghost use Rattle.instance.specs.Limits.{Limits};
 ghost use Rattle.instance.specs.Shows.{ShowsGraph, Shows};
 ghost use Rattle.conditions.specs.Inside.{Inside};
@@ -105,13 +106,14 @@ fn byte_fault(p: &[u8], n: usize) -> usize
     p.len()
 }
 
-// The first agent whose byte of a row is not that of the array, or k.
-fn row_fault(p: &[u8], row: usize, k: usize, wanted: &[u8; 16]) -> usize
+// The first agent whose byte of a row is not that of the array, or k. Where the array is that of the goals, free agents are passed over.
+fn row_fault(p: &[u8], row: usize, k: usize, wanted: &[u8; 16], optional: bool) -> usize
     requires { ⌜ (row + k ≤ length (now p)) × (k ≤ 16) ⌝ }
-    ensures { λ r. ⌜ FirstFault k (λ a. eqb (getD (now (p .entry)) (row + a) 0) (getD (now (wanted .entry)) a 0)) r ⌝ }
+    ensures { λ r. ⌜ FirstFault k (λ a. (optional && free (getD (now (wanted .entry)) a 0)) || eqb (getD (now (p .entry)) (row + a) 0) (getD (now (wanted .entry)) a 0)) r ⌝ }
 {
     for a in 0..k {
-        if p[row + a] != wanted[a] {
+        let w = wanted[a];
+        if !(optional & goals::is_free(w) | (p[row + a] == w)) {
             return a;
         }
     }
@@ -133,7 +135,7 @@ pub fn ask_plan(s: Sizes, starts: &[u8; 16], goals: &[u8; 16], near: &[u64; 64],
             second: i,
         };
     }
-    let start = row_fault(p, 0, k, starts);
+    let start = row_fault(p, 0, k, starts, false);
     if start < k {
         return Answer {
             number: 18,
@@ -147,7 +149,7 @@ pub fn ask_plan(s: Sizes, starts: &[u8; 16], goals: &[u8; 16], near: &[u64; 64],
         return steps;
     }
     let last = m * k;
-    let goal = row_fault(p, last, k, goals);
+    let goal = row_fault(p, last, k, goals, true);
     if goal < k {
         return Answer {
             number: 22,

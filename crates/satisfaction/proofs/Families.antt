@@ -1,7 +1,7 @@
 -- The families row by row: their numbers and lengths; the formula is they; and what the families before a row say.
 use mathlib.Core.Path.{_≡_, refl, sym, _∙_, ap, subst}
 use mathlib.Core.Logic.{_≢_, by-cases}
-use mathlib.Core.List.{List}
+use mathlib.Core.List.{List, [], _∷_}
 use Prim.Native.Nat.{ℕ, suc, _+_, _*_, _-_, _/_, _≤_, _<_}
 use native.Mathlib.Decide.{decLt, ℕ-discrete}
 use native.Mathlib.Numerals.{add-one}
@@ -14,7 +14,9 @@ use Rattle.lists.proofs.Loops.{for-length, all-append}
 use Rattle.lists.proofs.Slices.{for-room}
 use Rattle.lists.proofs.Blocks.{for1-length, place-split}
 use Rattle.instance.specs.declared.Sizes.{Sizes}
-use Rattle.instance.specs.Instance.{Instance}
+use Rattle.instance.specs.Instance.{Instance, goalCount}
+use Rattle.instance.proofs.Goals.{goals-once}
+use Rattle.formula.specs.Variables.{X}
 use Rattle.formula.specs.Formula.{Clause, clauses}
 use Rattle.formula.specs.Blocks.{Given, times, blocksAt, block, family, heldIn}
 use Rattle.formula.proofs.Blocks.{family-blocks}
@@ -33,15 +35,15 @@ use Rattle.satisfaction.proofs.Truth.{length-D, length-E, length-F, len
 -- the lengths of the rows
 module _ (g : Given) (t : ℕ) where
   open Given g using (sizes)
-  open Sizes sizes using (n, k)
+  open Sizes sizes using (n, k, m)
 
   pub size-A : length (row g 0 t) ≡ k
   unfolding row block blocksAt
   size-A = for1-length k _
 
-  pub size-B : length (row g 1 t) ≡ k
+  pub size-B : length (row g 1 t) ≡ goalCount k (g .goal)
   unfolding row block blocksAt
-  size-B = for1-length k _
+  size-B = goals-once (g .goal) k (λ a. X sizes m a (g .goal a) ∷ [])
 
   pub size-C : length (row g 2 t) ≡ k
   unfolding row block blocksAt

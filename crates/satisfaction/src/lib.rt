@@ -13,7 +13,8 @@ ghost use lib.ListN.{length, getD, take};
 ghost use Rattle.lists.specs.Loop.{for};
 ghost use Rattle.lists.specs.Pairs.{pairsBelow};
 ghost use Rattle.answers.specs.Fault.{FirstFault};
-ghost use Rattle.instance.specs.Instance.{joined};
+ghost use lib.Dec.{T};
+ghost use Rattle.instance.specs.Instance.{free, joined};
 ghost use Rattle.formula.specs.Variables.{highest, variableCount, X};
 ghost use Rattle.formula.specs.Formula.{blockC, blockD, blockE, blockF, blockG};
 ghost use Rattle.formula.specs.Blocks.{times, family, heldIn};
@@ -161,19 +162,23 @@ pub fn read_entries(vertices: &mut [u8], entries: &[i32], s: Sizes) -> usize
     base
 }
 
-// Families A and B: the first agent that is not at its vertex of the array at time t, or k.
-fn unit_fault(entries: &[i32], s: Sizes, t: usize, ends: &[u8; 16]) -> usize
+// Families A and B: the first agent that is not at its vertex of the array at time t, or k. Where the array is that of the goals, free
+// agents are passed over.
+fn unit_fault(entries: &[i32], s: Sizes, t: usize, ends: &[u8; 16], optional: bool) -> usize
     requires { ⌜ Limits s ⌝ }
     requires { ⌜ Valuation (variableCount s) (now entries) ⌝ }
-    requires { ⌜ (t ≤ s .m) × ((a : ℕ) → a < s .k → getD (now ends) a 0 < s .n) ⌝ }
-    ensures { λ r. ⌜ FirstFault (s .k) (λ a. true? (now (entries .entry)) (X s t a (getD (now (ends .entry)) a 0))) r ⌝ }
+    requires { ⌜ (t ≤ s .m) × ((a : ℕ) → a < s .k → (T (optional && free (getD (now ends) a 0)) → ⊥) → getD (now ends) a 0 < s .n) ⌝ }
+    ensures { λ r. ⌜ FirstFault (s .k) (λ a. (optional && free (getD (now (ends .entry)) a 0)) || true? (now (entries .entry)) (X s t a (getD (now (ends .entry)) a 0))) r ⌝ }
 {
     let k = s.k;
     for a in 0..k {
-        let base = variables::first_entry(s, Step(t), Agent(a));
-        let i = base + numbers::wide(ends[a]);
-        if passes(entries, i, false) {
-            return a;
+        let end = ends[a];
+        if !(optional & goals::is_free(end)) {
+            let base = variables::first_entry(s, Step(t), Agent(a));
+            let i = base + numbers::wide(end);
+            if passes(entries, i, false) {
+                return a;
+            }
         }
     }
     k
@@ -334,11 +339,11 @@ fn row_fault(
     match which {
         0 => Part {
             size: k,
-            fault: unit_fault(entries, s, 0, starts),
+            fault: unit_fault(entries, s, 0, starts, false),
         },
         1 => Part {
-            size: k,
-            fault: unit_fault(entries, s, s.m, goals),
+            size: s.g,
+            fault: goals::count(goals, unit_fault(entries, s, s.m, goals, true)),
         },
         2 => Part {
             size: k,

@@ -13,7 +13,7 @@ use Rattle.lists.specs.Loop.{any, all}
 use Rattle.lists.proofs.Tests.{ltb-iff, not-iff, or-imp, eqb-iff}
 use Rattle.lists.proofs.Loops.{for-all, when-all, one-all, for-any, when-any, all-append, any-one, any-two}
 use Rattle.instance.specs.declared.Sizes.{Sizes}
-use Rattle.instance.specs.Instance.{Instance, adjacent, Endpoints}
+use Rattle.instance.specs.Instance.{Instance, HasGoal, adjacent, Endpoints}
 use Rattle.formula.specs.Variables.{Literal}
 use Rattle.formula.specs.Formula.{Clause, A, B, C, D, E, F, G, clauses}
 use Rattle.valuation.specs.Places.{Places}
@@ -59,12 +59,12 @@ module _ (I : Instance) where
           (λ q a l. c .here 0 a (start a) (zero-lt-suc m) l (s a l) .1 (q a l)),
         )
 
-    pub read-B : ((a : ℕ) → a < k → goal a < n) → Sat h (B (I .sizes) (I .goal)) ↔ ((a : ℕ) → a < k → goal a ≡ P m a)
+    pub read-B : ((a : ℕ) → a < k → HasGoal (goal a) → goal a < n) → Sat h (B (I .sizes) (I .goal)) ↔ ((a : ℕ) → a < k → HasGoal (goal a) → goal a ≡ P m a)
     unfolding B
     read-B s =
-        simp (for-all, one-all, any-one) (
-          (λ q a l. c .here m a (goal a) (le-refl (suc m)) l (s a l) .0 (q a l)),
-          (λ q a l. c .here m a (goal a) (le-refl (suc m)) l (s a l) .1 (q a l)),
+        simp (for-all, when-all, one-all, not-iff, eqb-iff, any-one) (
+          (λ q a l g. c .here m a (goal a) (le-refl (suc m)) l (s a l g) .0 (q a l g)),
+          (λ q a l g. c .here m a (goal a) (le-refl (suc m)) l (s a l g) .1 (q a l g)),
         )
 
     pub read-C : Sat h (C (I .sizes))
@@ -157,11 +157,11 @@ module _ (I : Instance) where
               vacant = second h c (q .0 .0 .1) .0 (q .1) t l;
               apart = λ a b r u d. apart-any k (P (suc t)) (q .0 .0 .1 (suc t) (omega arith)) a b r u d;
             };
-            goals = λ a l. sym (q .0 .0 .0 .0 .0 .1 a l);
+            goals = λ a l g. sym (q .0 .0 .0 .0 .0 .1 a l g);
           }),
           (λ o. (
             (
-              (((((λ a l. sym (o .starts a l)), (λ a l. sym (o .goals a l))), read-C h P c), read-D h P c), rows-apart o),
+              (((((λ a l. sym (o .starts a l)), (λ a l g. sym (o .goals a l g))), read-C h P c), read-D h P c), rows-apart o),
               (λ t l a r. crosses-iff I (P t a) (P (suc t) a) .1 (o .steps t l .crosses a r)),
             ),
             second h c (rows-apart o) .1 (λ t l. o .steps t l .vacant),

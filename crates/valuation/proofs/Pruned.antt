@@ -12,11 +12,12 @@ use lib.IntN.{ℤ}
 use Rattle.lists.proofs.Tests.{or-iff, eqb-iff}
 use Rattle.lists.proofs.Loops.{for-all, when-all, one-all, any-one, all-append}
 use Rattle.instance.specs.declared.Sizes.{Sizes}
-use Rattle.instance.specs.Instance.{Instance, adjacent, Endpoints}
+use Rattle.instance.specs.Instance.{Instance, HasGoal, adjacent, Endpoints}
 use Rattle.instance.proofs.Graph.{adjacent-iff}
 use Rattle.distances.specs.Distance.{unreachable, further, within, startToGoal}
 use Rattle.distances.proofs.Within.{within-step, within-more, distance-most, further-iff}
 use Rattle.distances.proofs.Walks.{edge-back}
+use Rattle.distances.proofs.Goals.{by-goal, further-goal}
 use Rattle.formula.specs.Variables.{Literal, variableCount}
 use Rattle.formula.specs.Formula.{clauses}
 use Rattle.formula.specs.Pruned.{fromStart, fromGoal, H, familyH, pruned}
@@ -46,13 +47,13 @@ module _ (I : Instance) where
         (λ e. within-step n near t (start a) (P t a) (P (suc t) a) (inside t a (omega arith) r) ih (adjacent-iff I (P t a) (P (suc t) a) .1 e))
         (o .steps t (omega arith) .crosses a r)
 
-    -- with j steps left it is at most j edges from its goal
-    from-goal : (a : ℕ) → a < k → (j t : ℕ) → t + j ≡ m → T (within n near j (goal a) (P t a))
+    -- with j steps left it is at most j edges from its goal, if it has one
+    from-goal : (a : ℕ) → a < k → HasGoal (goal a) → (j t : ℕ) → t + j ≡ m → T (within n near j (goal a) (P t a))
     unfolding within
-    from-goal a r zero t e =
-        eqb-iff (goal a) (P t a) .1 (let z : t ≡ m = omega arith in subst (λ (x : ℕ). goal a ≡ P x a) (sym z) (sym (o .goals a r)))
-    from-goal a r (suc j) t e =
-        let ih = from-goal a r j (suc t) (omega arith) in
+    from-goal a r g zero t e =
+        eqb-iff (goal a) (P t a) .1 (let z : t ≡ m = omega arith in subst (λ (x : ℕ). goal a ≡ P x a) (sym z) (sym (o .goals a r g)))
+    from-goal a r g (suc j) t e =
+        let ih = from-goal a r g j (suc t) (omega arith) in
         ⊎-elim
         (λ q. within-more n near j (goal a) (P t a) (subst (λ (x : ℕ). T (within n near j (goal a) x)) (sym q) ih))
         (λ q.
@@ -64,8 +65,11 @@ module _ (I : Instance) where
       -- no agent's goal is further from its start than there are steps
       pub steps-most : (a : ℕ) → a < k → (startToGoal I a ≤ m) × (startToGoal I a < n)
       steps-most a r =
-          distance-most n near few (start a) (goal a) (ends .startsInside a r) (ends .goalsInside a r) m
-          (subst (λ (x : ℕ). T (within n near m (start a) x)) (o .goals a r) (from-start a r m (le-refl (suc m))))
+          by-goal (goal a) _ (λ x. (x ≤ m) × (x < n))
+          (λ f. let z = ends .startsInside a r in (omega arith, omega arith))
+          (λ g.
+          distance-most n near few (start a) (goal a) (ends .startsInside a r) (ends .goalsInside a r g) m
+          (subst (λ (x : ℕ). T (within n near m (start a) x)) (o .goals a r g) (from-start a r m (le-refl (suc m)))))
 
       sat-H : (h : Literal → Bool) → Places sizes h P → Sat h (familyH I)
       unfolding H
@@ -75,7 +79,9 @@ module _ (I : Instance) where
           c .elsewhere t a v l r i .1 (λ e.
           ⊎-elim
           (λ q. further-iff n near few (start a) v (ends .startsInside a r) i t .0 q (rw e (from-start a r t l)))
-          (λ q. further-iff n near few (goal a) v (ends .goalsInside a r) i (m - t) .0 q (rw e (from-goal a r (m - t) t (omega arith))))
+          (λ q.
+          let (g, q′) = further-goal (m - t) (goal a) _ .0 q in
+          further-iff n near few (goal a) v (ends .goalsInside a r g) i (m - t) .0 q′ (rw e (from-goal a r g (m - t) t (omega arith))))
           (or-iff (further t (fromStart I a v)) (further (m - t) (fromGoal I a v)) .0 f)))
 
   -- a valuation satisfies the pruned formula exactly when it satisfies the base formula

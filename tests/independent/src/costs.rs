@@ -101,6 +101,12 @@ const WRONG: [(&str, Count); 12] = [
     ("the low byte", |runs| sum(runs, until_rest) % 256),
 ];
 
+/// The vertices of each of k agents, row by row.
+pub(crate) fn runs(k: usize, plan: &[u8]) -> Vec<Vec<u8>> {
+    let run = |a: usize| plan[a..].iter().step_by(k).copied().collect();
+    (0..k).map(run).collect()
+}
+
 fn sum(runs: &[Vec<u8>], count: impl Fn(&[u8]) -> usize) -> usize {
     runs.iter().map(|run| count(run)).sum()
 }
@@ -115,7 +121,7 @@ fn moves(run: &[u8]) -> Vec<usize> {
     (1..run.len()).filter(|&t| run[t] != run[t - 1]).collect()
 }
 
-fn until_rest(run: &[u8]) -> usize {
+pub(crate) fn until_rest(run: &[u8]) -> usize {
     moves(run).last().copied().unwrap_or(0)
 }
 
@@ -133,8 +139,7 @@ pub struct Told {
 impl Told {
     /// Adds a plan that passes, with its cost.
     pub fn add(&mut self, k: usize, plan: &[u8], cost: u64) {
-        let run = |a: usize| plan[a..].iter().step_by(k).copied().collect();
-        let runs: Vec<Vec<u8>> = (0..k).map(run).collect();
+        let runs = runs(k, plan);
         for (times, (_, count)) in self.times.iter_mut().zip(WRONG) {
             *times += u64::from(count(&runs) as u64 != cost);
         }

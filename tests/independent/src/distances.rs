@@ -4,7 +4,8 @@ use crate::instance::Instance;
 use crate::{answer, refuse, Answer};
 use std::collections::VecDeque;
 
-/// The count is the greatest distance from an agent's start to its goal.
+/// The count is the greatest distance from an agent's start to its goal; a free
+/// agent counts 0.
 pub fn floor(instance: &[u8]) -> Answer {
     answer(greatest(instance))
 }
@@ -13,8 +14,8 @@ fn greatest(bytes: &[u8]) -> Result<usize, Answer> {
     // No horizon is given; with 0 question 10 says yes.
     let instance = Instance::read(bytes, 0)?;
     let mut floor = 0;
-    for (a, (&start, &goal)) in instance.starts.iter().zip(instance.goals).enumerate() {
-        match distances(&instance, start)[usize::from(goal)] {
+    for (a, goal) in instance.goals() {
+        match distances(&instance, instance.starts[a])[usize::from(goal)] {
             Some(distance) => floor = floor.max(distance),
             None => return refuse(30, instance.goal_offset(a)),
         }
@@ -39,20 +40,23 @@ fn distances(instance: &Instance, from: u8) -> Vec<Option<usize>> {
     found
 }
 
-/// The literals of family H, one a clause.
+/// The literals of family H, one a clause. A free agent has no goal from which a
+/// vertex could be too far.
 pub(crate) fn family_h(instance: &Instance) -> Vec<i32> {
-    let from_all = |ends: &[u8]| -> Vec<_> {
-        let from = |&end: &u8| distances(instance, end);
-        ends.iter().map(from).collect()
-    };
-    let (from_starts, from_goals) = (from_all(instance.starts), from_all(instance.goals));
+    let from = |end: u8| distances(instance, end);
+    let from_starts: Vec<_> = instance.starts().map(|(_, start)| from(start)).collect();
+    let from_goals: Vec<_> = (0..instance.k)
+        .map(|a| instance.goal(a).map(from))
+        .collect();
     let further = |distance: Option<usize>, steps: usize| distance.is_none_or(|x| x > steps);
     let m = instance.m;
     let mut literals = Vec::new();
     for t in 0..=m {
         for a in 0..instance.k {
             for v in 0..instance.n {
-                if further(from_starts[a][v], t) || further(from_goals[a][v], m - t) {
+                let from_goal = from_goals[a].as_ref();
+                if further(from_starts[a][v], t) || from_goal.is_some_and(|x| further(x[v], m - t))
+                {
                     literals.push(-instance.x(t, a, v));
                 }
             }

@@ -6,6 +6,7 @@ use crate::parts::Parts;
 use crate::plain::{self, Distances};
 use crate::questions::Item;
 use crate::sample::{all_edges, grid_edges, instance_bytes, largest_instance, path_edges};
+use crate::NO_GOAL;
 
 /// Instances, and what the floor call answers: worked out by hand.
 pub fn worked() -> Vec<(Vec<u8>, Item)> {
@@ -22,6 +23,7 @@ pub fn worked() -> Vec<(Vec<u8>, Item)> {
     // Without the edge 31-32.
     let mut cut = path_edges(64);
     cut.remove(31);
+    const FREE: u8 = NO_GOAL;
     vec![
         (vec![1, 1, 0, 0, 0, 0], (0, 0)),
         (path(2, &[0], &[1]), (0, 1)),
@@ -74,6 +76,24 @@ pub fn worked() -> Vec<(Vec<u8>, Item)> {
         (complete(&[0], &[63]), (0, 1)),
         (complete(&first, &last), (0, 1)),
         (largest_instance(), (0, 0)),
+        // Free agents count 0, wherever they stand: alone, before, between and behind others.
+        (vec![1, 1, 0, 0, 0, FREE], (0, 0)),
+        (path(3, &[0], &[FREE]), (0, 0)),
+        (path(3, &[0, 2], &[FREE, FREE]), (0, 0)),
+        (path(3, &[0, 2], &[FREE, 1]), (0, 1)),
+        (path(3, &[2, 0], &[0, FREE]), (0, 2)),
+        (path(4, &[0, 1, 2], &[1, FREE, 0]), (0, 2)),
+        (path(4, &[1, 0, 2], &[FREE, 3, FREE]), (0, 3)),
+        (path(64, &[1, 0], &[FREE, 63]), (0, 63)),
+        // On vertices that no edge touches, beside goals in reach and out of reach; those stand at 4 + 2e + k.
+        (instance_bytes(2, &[], &[0, 1], &[FREE, FREE]), (0, 0)),
+        (instance_bytes(2, &[], &[0, 1], &[FREE, 0]), (30, 7)),
+        (instance_bytes(2, &[], &[0, 1], &[1, FREE]), (30, 6)),
+        (four(&[(0, 1), (1, 2)], &[3, 0], &[FREE, 2]), (0, 2)),
+        (four(&[(0, 1), (1, 2)], &[0, 3], &[2, FREE]), (0, 2)),
+        (four(&two_parts, &[0, 1, 2], &[FREE, 3, 1]), (30, 12)),
+        (four(&two_parts, &[0, 2, 1], &[FREE, FREE, 3]), (30, 13)),
+        (complete(&first, &[FREE; 16]), (0, 0)),
     ]
 }
 
@@ -86,6 +106,7 @@ pub type Pruned = (Vec<u8>, u64, Vec<i32>);
 
 /// Families H, worked out by hand.
 pub fn worked_h() -> Vec<Pruned> {
+    const FREE: u8 = NO_GOAL;
     let path = |n: u8, starts: &[u8], goals: &[u8], m: u64, literals: &[i32]| {
         let instance = instance_bytes(n.into(), &path_edges(n), starts, goals);
         (instance, m, literals.to_vec())
@@ -127,11 +148,42 @@ pub fn worked_h() -> Vec<Pruned> {
         apart(&[0], &[0], 4, &[-2, -4, -6, -8, -10]),
         apart(&[0], &[1], 1, &[-1, -2, -3, -4]),
         apart(&[0, 1], &[0, 1], 0, &[-2, -3]),
+        // A free agent: only where it cannot be yet.
+        (vec![1, 1, 0, 0, 0, FREE], 2, vec![]),
+        path(2, &[0], &[FREE], 0, &[-2]),
+        path(2, &[0], &[FREE], 3, &[-2]),
+        path(3, &[0], &[FREE], 2, &[-2, -3, -6]),
+        path(3, &[1], &[FREE], 2, &[-1, -3]),
+        apart(&[0], &[FREE], 1, &[-2, -4]),
+        apart(&[0, 1], &[FREE, FREE], 1, &[-2, -5, -4, -7]),
+        // From 2 to 1 at m 1, with a free agent from 0, before it and behind it: variables as above.
+        path(3, &[0, 2], &[FREE, 1], 1, &[-2, -3, -7, -8, -6, -10, -12]),
+        path(3, &[2, 0], &[1, FREE], 1, &[-1, -2, -8, -9, -4, -6, -12]),
+        // 3 to 2 at m 1, behind two free agents and between them: an agent has 8 variables.
+        path(
+            4,
+            &[0, 1, 3],
+            &[FREE, FREE, 2],
+            1,
+            &[
+                -2, -3, -4, -9, -11, -12, -17, -18, -19, -7, -8, -16, -21, -22, -24,
+            ],
+        ),
+        path(
+            4,
+            &[0, 3, 1],
+            &[FREE, 2, FREE],
+            1,
+            &[
+                -2, -3, -4, -9, -10, -11, -17, -19, -20, -7, -8, -13, -14, -16, -24,
+            ],
+        ),
     ]
 }
 
 /// An instance in its parts, with its distances and those over edges from low to
-/// high ends alone.
+/// high ends alone. Behind its n columns a table has one for no goal: it is 0 from
+/// every vertex.
 struct Map {
     parts: Parts,
     distances: Distances,
@@ -141,13 +193,24 @@ struct Map {
 impl Map {
     fn new(instance: &[u8]) -> Map {
         let parts = Parts::of(instance);
+        let forward = |v: usize, w: usize| v < w && parts.has_edge(v as u8, w as u8);
+        let [distances, one_way] = [
+            plain::distances(instance),
+            plain::distances_over(parts.n, forward),
+        ]
+        .map(|table| with_no_goal(table, |_| Some(0)));
         Map {
-            distances: plain::distances(instance),
-            one_way: plain::distances_over(parts.n, |v, w| {
-                v < w && parts.has_edge(v as u8, w as u8)
-            }),
             parts,
+            distances,
+            one_way,
         }
+    }
+
+    /// The distances where that to no goal is another one, by those to the vertices.
+    fn no_goal_as(&self, distance: impl Fn(&[Option<usize>]) -> Option<usize>) -> Distances {
+        let mut table = self.distances.clone();
+        table.iter_mut().for_each(|row| row.truncate(self.parts.n));
+        with_no_goal(table, distance)
     }
 
     /// One round too few, of n − 1.
@@ -164,10 +227,25 @@ impl Map {
         self.distances.iter().map(row).collect()
     }
 
-    /// Each agent's start and goal.
+    /// Each agent's start and the column of its goal.
     fn ends(&self) -> impl Iterator<Item = (usize, usize)> + '_ {
-        let ends = self.parts.starts.iter().zip(&self.parts.goals);
-        ends.map(|(&start, &goal)| (start.into(), goal.into()))
+        self.ends_with(|a| Some(self.parts.goals[a]).filter(|_| !self.parts.is_free(a)))
+    }
+
+    /// The same, for agents with these goals.
+    fn ends_with<'a>(
+        &'a self,
+        goal: impl Fn(usize) -> Option<u8> + 'a,
+    ) -> impl Iterator<Item = (usize, usize)> + 'a {
+        let column = move |a: usize| goal(a).map_or(self.parts.n, usize::from);
+        let starts = self.parts.starts.iter().enumerate();
+        starts.map(move |(a, &start)| (start.into(), column(a)))
+    }
+
+    /// How many agents there are before the first free one.
+    fn before_free(&self) -> usize {
+        let first = self.parts.free().first().copied();
+        first.unwrap_or(self.parts.k())
     }
 
     /// The distance from each agent's start to its goal.
@@ -236,6 +314,17 @@ impl Map {
     }
 }
 
+/// Adds the column for no goal.
+fn with_no_goal(
+    mut table: Distances,
+    distance: impl Fn(&[Option<usize>]) -> Option<usize>,
+) -> Distances {
+    for row in &mut table {
+        row.push(distance(row));
+    }
+    table
+}
+
 fn greatest(ways: &[usize]) -> usize {
     ways.iter().copied().max().unwrap_or(0)
 }
@@ -252,7 +341,7 @@ fn either(from_start: Option<usize>, from_goal: Option<usize>, t: usize, rest: u
 
 /// Wrong floors, each with its name.
 type Floor = fn(&Map) -> Item;
-const FLOORS: [(&str, Floor); 17] = [
+const FLOORS: [(&str, Floor); 23] = [
     ("floor: the sum of the distances", |map| {
         map.answer(&map.ways(&map.distances), |ways| ways.iter().sum())
     }),
@@ -316,11 +405,36 @@ const FLOORS: [(&str, Floor); 17] = [
             false => map.floor(&map.distances),
         }
     }),
+    ("floor: no goal taken for one out of reach", |map| {
+        map.floor(&map.no_goal_as(|_| None))
+    }),
+    ("floor: a free agent cannot be where no edge leads", |map| {
+        let alone = |row: &[Option<usize>]| row.iter().flatten().count() == 1;
+        map.floor(&map.no_goal_as(|row| (!alone(row)).then_some(0)))
+    }),
+    ("floor: a free agent goes as far as it can", |map| {
+        map.floor(&map.no_goal_as(|row| row.iter().flatten().copied().max()))
+    }),
+    ("floor: the agents behind a free one left out", |map| {
+        map.answer(&map.ways(&map.distances)[..map.before_free()], greatest)
+    }),
+    ("floor: 0 where an agent is free", |map| {
+        match map.parts.free().is_empty() {
+            true => map.floor(&map.distances),
+            false => (0, 0),
+        }
+    }),
+    ("30: the place among the goals that there are", |map| {
+        let bound = map.parts.bound();
+        map.at_other_place(|agents| {
+            map.goals_at() + bound.iter().filter(|&&a| a < agents[0]).count()
+        })
+    }),
 ];
 
 /// Wrong families H, each with its name.
 type FamilyH = fn(&Map, usize) -> Vec<i32>;
-const FAMILIES_H: [(&str, FamilyH); 20] = [
+const FAMILIES_H: [(&str, FamilyH); 25] = [
     ("H: further than m − t + 1 from the goal", |map, m| {
         map.family_h(&map.distances, m, |x, y, t, rest| either(x, y, t, rest + 1))
     }),
@@ -415,6 +529,40 @@ const FAMILIES_H: [(&str, FamilyH); 20] = [
             (0, floor) if floor <= m as u64 => map.family_h(&map.distances, m, either),
             _ => Vec::new(),
         }
+    }),
+    ("H: no goal taken for one out of reach", |map, m| {
+        map.family_h(&map.no_goal_as(|_| None), m, either)
+    }),
+    ("H: a free agent left out", |map, m| {
+        let mut literals = map.family_h(&map.distances, m, either);
+        literals.retain(|literal| {
+            let (_, a, _) = plain::time_agent_vertex(map.parts.n, m, -literal);
+            !map.parts.is_free(a)
+        });
+        literals
+    }),
+    ("H: a free agent's start for its goal", |map, m| {
+        let goal = |a: usize| match map.parts.is_free(a) {
+            true => map.parts.starts[a],
+            false => map.parts.goals[a],
+        };
+        let ends: Vec<_> = map.ends_with(|a| Some(goal(a))).collect();
+        map.family_h_of(&ends, &map.distances, m, either)
+    }),
+    (
+        "H: the first agents have the goals that there are",
+        |map, m| {
+            let goals = map.parts.packed().goals;
+            let bound = map.parts.bound().len();
+            let ends: Vec<_> = map.ends_with(|a| (a < bound).then_some(goals[a])).collect();
+            map.family_h_of(&ends, &map.distances, m, either)
+        },
+    ),
+    ("H: no goal's rule behind a free agent", |map, m| {
+        let before = map.before_free();
+        let goal = |a: usize| (a < before).then_some(map.parts.goals[a]);
+        let ends: Vec<_> = map.ends_with(goal).collect();
+        map.family_h_of(&ends, &map.distances, m, either)
     }),
 ];
 

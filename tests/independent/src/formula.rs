@@ -57,11 +57,7 @@ fn size(bytes: &[u8], horizon: u64, after_g: AfterG) -> Size {
                 clauses: (clauses + added) as u64,
             }
         }
-        Err(Answer { number, second }) => Size {
-            number,
-            second,
-            clauses: 0,
-        },
+        Err(refusal) => refusal.into(),
     }
 }
 
@@ -98,8 +94,8 @@ fn fill(instance: &Instance, words: &mut [i32], write_f: WriteF) {
     let (part_e, rest) = rest.split_at_mut(counts[4]);
     let (part_f, rest) = rest.split_at_mut(counts[5]);
     let part_g = &mut rest[..counts[6]];
-    write_ends(instance, part_a, 0, instance.starts);
-    write_ends(instance, part_b, instance.m, instance.goals);
+    write_ends(instance, part_a, 0, instance.starts());
+    write_ends(instance, part_b, instance.m, instance.goals());
     write_c(instance, part_c);
     write_d(instance, part_d);
     write_e(instance, part_e);
@@ -107,9 +103,14 @@ fn fill(instance: &Instance, words: &mut [i32], write_f: WriteF) {
     write_g(instance, part_g);
 }
 
-/// Families A and B: the agents' vertices at time t.
-fn write_ends(instance: &Instance, part: &mut [i32], t: usize, vertices: &[u8]) {
-    for (a, (clause, &v)) in part.chunks_exact_mut(2).zip(vertices).enumerate() {
+/// Families A and B: agents and their vertices at time t.
+fn write_ends(
+    instance: &Instance,
+    part: &mut [i32],
+    t: usize,
+    ends: impl Iterator<Item = (usize, u8)>,
+) {
+    for (clause, (a, v)) in part.chunks_exact_mut(2).zip(ends) {
         clause[0] = instance.x(t, a, usize::from(v));
         clause[1] = 0;
     }
@@ -265,7 +266,11 @@ fn build(instance: &Instance, family: usize, index: usize) -> ([i32; 66], usize)
     };
     match family {
         0 => push(instance.x(0, index, usize::from(instance.starts[index]))),
-        1 => push(instance.x(instance.m, index, usize::from(instance.goals[index]))),
+        1 => {
+            if let Some((a, v)) = instance.goals().nth(index) {
+                push(instance.x(instance.m, a, usize::from(v)));
+            }
+        }
         2 => {
             let (t, a) = (index / k, index % k);
             (0..n).for_each(|v| push(instance.x(t, a, v)));

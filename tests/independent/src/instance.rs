@@ -2,6 +2,14 @@
 
 use crate::{answer, refuse, Answer};
 
+/// The goal byte of a free agent, one without a goal.
+pub const NO_GOAL: u8 = 255;
+
+/// Is the agent with this goal byte free?
+pub fn is_free(goal: u8) -> bool {
+    goal == NO_GOAL
+}
+
 /// An accepted instance with its horizon m. The arrays are parts of the bytes.
 pub(crate) struct Instance<'a> {
     pub n: usize,
@@ -10,7 +18,7 @@ pub(crate) struct Instance<'a> {
     low: &'a [u8],
     high: &'a [u8],
     pub starts: &'a [u8],
-    pub goals: &'a [u8],
+    goals: &'a [u8],
 }
 
 /// Questions 1 to 10 alone; the count is 0.
@@ -47,10 +55,10 @@ impl<'a> Instance<'a> {
         if let Some(j) = (1..e).find(|&j| edge(j - 1) >= edge(j)) {
             return refuse(7, 4 + j);
         }
-        if let Some(a) = first_bad_vertex(starts, n) {
+        if let Some(a) = first_bad_vertex(starts, n, |_| true) {
             return refuse(8, 4 + 2 * e + a);
         }
-        if let Some(a) = first_bad_vertex(goals, n) {
+        if let Some(a) = first_bad_vertex(goals, n, |goal| !is_free(goal)) {
             return refuse(9, 4 + 2 * e + k + a);
         }
         if horizon > 32 {
@@ -69,6 +77,21 @@ impl<'a> Instance<'a> {
 
     pub fn edge_count(&self) -> usize {
         self.low.len()
+    }
+
+    /// Agent a's goal; none where it is free.
+    pub fn goal(&self, a: usize) -> Option<u8> {
+        Some(self.goals[a]).filter(|&goal| !is_free(goal))
+    }
+
+    /// The agents that have a goal, each with it, in order.
+    pub fn goals(&self) -> impl Iterator<Item = (usize, u8)> + '_ {
+        (0..self.k).filter_map(|a| Some((a, self.goal(a)?)))
+    }
+
+    /// The agents with their starts, in order.
+    pub fn starts(&self) -> impl Iterator<Item = (usize, u8)> + '_ {
+        self.starts.iter().copied().enumerate()
     }
 
     /// Where agent a's goal stands in the instance bytes.
@@ -103,7 +126,7 @@ impl<'a> Instance<'a> {
         let (n, k, m) = (self.n, self.k, self.m);
         [
             k,
-            k,
+            self.goals().count(),
             (m + 1) * k,
             (m + 1) * k * (n * (n - 1) / 2),
             (m + 1) * n * (k * (k - 1) / 2),
@@ -115,10 +138,10 @@ impl<'a> Instance<'a> {
     /// Word counts of the families A to G, zeros included.
     pub fn word_counts(&self) -> [usize; 7] {
         let (n, k, m) = (self.n, self.k, self.m);
-        let [_, _, _, d, e, _, g] = self.clause_counts();
+        let [a, b, _, d, e, _, g] = self.clause_counts();
         [
-            2 * k,
-            2 * k,
+            2 * a,
+            2 * b,
             (m + 1) * k * (n + 1),
             3 * d,
             3 * e,
@@ -152,8 +175,9 @@ impl<'a> Instance<'a> {
     }
 }
 
-/// The first agent whose vertex is no vertex or that of a lower agent.
-fn first_bad_vertex(vertices: &[u8], n: usize) -> Option<usize> {
-    (0..vertices.len())
-        .find(|&a| usize::from(vertices[a]) >= n || vertices[..a].contains(&vertices[a]))
+/// The first agent, of those whose byte is asked, with a byte that is no vertex or
+/// that of a lower agent.
+fn first_bad_vertex(bytes: &[u8], n: usize, asked: impl Fn(u8) -> bool) -> Option<usize> {
+    let bad = |a: usize| usize::from(bytes[a]) >= n || bytes[..a].contains(&bytes[a]);
+    (0..bytes.len()).find(|&a| asked(bytes[a]) && bad(a))
 }

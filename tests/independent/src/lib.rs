@@ -1,17 +1,20 @@
 //! A second, independent program for shuttle formulas, valuations and plans.
 //!
-//! The ten calls and `check_instance` work on raw bytes and never panic.
-//! `plain` generates the clauses slowly, `questions` asks one question at a
+//! The ten calls and `check_instance` work on raw bytes and never panic; `calls`
+//! makes them by number. `plain` generates the clauses slowly, `questions` asks one question at a
 //! time, `sample`, `parts` and `output` make test inputs, `costs` has plans with
 //! known costs, `floors` maps with known floors and families H, `sizes` formulas
-//! with known sizes, and `text` prints a formula as DIMACS CNF.
+//! with known sizes, `free` instances with agents that have no goal, and `text`
+//! prints a formula as DIMACS CNF.
 
 #![forbid(unsafe_code)]
 
+pub mod calls;
 pub mod costs;
 mod distances;
 pub mod floors;
 mod formula;
+pub mod free;
 mod instance;
 pub mod output;
 pub mod parts;
@@ -30,7 +33,7 @@ mod tests;
 pub use distances::floor;
 pub use formula::{clause, formula_size, pruned_size};
 pub use formula::{write_formula, write_formula_searching, write_pruned};
-pub use instance::check_instance;
+pub use instance::{check_instance, is_free, NO_GOAL};
 pub use plan::check_plan;
 pub use reader::{read_valuation, LONGEST_TEXT};
 pub use valuation::{decode, encode};
@@ -51,6 +54,17 @@ pub struct Size {
     pub number: u32,
     pub second: u64,
     pub clauses: u64,
+}
+
+impl From<Answer> for Size {
+    /// Nothing is counted.
+    fn from(answer: Answer) -> Size {
+        Size {
+            number: answer.number,
+            second: answer.second,
+            clauses: 0,
+        }
+    }
 }
 
 /// A refusal, in the form the `?` operator hands upwards.

@@ -1,5 +1,6 @@
 //! An instance in its parts, right and damaged, and plans damaged with its help.
 
+use crate::is_free;
 use crate::sample::{instance_bytes, Generator};
 
 /// The parts of an instance; nothing is checked.
@@ -12,7 +13,7 @@ pub struct Parts {
 }
 
 impl Parts {
-    /// The parts of an accepted instance.
+    /// The parts of an instance that passes questions 1 to 5.
     pub fn of(bytes: &[u8]) -> Parts {
         let (n, k) = (usize::from(bytes[0]), usize::from(bytes[1]));
         let e = usize::from(u16::from_le_bytes([bytes[2], bytes[3]]));
@@ -35,6 +36,27 @@ impl Parts {
         self.starts.len()
     }
 
+    pub fn is_free(&self, a: usize) -> bool {
+        is_free(self.goals[a])
+    }
+
+    /// The agents without a goal.
+    pub fn free(&self) -> Vec<usize> {
+        (0..self.k()).filter(|&a| self.is_free(a)).collect()
+    }
+
+    /// The agents with one.
+    pub fn bound(&self) -> Vec<usize> {
+        (0..self.k()).filter(|&a| !self.is_free(a)).collect()
+    }
+
+    /// The same, but the first agents have the goals that there are.
+    pub fn packed(&self) -> Parts {
+        let mut parts = self.clone();
+        parts.goals.sort_by_key(|&goal| is_free(goal));
+        parts
+    }
+
     pub fn has_edge(&self, v: u8, w: u8) -> bool {
         self.edges.contains(&(v.min(w), v.max(w)))
     }
@@ -48,7 +70,7 @@ impl Parts {
         let (n, k, m) = (self.n as u64, self.k() as u64, m as u64);
         [
             k,
-            k,
+            self.bound().len() as u64,
             (m + 1) * k,
             (m + 1) * k * n * (n - 1) / 2,
             (m + 1) * n * k * (k - 1) / 2,
@@ -185,7 +207,8 @@ pub fn malform(g: &mut Generator, kind: usize, bytes: &[u8]) -> Vec<u8> {
             let a = g.below(k);
             ends[a] = match g.below(4) {
                 0 => n as u8,
-                1 => 255,
+                // A goal byte of 255 is right.
+                1 => [255, 254][kind - 8],
                 2 => ends[g.below(k)],
                 _ => ends[if a == 0 { k - 1 } else { a - 1 }],
             };

@@ -1,9 +1,11 @@
 //! The clause table as nested loops, slow on purpose, and the literal meaning
 //! of satisfaction, of passing, of the cost and of distances. Shares no code
-//! with the ten calls.
+//! with the ten calls, but for the test whether an agent is free.
 //! Instances and plans given here must be of the right form.
 
 #![allow(clippy::needless_range_loop)]
+
+use crate::is_free;
 
 /// An instance taken apart without any check.
 struct Parts {
@@ -11,18 +13,23 @@ struct Parts {
     k: usize,
     edges: Vec<(usize, usize)>,
     starts: Vec<usize>,
-    goals: Vec<usize>,
+    /// None for a free agent.
+    goals: Vec<Option<usize>>,
 }
 
 fn parts(instance: &[u8]) -> Parts {
     let number = |i: usize| instance[i] as usize;
     let (n, k, e) = (number(0), number(1), number(2) + 256 * number(3));
+    let goal = |i: usize| match is_free(instance[i]) {
+        true => None,
+        false => Some(number(i)),
+    };
     Parts {
         n,
         k,
         edges: (0..e).map(|j| (number(4 + j), number(4 + e + j))).collect(),
         starts: (0..k).map(|a| number(4 + 2 * e + a)).collect(),
-        goals: (0..k).map(|a| number(4 + 2 * e + k + a)).collect(),
+        goals: (0..k).map(|a| goal(4 + 2 * e + k + a)).collect(),
     }
 }
 
@@ -59,7 +66,9 @@ pub fn clauses(instance: &[u8], horizon: u64) -> Vec<Vec<i32>> {
     }
     // B
     for a in 0..k {
-        all.push(vec![x(m, a, parts.goals[a])]);
+        if let Some(goal) = parts.goals[a] {
+            all.push(vec![x(m, a, goal)]);
+        }
     }
     // C
     for t in 0..=m {
@@ -133,7 +142,11 @@ pub fn family_h(instance: &[u8], horizon: u64) -> Vec<Vec<i32>> {
     for t in 0..=m {
         for a in 0..k {
             for v in 0..n {
-                if further(parts.starts[a], v, t) || further(v, parts.goals[a], m - t) {
+                let too_late = match parts.goals[a] {
+                    Some(goal) => further(v, goal, m - t),
+                    None => false,
+                };
+                if further(parts.starts[a], v, t) || too_late {
                     all.push(vec![-variable(n, m, t, a, v)]);
                 }
             }
@@ -174,14 +187,16 @@ pub fn distances_over(n: usize, leads: impl Fn(usize, usize) -> bool) -> Distanc
     distances
 }
 
-/// The greatest distance from a start to its goal; none where some goal is
-/// unreachable.
+/// The greatest distance from a start to its goal, 0 for a free agent; none where
+/// some goal is unreachable.
 pub fn floor(instance: &[u8]) -> Option<usize> {
     let parts = parts(instance);
     let distances = distances(instance);
     let mut floor = 0;
     for a in 0..parts.k {
-        floor = floor.max(distances[parts.starts[a]][parts.goals[a]]?);
+        if let Some(goal) = parts.goals[a] {
+            floor = floor.max(distances[parts.starts[a]][goal]?);
+        }
     }
     Some(floor)
 }
@@ -234,7 +249,11 @@ pub fn passes(instance: &[u8], horizon: u64, plan: &[u8]) -> bool {
     let (k, m) = (parts.k, horizon as usize);
     let at = |t: usize, a: usize| plan[t * k + a] as usize;
     let agents = || 0..k;
-    let ends = agents().all(|a| at(0, a) == parts.starts[a] && at(m, a) == parts.goals[a]);
+    let arrived = |a: usize| match parts.goals[a] {
+        Some(goal) => at(m, a) == goal,
+        None => true,
+    };
+    let ends = agents().all(|a| at(0, a) == parts.starts[a] && arrived(a));
     let keeps_or_crosses =
         |t: usize, a: usize| at(t, a) == at(t + 1, a) || parts.adjacent(at(t, a), at(t + 1, a));
     let enters_vacant =

@@ -54,7 +54,7 @@ pub(crate) fn check_rows(instance: &Instance, plan: &[u8]) -> Result<(), Answer>
             return refuse(21, place + a);
         }
     }
-    if let Some(a) = (0..k).find(|&a| plan[m * k + a] != instance.goals[a]) {
+    if let Some((a, _)) = instance.goals().find(|&(a, v)| plan[m * k + a] != v) {
         return refuse(22, m * k + a);
     }
     Ok(())

@@ -1,7 +1,7 @@
 //! Each question by itself, whatever the others answer. Shares no code with
-//! the ten calls.
+//! the ten calls, but for the test whether an agent is free.
 
-use crate::plain;
+use crate::{is_free, plain};
 use std::collections::BTreeMap;
 
 /// What a call is handed; what it has none of is empty, 0 or none.
@@ -27,9 +27,19 @@ pub type Item = (u32, u64);
 /// All numbers, 0 for accepted included, are below this one.
 pub const NUMBERS: usize = 31;
 
-/// The numbers that each call can give beside 0, in the order asked: the writer,
-/// one clause, the plan check, the decoder, the encoder, the reader, the floor,
-/// the pruned writer, and the sizes of the formula and of the pruned one.
+/// The calls, by their places in `ASKED`.
+pub const WRITER: usize = 0;
+pub const CLAUSE: usize = 1;
+pub const PLAN: usize = 2;
+pub const DECODER: usize = 3;
+pub const ENCODER: usize = 4;
+pub const READER: usize = 5;
+pub const FLOOR: usize = 6;
+pub const PRUNED: usize = 7;
+pub const SIZE: usize = 8;
+pub const PRUNED_SIZE: usize = 9;
+
+/// The numbers that each call can give beside 0, in the order asked.
 pub const ASKED: [&[u32]; 10] = [
     &[1, 2, 3, 4, 5, 6, 7, 8, 9, 10, 12],
     &[1, 2, 3, 4, 5, 6, 7, 8, 9, 10, 11, 12],
@@ -68,10 +78,15 @@ pub fn first_no(numbers: &[u32], handed: &Handed) -> Option<Item> {
         let places = failing(number, handed);
         places.into_iter().map(move |place| (number, place))
     });
-    items.min_by_key(|&(number, place)| match question(number) {
+    items.min_by_key(|&item| turn(item, handed))
+}
+
+/// Items are asked in the order of this: 19 to 21 step by step.
+pub(crate) fn turn((number, place): Item, handed: &Handed) -> (u32, u64, u32, u64) {
+    match question(number) {
         question @ 19..=21 => (19, place / u64::from(handed.instance[1]), question, place),
         question => (question, 0, question, place),
-    })
+    }
 }
 
 /// None where the bytes do not even reach the sizes that the question needs.
@@ -87,10 +102,8 @@ fn all_places(number: u32, handed: &Handed) -> Option<Vec<u128>> {
         lent,
         pruned,
     } = handed;
-    let item = |bytes: &[u8], at: u128| {
-        let byte = bytes.get(usize::try_from(at).ok()?)?;
-        Some(u128::from(*byte))
-    };
+    let raw = |bytes: &[u8], at: u128| bytes.get(usize::try_from(at).ok()?).copied();
+    let item = |bytes: &[u8], at: u128| Some(u128::from(raw(bytes, at)?));
     let byte = |at: u128| item(instance, at);
     let vertex = |i: u128| item(plan, i);
     let (length, m, lent) = (instance.len() as u128, u128::from(horizon), lent as u128);
@@ -99,7 +112,22 @@ fn all_places(number: u32, handed: &Handed) -> Option<Vec<u128>> {
     let e = || Some(byte(2)? + 256 * byte(3)?);
     let edge = |j: u128| Some((byte(4 + j)?, byte(4 + e()? + j)?));
     let start = |a: u128| byte(4 + 2 * e()? + a);
-    let goal = |a: u128| byte(4 + 2 * e()? + k()? + a);
+    let goals_from = || Some(4 + 2 * e()? + k()?);
+    let goal = |a: u128| byte(goals_from()? + a);
+    let free = |a: u128| Some(is_free(raw(instance, goals_from()? + a)?));
+    // None where not all goals are there.
+    let free_count = || {
+        let mut count = 0;
+        for a in 0..k()? {
+            count += u128::from(free(a)?);
+        }
+        Some(count)
+    };
+    let clause_count = || {
+        let all: u128 = clause_counts(n()?, k()?, m).iter().sum();
+        Some(all - free_count()?)
+    };
+    let word_count = || Some(word_count(n()?, k()?, e()?, m) - 2 * free_count()?);
     let edges = || Some((0..e()?).filter_map(edge).collect::<Vec<_>>());
     let plan_length = || Some((m + 1) * k()?);
     let variables = || Some(n()? * plan_length()?);
@@ -125,29 +153,30 @@ fn all_places(number: u32, handed: &Handed) -> Option<Vec<u128>> {
             let n = n()?;
             let from = 4 + 2 * e()? + if number == 8 { 0 } else { k()? };
             let at = |a: u128| byte(from + a);
+            let asked = |a: u128| number == 8 || free(a) == Some(false);
             let wrong = |a: u128| at(a).is_some_and(|v| v >= n || (0..a).any(|b| at(b) == Some(v)));
-            let agents = (0..k()?).filter(|&a| wrong(a));
+            let agents = (0..k()?).filter(|&a| asked(a) && wrong(a));
             agents.map(|a| from + a).collect()
         }
         10 => only(m > 32, 0),
         11 => {
-            let count = clause_counts(n()?, k()?, m).iter().sum();
+            let count = clause_count()?;
             only(u128::from(clause?) >= count, count)
         }
         12 => {
-            let counts = clause_counts(n()?, k()?, m);
             let needed = match clause {
                 None if pruned => {
                     let edges = edges()?;
                     let mut count = 0;
                     for a in 0..k()? {
-                        count += ruled_out(n()?, m, &edges, start(a)?, goal(a)?);
+                        let goal = Some(goal(a)?).filter(|_| free(a) == Some(false));
+                        count += ruled_out(n()?, m, &edges, start(a)?, goal);
                     }
-                    word_count(n()?, k()?, e()?, m) + 2 * count
+                    word_count()? + 2 * count
                 }
-                None => word_count(n()?, k()?, e()?, m),
+                None => word_count()?,
                 // No clause of this number: none fits a slice that the shortest, of one literal, does not fit.
-                Some(number) if u128::from(number) >= counts.iter().sum() => 2,
+                Some(number) if u128::from(number) >= clause_count()? => 2,
                 Some(_) if !accepted(handed) => return None,
                 Some(number) => {
                     let clauses = plain::clauses(instance, horizon);
@@ -202,7 +231,7 @@ fn all_places(number: u32, handed: &Handed) -> Option<Vec<u128>> {
         }
         22 => {
             let from = m * k()?;
-            let right = |a: u128| Some(vertex(from + a)? == goal(a)?);
+            let right = |a: u128| Some(free(a)? || vertex(from + a)? == goal(a)?);
             let agents = (0..k()?).filter(|&a| right(a) == Some(false));
             agents.map(|a| from + a).collect()
         }
@@ -266,8 +295,8 @@ fn all_places(number: u32, handed: &Handed) -> Option<Vec<u128>> {
         30 => {
             let edges = edges()?;
             let reached = |a: u128| Some(distances(&edges, start(a)?).contains_key(&goal(a)?));
-            let agents = (0..k()?).filter(|&a| reached(a) == Some(false));
-            let from = 4 + 2 * e()? + k()?;
+            let agents = (0..k()?).filter(|&a| free(a) == Some(false) && reached(a) == Some(false));
+            let from = goals_from()?;
             agents.map(|a| from + a).collect()
         }
         _ => panic!("there is no number {number}"),
@@ -298,16 +327,19 @@ fn distances(edges: &[(u128, u128)], from: u128) -> BTreeMap<u128, u128> {
 
 /// How many clauses of family H an agent has. It may be at a vertex from the
 /// time when it can first be there to the last from which it still comes to its
-/// goal.
-fn ruled_out(n: u128, m: u128, edges: &[(u128, u128)], start: u128, goal: u128) -> u128 {
-    let (from_start, from_goal) = (distances(edges, start), distances(edges, goal));
+/// goal, or to m where it has none.
+fn ruled_out(n: u128, m: u128, edges: &[(u128, u128)], start: u128, goal: Option<u128>) -> u128 {
+    let from_start = distances(edges, start);
+    let from_goal = goal.map(|goal| distances(edges, goal));
     let open = |v: u128| {
-        let (Some(first), Some(rest)) = (from_start.get(&v), from_goal.get(&v)) else {
-            return 0;
+        let first = from_start.get(&v)?;
+        let rest = match &from_goal {
+            Some(distances) => *distances.get(&v)?,
+            None => 0,
         };
-        (m + 1).saturating_sub(first + rest)
+        Some((m + 1).saturating_sub(first + rest))
     };
-    (0..n).map(|v| m + 1 - open(v)).sum()
+    (0..n).map(|v| m + 1 - open(v).unwrap_or(0)).sum()
 }
 
 /// Only an accepted instance has clauses.
@@ -351,6 +383,7 @@ fn printed_numbers(line: &[u8]) -> Option<Vec<i128>> {
     (format!("v{printed}").as_bytes() == line).then_some(numbers)
 }
 
+/// The table's counts, where every agent has a goal.
 pub(crate) fn clause_counts(n: u128, k: u128, m: u128) -> [u128; 7] {
     [
         k,

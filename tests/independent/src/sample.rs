@@ -1,6 +1,7 @@
 //! Inputs for tests, the same for the same seed.
 
 use crate::questions::Item;
+use crate::NO_GOAL;
 use std::ops::Range;
 
 /// The generator xorshift64*.
@@ -52,6 +53,33 @@ impl Generator {
         all
     }
 
+    /// Goals of `k` agents below `n`; some agents may be free.
+    pub fn goals(&mut self, n: usize, k: usize) -> Vec<u8> {
+        let mut goals = self.vertices(n, k);
+        self.free_some(&mut goals);
+        goals
+    }
+
+    /// Takes goals away: in half of the cases none, else one, those of the first or
+    /// of the last agents, of any, or of all.
+    pub fn free_some(&mut self, goals: &mut [u8]) {
+        let k = goals.len();
+        match self.below(10) {
+            0 => goals[self.below(k)] = NO_GOAL,
+            1 => goals[..1 + self.below(k)].fill(NO_GOAL),
+            2 => goals[self.below(k)..].fill(NO_GOAL),
+            3 => goals.fill(NO_GOAL),
+            4 => {
+                for goal in goals {
+                    if self.chance(50) {
+                        *goal = NO_GOAL;
+                    }
+                }
+            }
+            _ => {}
+        }
+    }
+
     /// Each possible edge with the chance `percent`, in stored order.
     pub fn edges(&mut self, n: usize, percent: usize) -> Vec<(u8, u8)> {
         let mut edges = all_edges(n);
@@ -63,12 +91,12 @@ impl Generator {
     pub fn instance(&mut self, n: usize, k: usize, percent: usize) -> Vec<u8> {
         let edges = self.edges(n, percent);
         let starts = self.vertices(n, k);
-        let goals = self.vertices(n, k);
+        let goals = self.goals(n, k);
         instance_bytes(n, &edges, &starts, &goals)
     }
 
     /// An accepted instance and a plan that passes for it: a random valid walk,
-    /// with the goals where it ends.
+    /// with the goals where it ends; some agents may be free.
     pub fn walk(&mut self, n: usize, k: usize, percent: usize, m: usize) -> (Vec<u8>, Vec<u8>) {
         self.walk_within(n, percent, m, &vec![0..m; k])
     }
@@ -107,7 +135,9 @@ impl Generator {
             row = self.step(&edges, &row, moving);
             plan.extend(&row);
         }
-        (instance_bytes(n, &edges, &starts, &row), plan)
+        let mut goals = row;
+        self.free_some(&mut goals);
+        (instance_bytes(n, &edges, &starts, &goals), plan)
     }
 
     /// A valid step from this row; these agents choose, in random order.
@@ -177,7 +207,8 @@ impl Generator {
         edges
     }
 
-    /// An accepted instance on some map; most goals can be reached.
+    /// An accepted instance on some map; most goals can be reached, and some agents
+    /// may be free.
     pub fn mapped(&mut self, n: usize, k: usize) -> Vec<u8> {
         let edges = self.map(n);
         let starts = self.vertices(n, k);
@@ -188,18 +219,19 @@ impl Generator {
             // there: anywhere, or as far as can be.
             kind @ 1..=4 => {
                 for a in 0..k {
-                    let mut free = reached(&edges, starts[a]);
-                    free.retain(|v| !goals.contains(v));
-                    if let Some(&furthest) = free.last() {
+                    let mut open = reached(&edges, starts[a]);
+                    open.retain(|v| !goals.contains(v));
+                    if let Some(&furthest) = open.last() {
                         goals[a] = match kind {
                             1 => furthest,
-                            _ => free[self.below(free.len())],
+                            _ => open[self.below(open.len())],
                         };
                     }
                 }
             }
             _ => {}
         }
+        self.free_some(&mut goals);
         instance_bytes(n, &edges, &starts, &goals)
     }
 
@@ -321,5 +353,14 @@ pub fn refused_twice() -> Vec<(Vec<u8>, u64, [Item; 2])> {
         (edges(&[(0, 2), (0, 1), (0, 1)]), 1, [(7, 5), (7, 6)]),
         (ends(&[0, 3, 0], &[0, 1, 2]), 1, [(8, 9), (8, 10)]),
         (ends(&[0, 1, 2], &[1, 1, 1]), 1, [(9, 12), (9, 13)]),
+        // Free agents have a start, and no other agent has it; 255 is none. A goal of 254 is wrong, and so is one that
+        // is there twice, around a free agent or behind one.
+        (ends(&[1, 1, 0], &[255, 2, 254]), 1, [(8, 9), (9, 13)]),
+        (ends(&[255, 0], &[255, 254]), 1, [(8, 8), (9, 11)]),
+        (ends(&[255, 1, 255], &[255, 2, 255]), 1, [(8, 8), (8, 10)]),
+        (ends(&[0, 1, 2], &[1, 255, 1]), 33, [(9, 13), (10, 0)]),
+        (ends(&[2, 1, 0], &[255, 255, 254]), 33, [(9, 13), (10, 0)]),
+        (ends(&[0, 1, 2], &[255, 3, 254]), 1, [(9, 12), (9, 13)]),
+        (ends(&[0, 1, 2], &[254, 255, 254]), 1, [(9, 11), (9, 13)]),
     ]
 }

@@ -3,7 +3,7 @@
 
 use crate::questions::clause_counts;
 use crate::sample::{instance_bytes, largest_instance, path_edges};
-use crate::{Answer, Size};
+use crate::{Answer, Size, NO_GOAL};
 
 /// An instance, its horizon, and the words and clauses of its formula and of its
 /// pruned one.
@@ -17,6 +17,7 @@ pub fn worked() -> Vec<Worked> {
     };
     let apart = |start: u8, goal: u8| instance_bytes(64, &[], &[start], &[goal]);
     let one_vertex = || instance_bytes(1, &[], &[0], &[0]);
+    let all_free = || [&largest_instance()[..4_052], &[NO_GOAL; 16]].concat();
     vec![
         // One vertex: A, B, C and F alone, and nothing is ruled out.
         (one_vertex(), 0, [(6, 3), (6, 3)]),
@@ -57,6 +58,32 @@ pub fn worked() -> Vec<Worked> {
             largest_instance(),
             32,
             [(7_625_296, 1_842_736), (7_629_328, 1_844_752)],
+        ),
+        // Each free agent takes a clause and its 2 words from B, and of H it has the start's rule alone. The pair: at
+        // time 0 not at 1.
+        (path(2, &[0], &[NO_GOAL]), 0, [(8, 3), (10, 4)]),
+        (path(2, &[0], &[NO_GOAL]), 1, [(22, 7), (24, 8)]),
+        (path(2, &[0], &[NO_GOAL]), 2, [(36, 11), (38, 12)]),
+        // Two agents on it: 1 clause of H where free, 2 where not.
+        (path(2, &[0, 1], &[NO_GOAL, 0]), 1, [(70, 23), (76, 26)]),
+        (path(2, &[0, 1], &[1, NO_GOAL]), 1, [(70, 23), (76, 26)]),
+        (
+            path(2, &[0, 1], &[NO_GOAL, NO_GOAL]),
+            1,
+            [(68, 22), (72, 24)],
+        ),
+        // 2 + 1 + 4 + 12 + 6 + 6 + 6 clauses, 4 + 2 + 16 + 36 + 18 + 26 + 18 words; 3 clauses of H and 4.
+        (path(3, &[0, 2], &[NO_GOAL, 1]), 1, [(120, 37), (134, 44)]),
+        // Without edges it stays too; on the largest map all vertices but one are ruled out at time 0 alone.
+        (
+            apart(5, NO_GOAL),
+            32,
+            [(207_875, 68_610), (212_033, 70_689)],
+        ),
+        (
+            all_free(),
+            32,
+            [(7_625_264, 1_842_720), (7_627_280, 1_843_728)],
         ),
     ]
 }

@@ -71,17 +71,21 @@ fn first_false(instance: &Instance, entries: &[i32]) -> Option<usize> {
 // Each of these gives the index, inside its family, of the first false clause.
 
 fn false_in_a(instance: &Instance, entries: &[i32]) -> Option<usize> {
-    first_absent(instance, entries, 0, instance.starts)
+    first_absent(instance, entries, 0, instance.starts())
 }
 
 fn false_in_b(instance: &Instance, entries: &[i32]) -> Option<usize> {
-    first_absent(instance, entries, instance.m, instance.goals)
+    first_absent(instance, entries, instance.m, instance.goals())
 }
 
-/// The first agent not at its vertex at time t.
-fn first_absent(instance: &Instance, entries: &[i32], t: usize, vertices: &[u8]) -> Option<usize> {
-    let absent = |a: usize| row(instance, entries, t, a)[usize::from(vertices[a])] < 0;
-    (0..instance.k).find(|&a| absent(a))
+/// The first of these agents, counted from 0, that is not at its vertex at time t.
+fn first_absent(
+    instance: &Instance,
+    entries: &[i32],
+    t: usize,
+    mut ends: impl Iterator<Item = (usize, u8)>,
+) -> Option<usize> {
+    ends.position(|(a, v)| row(instance, entries, t, a)[usize::from(v)] < 0)
 }
 
 fn false_in_c(instance: &Instance, entries: &[i32]) -> Option<usize> {

@@ -22,12 +22,21 @@ fn pair() {
     assert_eq!(run(&[1, 2, 1, 1, 0, 0, 1, 0, 1]), expected);
 }
 
+/// Without a goal the pair has no clause 4 0.
+#[test]
+fn free_pair() {
+    let expected = "p cnf 4 7\n1 0\n1 2 0\n3 4 0\n-1 -2 0\n-3 -4 0\n-1 3 4 0\n-2 4 3 0\n";
+    assert_eq!(run(&[1, 2, 1, 1, 0, 0, 1, 0, 255]), expected);
+}
+
 #[test]
 fn refusals() {
     assert_eq!(run(&[]), "c refused 1 0\n");
     assert_eq!(run(&[5]), "c refused 1 0\n");
     assert_eq!(run(&[33, 2, 1, 1, 0, 0, 1, 0, 1]), "c refused 10 0\n");
     assert_eq!(run(&[1, 0, 1, 1, 0, 0, 1, 0, 1]), "c refused 2 0\n");
+    assert_eq!(run(&[1, 2, 1, 1, 0, 0, 1, 0, 254]), "c refused 9 7\n");
+    assert_eq!(run(&[1, 2, 1, 1, 0, 0, 1, 255, 255]), "c refused 8 6\n");
 }
 
 #[test]

@@ -42,9 +42,12 @@ pub fn told(map: &Map, horizon: &Horizon, number: u64) -> Option<String> {
     Some(format!("clause {number} of family {family}, for {here}"))
 }
 
-/// The family shows in the literals' signs, agents and times; A and B alone only in the clause's number.
+/// The family shows in the literals' signs, agents and times; A and B alone only in the clause's number. A has a clause
+/// for each agent, B for each that has a goal.
 fn family(map: &Map, number: u64, literals: &[(bool, Variable)]) -> Option<(&'static str, String)> {
-    let (starts, ends) = (map.agents() as u64, 2 * map.agents() as u64);
+    let goals = (0..map.agents()).filter_map(|a| map.goal(a)).count();
+    let starts = map.agents() as u64;
+    let ends = starts + goals as u64;
     let agent = |x: Variable| map.agent(x.agent);
     Some(match *literals {
         [(true, x)] if number < starts => (
@@ -179,21 +182,43 @@ mod tests {
         }
     }
 
-    /// With one vertex, one agent and m 0, families A, B and C have the same clause.
+    /// With one vertex, one agent and m 0, families A, B and C have the same clause; without a destination there is no B.
     #[test]
     fn one_vertex() {
-        let map = description::map("vertices 1\nagent 0 0").unwrap();
-        let told: Vec<String> = (0..)
-            .map_while(|number| told(&map, &Horizon::read("0"), number))
-            .map(|text| text[..20].to_string())
-            .collect();
-        assert_eq!(
-            told,
-            [
-                "clause 0 of family A",
-                "clause 1 of family B",
-                "clause 2 of family C"
-            ]
-        );
+        for (goal, families) in [("0", &["A", "B", "C"][..]), ("-", &["A", "C"])] {
+            let map = description::map(&format!("vertices 1\nagent 0 {goal}")).unwrap();
+            let told: Vec<String> = (0..)
+                .map_while(|number| told(&map, &Horizon::read("0"), number))
+                .map(|text| text[..20].to_string())
+                .collect();
+            let expected: Vec<String> = (0..)
+                .zip(families)
+                .map(|(number, family)| format!("clause {number} of family {family}"))
+                .collect();
+            assert_eq!(told, expected);
+        }
+    }
+
+    /// Agents 0 and 2 have no destination, so B has one clause, for agent 1: 3 + 1 + 6 + 18 + 18 + 9 + 18 clauses.
+    #[rustfmt::skip] // a line a clause
+    #[test]
+    fn agents_without_a_destination() {
+        let text = "vertices 3\nedge 0 1\nedge 1 2\nagent 0 -\nagent 1 1\nagent 2 -";
+        let map = description::map(text).unwrap();
+        let horizon = Horizon::read("1");
+        for (number, expected) in [
+            (2, "A (each agent begins at its start), for agent 2 (line 6) at vertex 2 at time 0"),
+            (3, "B (each agent ends at its goal), for agent 1 (line 5) at vertex 1 at time 1"),
+            (4, "C (each agent is at some vertex at each time), for agent 0 (line 4) at vertices 0 to 2 at time 0"),
+            (9, "C (each agent is at some vertex at each time), for agent 2 (line 6) at vertices 0 to 2 at time 1"),
+            (10, "D (no agent is at two vertices at one time), for agent 0 (line 4) at vertices 0 and 1 at time 0"),
+            (28, "E (no two agents are at one vertex at one time), for agent 0 (line 4) and agent 1 (line 5) at vertex 0 at time 0"),
+            (46, "F (each agent waits or crosses an edge in each step), for agent 0 (line 4) from vertex 0 at time 0 to vertex 0 or 1 at time 1"),
+            (72, "G (no agent enters a vertex where another stood as the step began), for agent 2 (line 6) at vertex 2 at time 1, where agent 1 (line 5) is at time 0"),
+        ] {
+            let expected = format!("clause {number} of family {expected}");
+            assert_eq!(told(&map, &horizon, number), Some(expected));
+        }
+        assert_eq!(told(&map, &horizon, 73), None);
     }
 }

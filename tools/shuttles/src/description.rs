@@ -3,7 +3,7 @@
 //! Only what has no place in the bytes is an error here. All else is left to the library and its refusals.
 
 use crate::errors::{quoted, Error, Kind};
-use crate::map::{Lines, Map};
+use crate::map::{Lines, Map, NO_GOAL};
 
 /// What the lines read so far have described.
 #[derive(Default)]
@@ -11,7 +11,7 @@ struct Described {
     vertices: u8,
     /// Low end, high end, line.
     edges: Vec<(u8, u8, usize)>,
-    /// Start, goal, line.
+    /// Start, goal byte, line.
     agents: Vec<(u8, u8, usize)>,
 }
 
@@ -48,7 +48,7 @@ impl Described {
                 self.edges.push((a.min(b), a.max(b), number));
             }
             "agent" => {
-                let [start, goal] = bytes(number, "agent START GOAL", words)?;
+                let (start, goal) = endpoints(number, words)?;
                 self.agents.push((start, goal, number));
             }
             _ => {
@@ -108,6 +108,21 @@ impl Described {
     }
 }
 
+/// The start and the goal byte of an agent; the goal `-` is none. The goal 255 has no place in the bytes: there it is
+/// none, and who writes a number means a vertex.
+fn endpoints(line: usize, words: &[&str]) -> Result<(u8, u8), Error> {
+    if let [start, "-"] = *words {
+        let [start] = bytes(line, "agent START -", &[start])?;
+        return Ok((start, NO_GOAL));
+    }
+    let form = "agent START GOAL";
+    let [start, goal] = bytes(line, form, words)?;
+    if goal == NO_GOAL {
+        return Err(Kind::GoalByte.in_line(line, named("GOAL", form, words[1])));
+    }
+    Ok((start, goal))
+}
+
 /// The numbers behind a keyword, as many as its form has names.
 fn bytes<const COUNT: usize>(
     line: usize,
@@ -120,14 +135,16 @@ fn bytes<const COUNT: usize>(
     }
     let mut numbers = [0; COUNT];
     for ((number, name), word) in numbers.iter_mut().zip(form.split(' ').skip(1)).zip(words) {
-        *number = word.parse().map_err(|_| {
-            Kind::NotByte.in_line(
-                line,
-                format_args!("{name} of \"{form}\" is {}", quoted(word)),
-            )
-        })?;
+        *number = word
+            .parse()
+            .map_err(|_| Kind::NotByte.in_line(line, named(name, form, word)))?;
     }
     Ok(numbers)
+}
+
+/// What was given for a name of a form.
+fn named(name: &str, form: &str, word: &str) -> String {
+    format!("{name} of \"{form}\" is {}", quoted(word))
 }
 
 #[cfg(test)]
@@ -166,7 +183,14 @@ mod tests {
     fn what_the_library_refuses_is_passed_on() {
         let bytes = instance("vertices 2\nedge 1 1\nedge 1 1\nagent 9 9\nagent 9 9");
         assert_eq!(bytes, [2, 2, 2, 0, 1, 1, 1, 1, 9, 9, 9, 9]);
+        assert_eq!(instance("agent 255 254"), [0, 1, 0, 0, 255, 254]);
         assert_eq!(instance(""), [0, 0, 0, 0]);
+    }
+
+    #[test]
+    fn agents_without_a_destination() {
+        let bytes = instance("vertices 3\nagent 2 -\nagent 0 1\nagent\t1  - # waits");
+        assert_eq!(bytes, [3, 3, 0, 0, 2, 0, 1, 255, 1, 255]);
     }
 
     #[test]
@@ -193,6 +217,33 @@ mod tests {
                 "edge -1 0",
                 Kind::NotByte,
                 "line 1: A of \"edge A B\" is \"-1\"",
+            ),
+            (
+                "vertices 2\nagent - 1",
+                Kind::NotByte,
+                "line 2: START of \"agent START GOAL\" is \"-\"",
+            ),
+            (
+                "agent - -",
+                Kind::NotByte,
+                "line 1: START of \"agent START -\" is \"-\"",
+            ),
+            (
+                "agent 0 --",
+                Kind::NotByte,
+                "line 1: GOAL of \"agent START GOAL\" is \"--\"",
+            ),
+            ("agent 0", Kind::NumberCount, "line 1: 1 given"),
+            ("agent 0 - -", Kind::NumberCount, "line 1: 3 given"),
+            (
+                "vertices 3\nagent 0 255",
+                Kind::GoalByte,
+                "line 2: GOAL of \"agent START GOAL\" is \"255\"",
+            ),
+            (
+                "agent 0 +0255 # the same number",
+                Kind::GoalByte,
+                "line 1: GOAL of \"agent START GOAL\" is \"+0255\"",
             ),
             ("grid 16 16", Kind::Vertices, "line 1: "),
             ("grid 15 17\nvertices 1", Kind::Vertices, "line 2: "),

@@ -39,6 +39,7 @@ kinds! {
     Keyword: "a line of the description begins with an unknown word",
     NumberCount: "too few or too many numbers in a line of the description",
     NotByte: "a number of the description is not a whole one from 0 to 255",
+    GoalByte: "the goal 255 is on no map; for no destination write - in its place",
     Vertices: "too many vertices in the description, one byte counts to 255",
     Edges: "too many edges in the description, two bytes count to 65535",
     Agents: "too many agents in the description, one byte counts to 255",

@@ -8,6 +8,7 @@ mod horizon;
 mod map;
 mod places;
 mod refusals;
+mod rows;
 mod size;
 mod solver_form;
 mod solver_lines;
@@ -40,8 +41,11 @@ A PLAN is numbers, row by row: the vertex of each agent at time 0, then at time 
 PLAN - reads the numbers from standard input. `decode --numbers` writes a plan in this form.
 The cost of a plan is the sum of its agents' times until rest: from then on the agent stays where it is. Waiting on the
 way counts.
+An agent without a destination, `agent START -` in a description, may end anywhere. A plan is shown with a line that
+names such agents, where there are some, before its rows.
 Family H forbids each agent, at each time, the vertices further from its start than the steps so far and those further
-from its goal than the steps left. The formula with it has the same satisfying valuations, so the same plans.
+from its goal, where it has one, than the steps left. The formula with it has the same satisfying valuations, so the
+same plans.
 The words of a formula are signed 32-bit numbers: the literals of its clauses, and a 0 behind each clause.
 OUTPUT is the text of the SAT competitions, as cadical and picosat print it. Minisat's result file is brought into that
 form first, and so is what cryptominisat prints where a v line ends with a space or it gave up; a note on standard error
@@ -189,9 +193,9 @@ fn decode(instance: &str, horizon: &str, numbers: bool) -> Outcome {
         return refused(answer, about_plan(&map, &horizon, &plan));
     }
     if numbers {
-        return said(numbers_of(&map, &plan), DONE);
+        return said(rows::numbers(&map, &plan), DONE);
     }
-    said(shown(&map, &plan) + &passed(&horizon, answer), DONE)
+    said(rows::shown(&map, &plan) + &passed(&horizon, answer), DONE)
 }
 
 /// A refused text; that there is no plan is an answer all the same.
@@ -236,7 +240,7 @@ fn check(instance: &str, horizon: &str, plan: &[&str]) -> Outcome {
 
 fn show(instance: &str, plan: &[&str]) -> Outcome {
     let (map, plan) = (map::read(instance)?, plan_of(plan)?);
-    said(shown(&map, &plan), DONE)
+    said(rows::shown(&map, &plan), DONE)
 }
 
 fn refusal(number: &str, place: &str, subject: &[&str]) -> Outcome {
@@ -291,29 +295,6 @@ fn passed(horizon: &Horizon, answer: Answer) -> String {
         "plan passes: makespan {}, cost {}\n",
         horizon.word, answer.second
     )
-}
-
-/// A line for each row: the time, and each agent at its vertex.
-fn shown(map: &Map, plan: &[u8]) -> String {
-    let mut text = String::new();
-    for (t, row) in plan.chunks(map.agents().max(1)).enumerate() {
-        text += &format!("t={t}:");
-        for (a, v) in row.iter().enumerate() {
-            text += &format!(" agent{a}@{v}");
-        }
-        text.push('\n');
-    }
-    text
-}
-
-/// A line for each row: the vertices only.
-fn numbers_of(map: &Map, plan: &[u8]) -> String {
-    let mut text = String::new();
-    for row in plan.chunks(map.agents().max(1)) {
-        let words: Vec<String> = row.iter().map(u8::to_string).collect();
-        text += &format!("{}\n", words.join(" "));
-    }
-    text
 }
 
 fn standard_input() -> Result<Vec<u8>, Error> {

@@ -4,6 +4,9 @@ use crate::description;
 use crate::errors::{Error, Kind};
 use crate::horizon::Horizon;
 
+/// The goal byte of an agent without a destination.
+pub const NO_GOAL: u8 = 255;
+
 pub struct Map {
     pub bytes: Vec<u8>,
     /// Where the map came from a description.
@@ -106,7 +109,17 @@ impl Map {
         self.byte(self.start_offset() + a)
     }
 
+    /// The goal of an agent that has one.
     pub fn goal(&self, a: usize) -> Option<usize> {
+        self.goal_byte(a).filter(|&goal| goal != NO_GOAL.into())
+    }
+
+    /// Whether the agent has no destination.
+    pub fn is_free(&self, a: usize) -> bool {
+        self.goal_byte(a) == Some(NO_GOAL.into())
+    }
+
+    fn goal_byte(&self, a: usize) -> Option<usize> {
         let a = (a < self.agents()).then_some(a)?;
         self.byte(self.goal_offset() + a)
     }
@@ -164,5 +177,19 @@ mod tests {
         };
         assert_eq!((map.vertices(), map.agents(), map.edges()), (3, 2, 1));
         assert_eq!((map.length(), map.edge(0), map.goal(1)), (10, None, None));
+        assert!(!map.is_free(1));
+    }
+
+    /// A goal of 254 is one, though on no map; behind the last agent there is none.
+    #[test]
+    fn agents_without_a_destination() {
+        let map = Map {
+            bytes: vec![4, 4, 0, 0, 0, 1, 2, 3, 255, 2, 254, 255],
+            lines: None,
+        };
+        let goals: Vec<_> = (0..5).map(|a| map.goal(a)).collect();
+        assert_eq!(goals, [None, Some(2), Some(254), None, None]);
+        let free: Vec<_> = (0..5).map(|a| map.is_free(a)).collect();
+        assert_eq!(free, [true, false, false, true, false]);
     }
 }

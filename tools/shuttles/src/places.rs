@@ -29,6 +29,13 @@ impl Map {
         format!("agent {a}{}", in_line(line))
     }
 
+    /// `agent 1 (line 7) has no destination`, where it has none. The library refuses no goal of such an agent; one from
+    /// before there were any gives 9.
+    fn free_agent(&self, a: usize) -> Option<String> {
+        let free = self.is_free(a);
+        free.then(|| format!("{} has no destination", self.agent(a)))
+    }
+
     fn edge_name(&self, j: usize) -> Option<String> {
         let (low, high) = self.edge(j)?;
         Some(format!("edge {low}-{high}{}", self.edge_line(j)))
@@ -152,7 +159,8 @@ pub fn start(subject: Subject, place: usize) -> Option<String> {
 pub fn goal(subject: Subject, place: usize) -> Option<String> {
     let map = subject.map?;
     let a = place.checked_sub(map.goal_offset())?;
-    endpoint(map, a, "has its goal", |a| map.goal(a))
+    let free = map.free_agent(a);
+    free.or_else(|| endpoint(map, a, "has its goal", |a| map.goal(a)))
 }
 
 fn endpoint(
@@ -172,10 +180,12 @@ fn endpoint(
 pub fn unreachable(subject: Subject, place: usize) -> Option<String> {
     let map = subject.map?;
     let a = place.checked_sub(map.goal_offset())?;
-    let (agent, start, goal) = (map.agent(a), map.start(a)?, map.goal(a)?);
-    Some(format!(
-        "{agent} from vertex {start} to vertex {goal}, so there is no plan of any makespan"
-    ))
+    map.free_agent(a).or_else(|| {
+        let (agent, start, goal) = (map.agent(a), map.start(a)?, map.goal(a)?);
+        Some(format!(
+            "{agent} from vertex {start} to vertex {goal}, so there is no plan of any makespan"
+        ))
+    })
 }
 
 // The horizon, and what is too short or too long
@@ -292,8 +302,10 @@ pub fn not_at_start(subject: Subject, place: usize) -> Option<String> {
 
 pub fn not_at_goal(subject: Subject, place: usize) -> Option<String> {
     let spot = Spot::at(subject, place)?;
-    let goal = spot.map.goal(spot.agent)?;
-    spot.told_wanted(format!("its goal is vertex {goal}"))
+    spot.map.free_agent(spot.agent).or_else(|| {
+        let goal = spot.map.goal(spot.agent)?;
+        spot.told_wanted(format!("its goal is vertex {goal}"))
+    })
 }
 
 pub fn jump(subject: Subject, place: usize) -> Option<String> {

@@ -109,6 +109,8 @@ mod tests {
             ("vertices 2\nagent 2 1\nagent 0 1", "8: agent 0 (line 2) starts at vertex 2, the map has only vertices 0 to 1 (place 4)"),
             ("vertices 2\nagent 0 1\nagent 1 1", "9: agent 1 (line 3) has its goal at vertex 1, as agent 0 (line 2) does (place 7)"),
             ("vertices 1\nagent 0 1", "9: agent 0 (line 2) has its goal at vertex 1, the map has only vertex 0 (place 5)"),
+            ("vertices 3\nagent 0 -\nagent 1 254\nagent 2 -", "9: agent 1 (line 3) has its goal at vertex 254, the map has only vertices 0 to 2 (place 8)"),
+            ("vertices 4\nagent 0 -\nagent 1 0\nagent 2 -\nagent 3 0", "9: agent 3 (line 5) has its goal at vertex 0, as agent 1 (line 3) does (place 11)"),
         ] {
             assert_eq!(refused(&description::map(text).unwrap(), "1", &[]), expected);
         }
@@ -120,6 +122,7 @@ mod tests {
         for (text, expected) in [
             ("vertices 2\nagent 0 1\nagent 1 1", "refused 9: an agent's goal is not on the map, or is an earlier agent's too: agent 1 (line 3) has its goal at vertex 1, as agent 0 (line 2) does (place 7)"),
             ("vertices 2\nagent 0 1", "refused 30: an agent's goal cannot be reached from its start by any path: agent 0 (line 2) from vertex 0 to vertex 1, so there is no plan of any makespan (place 5)"),
+            ("grid 1 3\nvertices 2\nagent 4 -\nagent 0 1\nagent 3 2", "refused 30: an agent's goal cannot be reached from its start by any path: agent 2 (line 5) from vertex 3 to vertex 2, so there is no plan of any makespan (place 13)"),
             ("grid 1 3\nvertices 1\nagent 0 1\nagent 3 2\nagent 2 3", "refused 30: an agent's goal cannot be reached from its start by any path: agent 1 (line 4) from vertex 3 to vertex 2, so there is no plan of any makespan (place 12)"),
         ] {
             let map = description::map(text).unwrap();
@@ -146,6 +149,33 @@ mod tests {
             ("0", &[0, 2], "22: agent 0 (line 4) at time 0: at vertex 0, its goal is vertex 1 (place 0)"),
         ] {
             assert_eq!(refused(&map, m, plan), expected);
+        }
+    }
+
+    /// Only those with a destination are asked where they end; the others may drive on until the last row.
+    #[rustfmt::skip] // a line a plan
+    #[test]
+    fn plans_of_agents_without_a_destination() {
+        let map = description::map("grid 1 4\nagent 0 -\nagent 1 2\nagent 3 -").unwrap();
+        assert_eq!(refused(&map, "0", &[0, 1, 3]), "22: agent 1 (line 3) at time 0: at vertex 1, its goal is vertex 2 (place 1)");
+        assert_eq!(refused(&map, "1", &[0, 1, 3, 0, 1, 2]), "22: agent 1 (line 3) at time 1: at vertex 1, its goal is vertex 2 (place 4)");
+        assert_eq!(runglaet::check_plan(&map.bytes, 1, &[0, 1, 3, 0, 2, 3]), Answer { number: 0, second: 1 });
+        assert_eq!(runglaet::check_plan(&map.bytes, 2, &[0, 1, 3, 0, 2, 3, 1, 2, 3]), Answer { number: 0, second: 3 });
+    }
+
+    /// What the library does not say of them.
+    #[test]
+    fn places_of_agents_without_a_destination() {
+        let map = description::map("vertices 2\nagent 0 1\nagent 1 -").unwrap();
+        let subject = Subject {
+            map: Some(&map),
+            plan: Some(&[0, 1]),
+            ..Subject::default()
+        };
+        for (number, second) in [(9, 7), (22, 1), (30, 7)] {
+            let line = describe(Answer { number, second }, subject);
+            let end = format!(": agent 1 (line 3) has no destination (place {second})");
+            assert!(line.ends_with(&end), "{line}");
         }
     }
 

@@ -51,6 +51,7 @@ mod tests {
         let exchange = "vertices 2\nedge 0 1\nagent 0 1\nagent 1 0";
         let path = "vertices 3\nedge 0 1\nedge 1 2\nagent 0 1\nagent 1 2";
         let apart = "vertices 4\nedge 0 1\nedge 2 3\nagent 0 3";
+        let idle = "vertices 4\nedge 0 1\nedge 1 2\nedge 1 3\nagent 0 2\nagent 1 -";
         for (text, m, alone, with_h) in [
             // A, B and C have a clause each, of one literal.
             ("vertices 1\nagent 0 0", "0", "1 variable, 3 clauses, 6 words", "1 variable, 3 clauses, 6 words"),
@@ -62,6 +63,12 @@ mod tests {
             (path, "2", "18 variables, 61 clauses, 201 words", "18 variables, 71 clauses, 221 words"),
             // 1 + 1 + 3 + 18 + 0 + 8 + 0 clauses, 2 + 2 + 15 + 54 + 0 + 32 + 0 words; H forbids every vertex.
             (apart, "2", "12 variables, 31 clauses, 105 words", "12 variables, 43 clauses, 129 words"),
+            // Without a destination there is no B, and in H only what is too far from the start.
+            ("vertices 1\nagent 0 -", "0", "1 variable, 2 clauses, 4 words", "1 variable, 2 clauses, 4 words"),
+            ("vertices 2\nedge 0 1\nagent 0 -", "1", "4 variables, 7 clauses, 22 words", "4 variables, 8 clauses, 24 words"),
+            // 2 + 1 + 8 + 48 + 16 + 24 + 24 clauses, 4 + 2 + 40 + 144 + 48 + 108 + 72 words; in H 3 + 2 + 2 + 3 of agent 0
+            // and 3 of agent 1, all at time 0.
+            (idle, "3", "32 variables, 123 clauses, 418 words", "32 variables, 136 clauses, 444 words"),
             // H: 63 vertices of each agent at times 0 and 32.
             (&complete, "32", "33792 variables, 1842736 clauses, 7625296 words", "33792 variables, 1844752 clauses, 7629328 words"),
         ] {

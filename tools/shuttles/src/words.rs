@@ -67,8 +67,14 @@ fn the_first_forty_characters_tell_the_kind_and_nothing_else() {
         text: Some(b"s UNKNOWN\nv 2 -2\n"),
         ..sizes
     };
+    // Byte 5 is the goal of an agent without a destination.
+    let free = description::map("vertices 2\nagent 0 -").unwrap();
+    let free = Subject {
+        map: Some(&free),
+        ..sizes
+    };
     let mut lines = errors();
-    lines.extend(refusals(&[Subject::default(), sizes, contents]));
+    lines.extend(refusals(&[Subject::default(), sizes, contents, free]));
     lines.extend(notes());
     let mut kinds = HashMap::new();
     for (kind, line) in &lines {

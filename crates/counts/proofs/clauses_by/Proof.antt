@@ -43,7 +43,7 @@ returns c =
     let p = products (c .before .before .args .s) w in
     rw (c .before .pair-count .ensures .0, c .pair-count2 .ensures .0) (
       rw add-one (refl, refl, refl, refl, refl, refl, refl),
-      (w .k-most, w .k-most, p .rows′, p .d, p .e, p .f, p .g),
+      (w .k-most, omega (arith, w .k-most, w .g-most), p .rows′, p .d, p .e, p .f, p .g),
     )
 
 pub clauses-by-spec : {M : Type 1} → statement M

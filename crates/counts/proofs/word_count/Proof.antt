@@ -7,30 +7,39 @@ use Rattle.formula.specs.Counts.{wordCount}
 use Rattle.counts.proofs.word_count.Statement.{statement}
 use Rattle.counts.proofs.word_count.Tie as tie
 
-mul-result-2 : tie.Need-mul-result-2
-mul-result-2 c = let p = products (c .before .before .before .before .before .args .s) (c .before .before .before .before .before .pre) in omega arith
+mul-result-3 : tie.Need-mul-result-3
+mul-result-3 c = let p = products (c .before .before .before .before .before .args .s) (c .before .before .before .before .before .pre) in omega arith
+
+mul-result-4 : tie.Need-mul-result-4
+mul-result-4 c = let p = products (c .before .before .before .before .before .before .args .s) (c .before .before .before .before .before .before .pre) in omega arith
 
 add-result-4 : tie.Need-add-result-4
-add-result-4 c = let p = products (c .before .before .before .before .before .args .s) (c .before .before .before .before .before .pre) in omega arith
+add-result-4 c = let p = products (c .before .before .before .before .before .before .args .s) (c .before .before .before .before .before .before .pre) in omega arith
 
 add-result-5 : tie.Need-add-result-5
-add-result-5 c = let p = products (c .before .before .before .before .before .before .args .s) (c .before .before .before .before .before .before .pre) in omega arith
+add-result-5 c = let p = products (c .before .before .before .before .before .before .before .args .s) (c .before .before .before .before .before .before .before .pre) in omega arith
 
 add-result-6 : tie.Need-add-result-6
-add-result-6 c = let p = products (c .before .before .before .before .before .before .before .args .s) (c .before .before .before .before .before .before .before .pre) in omega arith
+add-result-6 c = let p = products (c .before .before .before .before .before .before .before .before .args .s) (c .before .before .before .before .before .before .before .before .pre) in omega arith
 
-mul-result-8 : tie.Need-mul-result-8
-mul-result-8 c = let p = products (c .before .before .before .before .before .before .before .before .before .before .args .s) (c .before .before .before .before .before .before .before .before .before .before .pre) in omega arith
+mul-result-7 : tie.Need-mul-result-7
+mul-result-7 c = let p = products (c .before .before .before .before .before .before .before .before .before .args .s) (c .before .before .before .before .before .before .before .before .before .pre) in omega arith
+
+mul-result-10 : tie.Need-mul-result-10
+mul-result-10 c = let p = products (c .before .before .before .before .before .before .before .before .before .before .before .args .s) (c .before .before .before .before .before .before .before .before .before .before .before .pre) in omega arith
 
 add-result-8 : tie.Need-add-result-8
-add-result-8 c = let p = products (c .before .before .before .before .before .before .before .before .before .before .args .s) (c .before .before .before .before .before .before .before .before .before .before .pre) in omega arith
+add-result-8 c = let p = products (c .before .before .before .before .before .before .before .before .before .before .before .args .s) (c .before .before .before .before .before .before .before .before .before .before .before .pre) in omega arith
+
+mul-result-11 : tie.Need-mul-result-11
+mul-result-11 c = let p = products (c .before .before .before .before .before .before .before .before .before .before .before .before .args .s) (c .before .before .before .before .before .before .before .before .before .before .before .before .pre) in omega (arith, c .before .before .before .before .before .before .before .before .before .before .before .clauses-by .ensures .1)
 
 add-result-9 : tie.Need-add-result-9
-add-result-9 c = let p = products (c .before .before .before .before .before .before .before .before .before .before .before .args .s) (c .before .before .before .before .before .before .before .before .before .before .before .pre) in omega arith
+add-result-9 c = let p = products (c .before .before .before .before .before .before .before .before .before .before .before .before .args .s) (c .before .before .before .before .before .before .before .before .before .before .before .before .pre) in omega (arith, c .before .before .before .before .before .before .before .before .before .before .before .clauses-by .ensures .1)
 
 returns : tie.Need-returns
 unfolding wordCount
-returns c = let q = c .before .before .before .before .before .before .before .before .before .before .clauses-by .ensures .0 in rw (q .3, q .4, q .6, add-one (c .before .before .before .before .before .before .before .before .before .before .before .args .s .m))
+returns c = let q = c .before .before .before .before .before .before .before .before .before .before .before .clauses-by .ensures .0 in rw (q .3, q .4, q .6, add-one (c .before .before .before .before .before .before .before .before .before .before .before .before .args .s .m))
 
 pub word-count-spec : {M : Type 1} → statement M
 word-count-spec =
@@ -41,19 +50,20 @@ word-count-spec =
     (λ c. search needs)
     (λ c. search needs)
     (λ c. search needs)
+    mul-result-3
     (λ c. search needs)
-    mul-result-2
+    mul-result-4
     add-result-4
     (λ c. search needs)
     add-result-5
     (λ c. search needs)
     add-result-6
+    mul-result-7
     (λ c. search needs)
     (λ c. search needs)
     (λ c. search needs)
-    (λ c. search needs)
-    mul-result-8
+    mul-result-10
     add-result-8
-    (λ c. search needs)
+    mul-result-11
     add-result-9
     returns)

@@ -4,6 +4,7 @@ use Prim.Native.Nat.{ℕ, _-_}
 use native.Mathlib.Omega.{arith}
 use lib.ListN.{take}
 use Rattle.answers.specs.declared.Answer.{Answer}
+use Rattle.instance.proofs.Accepted.{shown-counted}
 use Rattle.satisfaction.proofs.Families.{whole}
 use Rattle.plan.specs.Plan.{planBytes}
 use Rattle.satisfaction.specs.Rows.{Read}
@@ -48,7 +49,7 @@ same-length-2 : tie.Need-same-length-2
 same-length-2 c = c .before .before .before .before .before .before .before .before .read-entries .ensures .1 .0 ∙ sym (c .before .before .before .before .before .before .before .before .before .before .before .before .before .before .before .pre .1)
 
 returns-4 : tie.Need-returns-4
-returns-4 c = ((λ I g. (stop-24 I (c .before .before .before .before .before .before .before .before .before .before .before .before .before .before .before .args .s) (g .graph .sizes) (c .before .before .before .before .before .before .before .before .before .before .before .before .before .before .before .args .entries .now) (c .before .before .before .before .before .before .before .before .before .before .before .before .before .before .before .args .size) (c .before .before .before .before .before .before .before .before .before .before .before .if1 .left ∙ c .before .before .before .before .before .before .before .before .before .before .before .before .before .variable-count .ensures .0) (omega (arith, c .before .before .before .before .before .before .before .before .before .before .before .before .plan-bytes .ensures .0, c .before .before .before .before .before .before .before .before .before .before .if2 .left)) (c .before .before .before .before .before .before .before .before .read-entries .result) (c .before .before .before .before .before .before .before .before .read-entries .ensures .0) (omega (arith, c .before .before .before .before .before .before .before .before .before .before .before .before .before .variable-count .ensures .0, c .before .before .before .before .before .if3 .left)) (c .before .before .clause-fault .result) (c .before .clause-count .result) (whole I (c .before .before .before .before .before .before .before .before .before .before .before .before .before .before .before .args .s) (c .before .before .before .before .before .before .before .before .before .before .before .before .before .before .before .args .starts .now) (c .before .before .before .before .before .before .before .before .before .before .before .before .before .before .before .args .goals .now) (c .before .before .before .before .before .before .before .before .before .before .before .before .before .before .before .args .near .now) g (c .before .before .before .before .before .before .before .before .before .before .before .before .before .before .before .args .entries .now) (c .before .before .clause-fault .result) (c .before .before .clause-fault .ensures)) (c .before .clause-count .ensures) (c .if4 .taken), λ e. absurd (let f : ⊥ = omega arith in f))), c .before .before .before .before .before .before .before .before .read-entries .ensures .1 .0)
+returns-4 c = ((λ I g. (stop-24 I (c .before .before .before .before .before .before .before .before .before .before .before .before .before .before .before .args .s) (g .graph .sizes) (c .before .before .before .before .before .before .before .before .before .before .before .before .before .before .before .args .entries .now) (c .before .before .before .before .before .before .before .before .before .before .before .before .before .before .before .args .size) (c .before .before .before .before .before .before .before .before .before .before .before .if1 .left ∙ c .before .before .before .before .before .before .before .before .before .before .before .before .before .variable-count .ensures .0) (omega (arith, c .before .before .before .before .before .before .before .before .before .before .before .before .plan-bytes .ensures .0, c .before .before .before .before .before .before .before .before .before .before .if2 .left)) (c .before .before .before .before .before .before .before .before .read-entries .result) (c .before .before .before .before .before .before .before .before .read-entries .ensures .0) (omega (arith, c .before .before .before .before .before .before .before .before .before .before .before .before .before .variable-count .ensures .0, c .before .before .before .before .before .if3 .left)) (c .before .before .clause-fault .result) (c .before .clause-count .result) (whole I (c .before .before .before .before .before .before .before .before .before .before .before .before .before .before .before .args .s) (c .before .before .before .before .before .before .before .before .before .before .before .before .before .before .before .args .starts .now) (c .before .before .before .before .before .before .before .before .before .before .before .before .before .before .before .args .goals .now) (c .before .before .before .before .before .before .before .before .before .before .before .before .before .before .before .args .near .now) g (c .before .before .before .before .before .before .before .before .before .before .before .before .before .before .before .args .entries .now) (c .before .before .clause-fault .result) (c .before .before .clause-fault .ensures)) (c .before .clause-count .ensures) (shown-counted I (c .before .before .before .before .before .before .before .before .before .before .before .before .before .before .before .args .s) (c .before .before .before .before .before .before .before .before .before .before .before .before .before .before .before .args .starts .now) (c .before .before .before .before .before .before .before .before .before .before .before .before .before .before .before .args .goals .now) (c .before .before .before .before .before .before .before .before .before .before .before .before .before .before .before .args .near .now) g (c .before .before .before .before .before .before .before .before .before .before .before .before .before .before .before .pre .0)) (c .if4 .taken), λ e. absurd (let f : ⊥ = omega arith in f))), c .before .before .before .before .before .before .before .before .read-entries .ensures .1 .0)
 
 same-length-3 : tie.Need-same-length-3
 same-length-3 c = c .before .before .before .before .before .before .before .before .read-entries .ensures .1 .0 ∙ sym (c .before .before .before .before .before .before .before .before .before .before .before .before .before .before .before .pre .1)
@@ -56,7 +57,7 @@ same-length-3 c = c .before .before .before .before .before .before .before .bef
 returns-5 : tie.Need-returns-5
 returns-5 c = (
   (λ I g.
-      let q = pass-24 I (c .before .before .before .before .before .before .before .before .before .before .before .before .before .before .before .args .s) (g .graph .sizes) (c .before .before .before .before .before .before .before .before .before .before .before .before .before .before .before .args .entries .now) (c .before .before .before .before .before .before .before .before .before .before .before .before .before .before .before .args .size) (c .before .before .before .before .before .before .before .before .before .before .before .if1 .left ∙ c .before .before .before .before .before .before .before .before .before .before .before .before .before .variable-count .ensures .0) (omega (arith, c .before .before .before .before .before .before .before .before .before .before .before .before .plan-bytes .ensures .0, c .before .before .before .before .before .before .before .before .before .before .if2 .left)) (c .before .before .before .before .before .before .before .before .read-entries .result) (c .before .before .before .before .before .before .before .before .read-entries .ensures .0) (omega (arith, c .before .before .before .before .before .before .before .before .before .before .before .before .before .variable-count .ensures .0, c .before .before .before .before .before .if3 .left)) (c .before .before .clause-fault .result) (c .before .clause-count .result) (whole I (c .before .before .before .before .before .before .before .before .before .before .before .before .before .before .before .args .s) (c .before .before .before .before .before .before .before .before .before .before .before .before .before .before .before .args .starts .now) (c .before .before .before .before .before .before .before .before .before .before .before .before .before .before .before .args .goals .now) (c .before .before .before .before .before .before .before .before .before .before .before .before .before .before .before .args .near .now) g (c .before .before .before .before .before .before .before .before .before .before .before .before .before .before .before .args .entries .now) (c .before .before .clause-fault .result) (c .before .before .clause-fault .ensures)) (c .before .clause-count .ensures) (c .if4 .left) in
+      let q = pass-24 I (c .before .before .before .before .before .before .before .before .before .before .before .before .before .before .before .args .s) (g .graph .sizes) (c .before .before .before .before .before .before .before .before .before .before .before .before .before .before .before .args .entries .now) (c .before .before .before .before .before .before .before .before .before .before .before .before .before .before .before .args .size) (c .before .before .before .before .before .before .before .before .before .before .before .if1 .left ∙ c .before .before .before .before .before .before .before .before .before .before .before .before .before .variable-count .ensures .0) (omega (arith, c .before .before .before .before .before .before .before .before .before .before .before .before .plan-bytes .ensures .0, c .before .before .before .before .before .before .before .before .before .before .if2 .left)) (c .before .before .before .before .before .before .before .before .read-entries .result) (c .before .before .before .before .before .before .before .before .read-entries .ensures .0) (omega (arith, c .before .before .before .before .before .before .before .before .before .before .before .before .before .variable-count .ensures .0, c .before .before .before .before .before .if3 .left)) (c .before .before .clause-fault .result) (c .before .clause-count .result) (whole I (c .before .before .before .before .before .before .before .before .before .before .before .before .before .before .before .args .s) (c .before .before .before .before .before .before .before .before .before .before .before .before .before .before .before .args .starts .now) (c .before .before .before .before .before .before .before .before .before .before .before .before .before .before .before .args .goals .now) (c .before .before .before .before .before .before .before .before .before .before .before .before .before .before .before .args .near .now) g (c .before .before .before .before .before .before .before .before .before .before .before .before .before .before .before .args .entries .now) (c .before .before .clause-fault .result) (c .before .before .clause-fault .ensures)) (c .before .clause-count .ensures) (shown-counted I (c .before .before .before .before .before .before .before .before .before .before .before .before .before .before .before .args .s) (c .before .before .before .before .before .before .before .before .before .before .before .before .before .before .before .args .starts .now) (c .before .before .before .before .before .before .before .before .before .before .before .before .before .before .before .args .goals .now) (c .before .before .before .before .before .before .before .before .before .before .before .before .before .before .before .args .near .now) g (c .before .before .before .before .before .before .before .before .before .before .before .before .before .before .before .pre .0)) (c .if4 .left) in
       let y = accepted I (c .before .before .before .before .before .before .before .before .before .before .before .before .before .before .before .args .s) (g .graph .sizes) (c .before .before .before .before .before .before .before .before .before .before .before .before .before .before .before .args .entries .now) (c .before .before .before .before .before .before .before .before .before .before .before .before .before .before .before .args .size) (sym (ap (λ (x : Answer). x .number) q)) in
       (rw (c .before .before .before .before .before .before .before .before .before .before .before .before .plan-bytes .ensures .0) q, λ e. (c .before .before .before .before .before .before .before .before .before .before .before .before .plan-bytes .ensures .0, planned I (c .before .before .before .before .before .before .before .before .before .before .before .before .before .before .before .args .s) (g .graph .sizes) (c .before .before .before .before .before .before .before .before .before .before .before .before .before .before .before .args .entries .now) (c .before .before .before .before .before .before .before .before .before .before .before .before .before .before .before .args .size) y _ (c .before .before .before .before .before .before .before .before .read-entries .ensures .1 .1 (omega (arith, c .before .before .before .before .before .before .before .before .before .before .before .before .before .variable-count .ensures .0, c .before .before .before .before .before .if3 .left)))))),
   c .before .before .before .before .before .before .before .before .read-entries .ensures .1 .0,

@@ -25,10 +25,10 @@ unfolding times blocksAt block
 write-unit-requires c κs =
     let q = arm (c .before .before) (c .before .match .keys1) in (c .before .before .pre .0 .limits, (omega arith, q .1, c .before .before .pre .0 .starts-below (c .before .before .args .x) (q .1), q .2))
 
-write-unit-requires-2 : tie.Need-write-unit-requires-2
+write-goal-requires : tie.Need-write-goal-requires
 unfolding times blocksAt block
-write-unit-requires-2 c κs =
-    let q = arm (c .before .before) (c .before .match .keys2) in (c .before .before .pre .0 .limits, (omega arith, q .1, c .before .before .pre .0 .goals-below (c .before .before .args .x) (q .1), q .2))
+write-goal-requires c κs =
+    let q = arm (c .before .before) (c .before .match .keys2) in (c .before .before .pre .0 .limits, ((q .1, c .before .before .pre .0 .goals-below (c .before .before .args .x) (q .1)), q .2))
 
 put-somewhere-requires : tie.Need-put-somewhere-requires
 unfolding times blocksAt block
@@ -56,7 +56,7 @@ returns c = rw (c .before .before .before .match .keys1) (c .before .write-unit 
 
 returns-2 : tie.Need-returns-2
 unfolding block
-returns-2 c = rw (c .before .before .before .match .keys2) (c .before .write-unit2 .ensures)
+returns-2 c = rw (c .before .before .before .match .keys2) (c .before .write-goal .ensures)
 
 returns-3 : tie.Need-returns-3
 unfolding block
@@ -83,7 +83,7 @@ write-block-spec =
     tie.close
     (tie.spec
     write-unit-requires
-    write-unit-requires-2
+    write-goal-requires
     put-somewhere-requires
     write-d-requires
     write-e-requires

@@ -31,7 +31,7 @@ measure-requires : tie.Need-measure-requires
 measure-requires c κs =
     let w = known (c .before .before .before .before .before .before .before .before .before .before .before) in (
       (w .limits .k-most, omega (arith, w .limits .e-most, w .limits .k-most), c .before .before .before .before .before .table-of .ensures .0),
-      (λ a l. (omega (arith, w .starts-below a l, w .limits .n-most), omega (arith, w .goals-below a l, w .limits .n-most))),
+      (λ a l. (omega (arith, w .starts-below a l, w .limits .n-most), λ g. omega (arith, w .goals-below a l g, w .limits .n-most))),
     )
 
 returns-2 : tie.Need-returns-2

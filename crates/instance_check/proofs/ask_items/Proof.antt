@@ -1,6 +1,6 @@
 -- `instance_check::ask_items` meets its contract: the first question answered no decides. Assumes nothing.
 use mathlib.Core.Path.{_≡_, sym, _∙_, ap, ap₂}
-use mathlib.Core.Bool.{_&&_}
+use mathlib.Core.Bool.{true, false, _&&_}
 use mathlib.Core.List.{List, _∷_}
 use Prim.Native.Nat.{ℕ, suc, _+_, _-_, _*_}
 use native.Mathlib.Omega.{arith}
@@ -31,12 +31,12 @@ edges-clear c qs = edges-pass (c .before .before .before .before .args .b .now) 
 
 starts-clear : (c : tie.Else2) (qs : List Question) → decide qs 0 ≡ decide (question6 (c .before .before .before .before .before .before .args .b .now) ∷ question7 (c .before .before .before .before .before .before .args .b .now) ∷ question8 (c .before .before .before .before .before .before .args .b .now) ∷ qs) 0
 starts-clear c qs =
-    vertices-pass (c .before .before .before .before .before .before .args .b .now) 8 qs (starts-same (c .before .before .before .before .before .before)) (c .before .vertex-fault .ensures) (omega arith)
+    vertices-pass (c .before .before .before .before .before .before .args .b .now) false 8 qs (starts-same (c .before .before .before .before .before .before)) (c .before .vertex-fault .ensures) (omega arith)
     ∙ edges-clear (c .before .before) _
 
 goals-clear : (c : tie.Else3) (qs : List Question) → decide qs 0 ≡ decide (question6 (c .before .before .before .before .before .before .before .before .args .b .now) ∷ question7 (c .before .before .before .before .before .before .before .before .args .b .now) ∷ question8 (c .before .before .before .before .before .before .before .before .args .b .now) ∷ question9 (c .before .before .before .before .before .before .before .before .args .b .now) ∷ qs) 0
 goals-clear c qs =
-    vertices-pass (c .before .before .before .before .before .before .before .before .args .b .now) 9 qs (goals-same (c .before .before .before .before .before .before .before .before)) (c .before .vertex-fault2 .ensures) (omega arith)
+    vertices-pass (c .before .before .before .before .before .before .before .before .args .b .now) true 9 qs (goals-same (c .before .before .before .before .before .before .before .before)) (c .before .vertex-fault2 .ensures) (omega arith)
     ∙ starts-clear (c .before .before) _
 
 refuse-edge-requires : tie.Need-refuse-edge-requires
@@ -48,13 +48,13 @@ returns c = c .refuse-edge .ensures _
 returns-2 : tie.Need-returns-2
 returns-2 c =
     c .refuse .ensures
-    ∙ vertices-stop (c .before .before .before .before .before .before .before .args .b .now) 8 _ (starts-same (c .before .before .before .before .before .before .before)) (c .before .before .vertex-fault .ensures) (omega arith)
+    ∙ vertices-stop (c .before .before .before .before .before .before .before .args .b .now) false 8 _ (starts-same (c .before .before .before .before .before .before .before)) (c .before .before .vertex-fault .ensures) (omega arith)
     ∙ edges-clear (c .before .before .before) _
 
 returns-3 : tie.Need-returns-3
 returns-3 c =
     c .refuse2 .ensures
-    ∙ vertices-stop (c .before .before .before .before .before .before .before .before .before .args .b .now) 9 _ (goals-same (c .before .before .before .before .before .before .before .before .before)) (c .before .before .vertex-fault2 .ensures) (omega arith)
+    ∙ vertices-stop (c .before .before .before .before .before .before .before .before .before .args .b .now) true 9 _ (goals-same (c .before .before .before .before .before .before .before .before .before)) (c .before .before .vertex-fault2 .ensures) (omega arith)
     ∙ starts-clear (c .before .before .before) _
 
 returns-4 : tie.Need-returns-4

@@ -53,10 +53,13 @@ neighbour-words-requires c κs =
     let r = c .before .before .before .before .before .before .before .before .before .sizes-of .ensures .0 in
     ((r .e-same, omega arith, r .n-same, omega arith), edges-checked (c .before .before .before .before .before .before .before .before .before .before .before .before .args .b .now) (c .before .before .before .before .before .before .before .before .before .before .before .before .args .m) (c .before .before .before .before .before .ask-items .result) (asked (c .before .before .before .before .before)) (c .before .before .before .if3 .left))
 
+count-requires : tie.Need-count-requires
+count-requires c κs = let h = known (c .before .before .before .before .before .before .before .before) in omega arith
+
 returns-4 : tie.Need-returns-4
 returns-4 c = (
-  asked (c .before .before .before .before .before .before),
-  made (c .before .before .before .before .before .before .before .before .before .before .before .before .before .args .b .now) (c .before .before .before .before .before .before .before .before .before .before .before .before .before .args .m) (c .before .before .before .before .before .before .ask-items .result) (asked (c .before .before .before .before .before .before)) (c .before .before .before .before .before .before .before .before .before .before .sizes-of .result) (c .before .before .before .before .before .before .before .before .before .before .sizes-of .ensures .0) (c .before .before .before .before .before .before .before .before .before .before .sizes-of .ensures .1) (c .before .before .for-agents .result) (c .before .for-agents2 .result) (c .neighbour-words .result) (c .before .before .for-agents .ensures) (c .before .for-agents2 .ensures) (c .neighbour-words .ensures (c .before .before .before .before .before .before .before .before .before .before .before .before .before .args .m)) (c .before .before .before .before .if3 .left),
+  asked (c .before .before .before .before .before .before .before .before),
+  made (c .before .before .before .before .before .before .before .before .before .before .before .before .before .before .before .args .b .now) (c .before .before .before .before .before .before .before .before .before .before .before .before .before .before .before .args .m) (c .before .before .before .before .before .before .before .before .ask-items .result) (asked (c .before .before .before .before .before .before .before .before)) (c .before .before .before .before .before .before .before .before .before .before .before .before .sizes-of .result) (c .before .before .before .before .before .before .before .before .before .before .before .before .sizes-of .ensures .0) (c .count .result) (c .before .before .before .before .for-agents .result) (c .before .before .before .for-agents2 .result) (c .before .before .neighbour-words .result) (c .before .before .before .before .for-agents .ensures) (c .before .before .before .for-agents2 .ensures) (c .before .before .neighbour-words .ensures (c .before .before .before .before .before .before .before .before .before .before .before .before .before .before .before .args .m)) (c .count .ensures .0) (c .before .before .before .before .before .before .if3 .left),
 )
 
 pub check-instance-spec : {M : Type 1} → statement M
@@ -79,4 +82,5 @@ check-instance-spec =
     (λ c. search needs)
     for-agents-requires-2
     neighbour-words-requires
+    count-requires
     returns-4)

@@ -1,11 +1,15 @@
 -- `one_clause::put_clause` meets its contract. By the number of the family. Assumes nothing.
-use mathlib.Core.Path.{_≡_}
+use mathlib.Core.Path.{_≡_, refl, ap}
+use mathlib.Core.List.{List, []}
 use Prim.Native.Nat.{_<_}
 use native.Mathlib.Omega.{arith}
 use borrow.Author.Needs.{needs}
+use lib.ListN.{getD}
 use Rattle.instance.specs.Instance.{joined}
 use Rattle.formula.specs.Blocks.{times, blocksAt, block}
+use Rattle.formula.specs.Formula.{Clause}
 use Rattle.formula.proofs.Blocks.{last}
+use Rattle.formula.proofs.Places.{goal-block}
 use Rattle.one_clause.proofs.Clauses.{room-put, wrote-put, onward-clause}
 use Rattle.one_clause.proofs.put_clause.Statement.{statement}
 use Rattle.one_clause.proofs.put_clause.Tie as tie
@@ -22,7 +26,8 @@ unfolding times blocksAt block
 put-end-of-requires-2 c κs =
     let q = rw (c .before .match .keys2) at (c .before .before .pre .1 .0) in
     let z : c .before .before .args .place ≡ 0 = omega arith in
-    (c .before .before .pre .0 .limits, (omega arith, q .2, c .before .before .pre .0 .goals-below (c .before .before .args .x) (q .2), rw (c .before .match .keys2, z) at (c .before .before .pre .1 .1)))
+    let h = q .4 refl in
+    (c .before .before .pre .0 .limits, (omega arith, q .2, c .before .before .pre .0 .goals-below (c .before .before .args .x) (q .2) h, room-put (ap (λ (c : List Clause). getD c 0 []) (goal-block (c .before .before .args .s) (λ a. getD (c .before .before .args .goals .now) a 0) (c .before .before .args .x) h)) (rw (c .before .match .keys2, z) at (c .before .before .pre .1 .1))))
 
 put-somewhere-requires : tie.Need-put-somewhere-requires
 unfolding times blocksAt block
@@ -72,8 +77,9 @@ returns c =
 returns-2 : tie.Need-returns-2
 unfolding block
 returns-2 c =
-    let z : c .before .before .before .before .args .place ≡ 0 = let q = rw (c .before .before .before .match .keys2) at (c .before .before .before .before .pre .1 .0) in omega arith in
-    rw (c .before .before .before .match .keys2, z) (c .before .put-end-of2 .ensures)
+    let q = rw (c .before .before .before .match .keys2) at (c .before .before .before .before .pre .1 .0) in
+    let z : c .before .before .before .before .args .place ≡ 0 = omega arith in
+    rw (c .before .before .before .match .keys2, z) (wrote-put (ap (λ (c : List Clause). getD c 0 []) (goal-block (c .before .before .before .before .args .s) (λ a. getD (c .before .before .before .before .args .goals .now) a 0) (c .before .before .before .before .args .x) (q .4 refl))) (c .before .before .before .before .args .f .now) _ (c .before .put-end-of2 .ensures))
 
 returns-3 : tie.Need-returns-3
 unfolding block

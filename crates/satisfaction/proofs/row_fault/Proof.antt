@@ -1,8 +1,10 @@
 -- `satisfaction::row_fault` meets its contract: by the family's number; what E, F and G need comes from the families before. Assumes nothing.
 use Prim.Native.Nat.{suc, _<_}
-use mathlib.Core.Path.{_≡_}
+use mathlib.Core.Path.{_≡_, sym, _∙_}
 use native.Mathlib.Omega.{arith}
 use lib.ListN.{getD}
+use Rattle.lists.proofs.Tests.{eqb-iff}
+use Rattle.instance.specs.Instance.{noGoal}
 use Rattle.formula.specs.Variables.{X}
 use Rattle.formula.specs.Blocks.{times, blocksAt, block, heldIn}
 use Rattle.instance.specs.Limits.{Limits}
@@ -10,7 +12,7 @@ use Rattle.satisfaction.specs.Rows.{row}
 use Rattle.formula.proofs.Blocks.{last}
 use Rattle.satisfaction.proofs.Bounds.{Products, products}
 use Rattle.satisfaction.proofs.Families.{size-A, size-B, size-C, size-D, size-E, size-F, size-G, places, inside, apart}
-use Rattle.satisfaction.proofs.Truth.{units}
+use Rattle.satisfaction.proofs.Truth.{units, goal-units}
 use Rattle.satisfaction.proofs.row_fault.Statement.{statement}
 use Rattle.satisfaction.proofs.row_fault.Tie as tie
 
@@ -21,10 +23,13 @@ known : (s : tie.Start) → Products (s .args .s)
 known s = products (s .args .s) (limits s)
 
 unit-fault-requires : tie.Need-unit-fault-requires
-unit-fault-requires c κs = (limits (c .before .before), (c .before .before .pre .1 .0 .valid, (omega arith, c .before .before .pre .0 .starts-below)))
+unit-fault-requires c κs = (limits (c .before .before), (c .before .before .pre .1 .0 .valid, (omega arith, λ a l o. c .before .before .pre .0 .starts-below a l)))
 
 unit-fault-requires-2 : tie.Need-unit-fault-requires-2
-unit-fault-requires-2 c κs = (limits (c .before .before), (c .before .before .pre .1 .0 .valid, (omega arith, c .before .before .pre .0 .goals-below)))
+unit-fault-requires-2 c κs = (limits (c .before .before), (c .before .before .pre .1 .0 .valid, (omega arith, λ a l o. c .before .before .pre .0 .goals-below a l (λ e. o (eqb-iff _ noGoal .1 e)))))
+
+count-requires : tie.Need-count-requires
+count-requires c κs = omega (arith, c .unit-fault2 .ensures .within, limits (c .before .before .before) .k-most)
 
 fault-c-requires : tie.Need-fault-c-requires
 unfolding times
@@ -33,8 +38,8 @@ fault-c-requires c κs = (limits (c .before .before), (c .before .before .pre .1
 pair-count-requires : tie.Need-pair-count-requires
 pair-count-requires c κs = limits (c .before .before) .n-most
 
-mul-t16 : tie.Need-mul-t16
-mul-t16 c = rw (c .pair-count .ensures .0) (omega (arith, known (c .before .before .before) .D))
+mul-t17 : tie.Need-mul-t17
+mul-t17 c = rw (c .pair-count .ensures .0) (omega (arith, known (c .before .before .before) .D))
 
 fault-d-requires : tie.Need-fault-d-requires
 unfolding times
@@ -43,28 +48,28 @@ fault-d-requires c κs = (limits (c .before .before .before), (c .before .before
 pair-count-requires-2 : tie.Need-pair-count-requires-2
 pair-count-requires-2 c κs = omega (arith, limits (c .before .before) .k-most)
 
-mul-t19 : tie.Need-mul-t19
-mul-t19 c = rw (c .pair-count2 .ensures .0) (omega (arith, known (c .before .before .before) .E))
+mul-t20 : tie.Need-mul-t20
+mul-t20 c = rw (c .pair-count2 .ensures .0) (omega (arith, known (c .before .before .before) .E))
 
 fault-e-requires : tie.Need-fault-e-requires
 unfolding times
 fault-e-requires c κs = (limits (c .before .before .before), (c .before .before .before .pre .1 .0 .size, (let h : c .before .before .before .args .t < suc (c .before .before .before .args .s .m) = rw (c .before .match .keys5) at (c .before .before .before .pre .1 .1 .1) in omega arith)))
 
-mul-t21 : tie.Need-mul-t21
-mul-t21 c = omega (arith, known (c .before .before) .F)
+mul-t22 : tie.Need-mul-t22
+mul-t22 c = omega (arith, known (c .before .before) .F)
 
 fault-f-requires : tie.Need-fault-f-requires
 unfolding times
 fault-f-requires c κs = (limits (c .before .before), (c .before .before .pre .1 .0 .size, (rw (c .match .keys6) at (c .before .before .pre .1 .1 .1)), inside (heldIn (c .before .before .args .s) (c .before .before .args .starts .now) (c .before .before .args .goals .now) (c .before .before .args .near .now)) (c .before .before .args .entries .now) (c .before .before .args .p .now) (c .before .before .pre .1 .0) (limits (c .before .before) .n-most) (c .before .before .args .which) (omega (arith, c .match .keys6)) (c .before .before .pre .1 .1 .2)))
 
-sub-t23 : tie.Need-sub-t23
-sub-t23 c = omega (arith, limits (c .before .before) .k-least)
-
-mul-t24 : tie.Need-mul-t24
-mul-t24 c = omega (arith, known (c .before .before) .rest)
+sub-t24 : tie.Need-sub-t24
+sub-t24 c = omega (arith, limits (c .before .before) .k-least)
 
 mul-t25 : tie.Need-mul-t25
-mul-t25 c = omega (arith, known (c .before .before) .G)
+mul-t25 c = omega (arith, known (c .before .before) .rest)
+
+mul-t26 : tie.Need-mul-t26
+mul-t26 c = omega (arith, known (c .before .before) .G)
 
 fault-g-requires : tie.Need-fault-g-requires
 unfolding times
@@ -79,7 +84,10 @@ returns c = rw (c .before .match .keys1) ((size-A (heldIn (c .before .before .be
 
 returns-2 : tie.Need-returns-2
 unfolding row block blocksAt
-returns-2 c = rw (c .before .match .keys2) ((size-B (heldIn (c .before .before .before .args .s) (c .before .before .before .args .starts .now) (c .before .before .before .args .goals .now) (c .before .before .before .args .near .now)) (c .before .before .before .args .t), omega (arith, limits (c .before .before .before) .k-most)), units (c .before .before .before .args .entries .now) (c .before .before .before .args .s .k) (λ a. X (c .before .before .before .args .s) (c .before .before .before .args .s .m) a (getD (c .before .before .before .args .goals .now) a 0)) (c .unit-fault2 .result) (c .unit-fault2 .ensures))
+returns-2 c =
+    let g = heldIn (c .before .before .before .before .args .s) (c .before .before .before .before .args .starts .now) (c .before .before .before .before .args .goals .now) (c .before .before .before .before .args .near .now) in
+    rw (c .before .before .match .keys2, c .count .ensures .0)
+    ((size-B g (c .before .before .before .before .args .t) ∙ sym (c .before .before .before .before .pre .0 .counted), omega (arith, limits (c .before .before .before .before) .k-most, limits (c .before .before .before .before) .g-most)), goal-units (c .before .before .before .before .args .entries .now) (g .goal) (λ a. X (c .before .before .before .before .args .s) (c .before .before .before .before .args .s .m) a (g .goal a)) (c .before .before .before .before .args .s .k) (c .before .unit-fault2 .result) (c .before .unit-fault2 .ensures))
 
 returns-3 : tie.Need-returns-3
 unfolding row block blocksAt
@@ -109,18 +117,19 @@ row-fault-spec =
     (tie.spec
     unit-fault-requires
     unit-fault-requires-2
+    count-requires
     fault-c-requires
     pair-count-requires
-    mul-t16
+    mul-t17
     fault-d-requires
     pair-count-requires-2
-    mul-t19
+    mul-t20
     fault-e-requires
-    mul-t21
+    mul-t22
     fault-f-requires
-    sub-t23
-    mul-t24
+    sub-t24
     mul-t25
+    mul-t26
     fault-g-requires
     returns
     returns-2

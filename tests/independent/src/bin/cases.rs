@@ -8,8 +8,10 @@
 
 #![forbid(unsafe_code)]
 
+use independent::calls::{say, Said};
 use independent::costs::{self, Told};
 use independent::floors;
+use independent::free;
 use independent::output::{damaged, output, padded, some_output, some_text, some_valuation};
 use independent::output::{worked, SHORT_LINES};
 use independent::parts::{enter_occupied, Parts};
@@ -17,9 +19,8 @@ use independent::questions::{failing, question, Handed, Item, ASKED, NUMBERS};
 use independent::sample::{all_edges, instance_bytes, largest_instance, path_edges, refused_twice};
 use independent::sample::{grid_edges, Generator};
 use independent::sizes;
-use independent::{check_plan, clause, decode, encode, floor, plain, read_valuation};
-use independent::{formula_size, pruned_size, write_formula, write_pruned};
-use independent::{Answer, Size, LONGEST_TEXT};
+use independent::{check_plan, clause, formula_size, is_free, plain, pruned_size};
+use independent::{Answer, Size, LONGEST_TEXT, NO_GOAL};
 use std::collections::BTreeSet;
 use std::fmt::Write;
 use std::{env, fs, process, slice};
@@ -42,9 +43,14 @@ const ENTRIES: usize = 40_000;
 /// What it holds of an instance and a payload.
 const INPUT: usize = 540_672;
 
+/// The call of this kind, by its place in `ASKED`.
+fn call(kind: u8) -> usize {
+    usize::from(kind) - 1
+}
+
 /// The numbers that a kind can give beside 0, in the order asked.
 fn asked(kind: u8) -> &'static [u32] {
-    ASKED[usize::from(kind) - 1]
+    ASKED[call(kind)]
 }
 
 fn before(i: usize) -> u8 {
@@ -106,6 +112,54 @@ impl Given {
         let from = self.instance.len() - 2 * self.k();
         &self.instance[from..from + self.k()]
     }
+    fn goals(&self) -> &[u8] {
+        &self.instance[self.instance.len() - self.k()..]
+    }
+}
+
+/// What a call is handed; the payload is its plan, text or entries, which are given
+/// here too.
+fn handed<'a>(
+    kind: u8,
+    given: &'a Given,
+    number: u64,
+    payload: &'a [u8],
+    entries: &'a [i32],
+    lent: usize,
+) -> Handed<'a> {
+    let payload_of = |kinds: &[u8]| match kinds.contains(&kind) {
+        true => payload,
+        false => &[],
+    };
+    Handed {
+        instance: &given.instance,
+        // The floor call gets no horizon.
+        horizon: if kind == FLOOR { 0 } else { given.m },
+        clause: (kind == CLAUSE).then_some(number),
+        plan: payload_of(&[PLAN, ENCODER]),
+        entries,
+        text: payload_of(&[READER]),
+        lent,
+        pruned: matches!(kind, PRUNED | PRUNED_SIZE),
+    }
+}
+
+/// The entries in the payload; none but for the decoder.
+fn handed_entries(kind: u8, payload: &[u8]) -> Vec<i32> {
+    match kind {
+        DECODER => entries_of(payload),
+        _ => Vec::new(),
+    }
+}
+
+/// What the call says of this instance, with slices that hold the usual bytes.
+fn said(kind: u8, instance: &[u8], handed: &Handed) -> Said {
+    let (words, bytes) = match kind {
+        DECODER => (0, handed.lent),
+        _ => (handed.lent, 0),
+    };
+    let plan = (0..bytes).map(before).collect();
+    say(call(kind), instance, handed, lent_words(words), plan)
 }
 
 struct Cases {
@@ -122,15 +176,9 @@ struct Cases {
     told_floors: floors::Told,
     /// What sizes and writers' answers tell from wrong ones.
     told_sizes: sizes::Told,
-}
-
-/// An answer with its clause count, 0 but for the size calls.
-fn uncounted(answer: Answer) -> Size {
-    Size {
-        number: answer.number,
-        second: answer.second,
-        clauses: 0,
-    }
+    /// What all answers tell from those of programs that are wrong about free agents;
+    /// for the stored set alone, since it takes long.
+    told_free: Option<free::Told>,
 }
 
 fn item(size: Size) -> Item {
@@ -148,10 +196,10 @@ impl Cases {
         lent: usize,
     ) -> Option<Size> {
         assert!(given.instance.len() + payload.len() <= INPUT);
-        // The floor call gets no horizon.
-        let m = if kind == FLOOR { 0 } else { given.m };
+        let entries = handed_entries(kind, payload);
+        let handed = handed(kind, given, number, payload, &entries, lent);
         self.input.push(kind);
-        self.input.extend(m.to_le_bytes());
+        self.input.extend(handed.horizon.to_le_bytes());
         self.input.extend(number.to_le_bytes());
         self.input
             .extend((given.instance.len() as u16).to_le_bytes());
@@ -169,62 +217,45 @@ impl Cases {
             self.output.push_str("skip\n");
             return None;
         }
-        let b = &given.instance[..];
-        let mut words = lent_words(if kind == DECODER { 0 } else { lent });
-        let mut hashed = None;
-        let said = match kind {
-            WRITER => {
-                let r = write_formula(b, m, &mut words);
-                self.told_sizes.writer(false, r, formula_size(b, m), lent);
-                uncounted(r)
-            }
-            CLAUSE => uncounted(clause(b, m, number, &mut words)),
-            PLAN => {
-                let r = check_plan(b, m, payload);
-                if r.number == 0 {
-                    self.told.add(given.k(), payload, r.second);
-                }
-                uncounted(r)
-            }
-            DECODER => {
-                let entries = entries_of(payload);
-                let mut plan: Vec<u8> = (0..lent).map(before).collect();
-                let r = decode(b, m, &entries, &mut plan);
-                hashed = Some(hash(plan.iter().map(|&x| u64::from(x))));
-                uncounted(r)
-            }
-            ENCODER => uncounted(encode(b, m, payload, &mut words)),
-            FLOOR => {
-                let r = floor(b);
-                if matches!(r.number, 0 | 30) {
-                    self.told_floors.floor(b, (r.number, r.second));
-                }
-                uncounted(r)
-            }
-            PRUNED => {
-                let r = write_pruned(b, m, &mut words);
-                let size = pruned_size(b, m);
-                self.told_sizes.writer(true, r, size, lent);
-                if r.number == 0 {
-                    let words = &words[..size.second as usize];
-                    self.told_floors.pruned(b, m, words);
-                }
-                uncounted(r)
-            }
-            SIZE | PRUNED_SIZE => {
-                let pruned = kind == PRUNED_SIZE;
-                let sizes = [formula_size(b, m), pruned_size(b, m)];
-                self.told_sizes.size(pruned, b, m, sizes);
-                sizes[usize::from(pruned)]
-            }
-            _ => uncounted(read_valuation(b, m, payload, &mut words)),
-        };
+        let said = said(kind, &given.instance, &handed);
         // An empty slice has 1.
-        let hashed = hashed.unwrap_or_else(|| hash_words(&words));
-        let (no, second, clauses) = (said.number, said.second, said.clauses);
+        let hashed = match kind {
+            DECODER => hash(said.plan.iter().map(|&x| u64::from(x))),
+            _ => hash_words(&said.words),
+        };
+        let (no, second, clauses) = (said.answer.number, said.answer.second, said.answer.clauses);
         writeln!(self.output, "{no} {second} {clauses} {hashed}").expect("a string takes all");
         self.times[usize::from(kind)][no as usize] += 1;
-        Some(said)
+        self.tell(kind, &handed, &said);
+        Some(said.answer)
+    }
+
+    /// Counts the wrong programs that this answer tells.
+    fn tell(&mut self, kind: u8, handed: &Handed, said: &Said) {
+        let (b, m, pruned) = (handed.instance, handed.horizon, handed.pruned);
+        let Size { number, second, .. } = said.answer;
+        let size = || if pruned { pruned_size } else { formula_size }(b, m);
+        match kind {
+            WRITER | PRUNED => {
+                let answer = Answer { number, second };
+                self.told_sizes.writer(pruned, answer, size(), handed.lent);
+            }
+            SIZE | PRUNED_SIZE => {
+                let sizes = [formula_size(b, m), pruned_size(b, m)];
+                self.told_sizes.size(pruned, b, m, sizes);
+            }
+            PLAN if number == 0 => self.told.add(b[1].into(), handed.plan, second),
+            FLOOR if matches!(number, 0 | 30) => self.told_floors.floor(b, (number, second)),
+            _ => {}
+        }
+        if kind == PRUNED && number == 0 {
+            let words = &said.words[..size().second as usize];
+            self.told_floors.pruned(b, m, words);
+        }
+        if let Some(told) = &mut self.told_free {
+            let again = |instance: &[u8]| self::said(kind, instance, handed);
+            told.add(call(kind), handed, said, again);
+        }
     }
 
     fn size(&mut self, kind: u8, given: &Given) -> Size {
@@ -249,8 +280,9 @@ impl Cases {
         self.put(PLAN, given, 0, plan, 0).map(item)
     }
 
-    fn decoder(&mut self, given: &Given, entries: &[i32], lent: usize) {
-        self.put(DECODER, given, 0, &payload_of(entries), lent);
+    fn decoder(&mut self, given: &Given, entries: &[i32], lent: usize) -> Option<Item> {
+        self.put(DECODER, given, 0, &payload_of(entries), lent)
+            .map(item)
     }
 
     fn encoder(&mut self, given: &Given, plan: &[u8], lent: usize) {
@@ -454,22 +486,8 @@ impl Cases {
         lent: usize,
         items: [Item; 2],
     ) {
-        let none = &[][..];
-        let (plan, entries, text) = match kind {
-            PLAN | ENCODER => (payload, vec![], none),
-            READER => (none, vec![], payload),
-            _ => (none, entries_of(payload), none),
-        };
-        let handed = Handed {
-            instance: &given.instance,
-            horizon: if kind == FLOOR { 0 } else { given.m },
-            clause: (kind == CLAUSE).then_some(number),
-            plan,
-            entries: &entries,
-            text,
-            lent,
-            pruned: matches!(kind, PRUNED | PRUNED_SIZE),
-        };
+        let entries = handed_entries(kind, payload);
+        let handed = handed(kind, given, number, payload, &entries, lent);
         for (no, place) in items {
             let places = failing(no, &handed);
             assert!(
@@ -519,7 +537,7 @@ impl Cases {
         self.two(CLAUSE, &pair(1), 8, &[], 0, [(11, 8), (12, 2)]);
 
         let staying = |m: u64| given(2, &[], &[0, 1], &[0, 1], m);
-        let valuations: [(Given, &[i32], usize, [Item; 2]); 14] = [
+        let valuations: [(Given, &[i32], usize, [Item; 2]); 16] = [
             (pair(33), &[1, -2], 34, [(10, 0), (14, 2)]),
             (pair(1), &[1, -2, -3], 1, [(14, 3), (15, 2)]),
             (pair(1), &[1, -2, 4, -3], 1, [(15, 2), (23, 2)]),
@@ -590,6 +608,20 @@ impl Cases {
                 4,
                 [(24, 16), (24, 21)],
             ),
+            // Behind a free agent, which is nowhere at time 1, another is not at its goal: B has clause 2, C begins at 3.
+            (
+                given(3, &[(0, 1), (1, 2)], &[0, 2], &[NO_GOAL, 1], 1),
+                &[1, -2, -3, -4, -5, -6, -7, -8, 9, -10, -11, 12],
+                4,
+                [(24, 2), (24, 5)],
+            ),
+            // Before it and behind it: B has clauses 3 and 4.
+            (
+                given(3, &[], &[0, 1, 2], &[1, NO_GOAL, 0], 0),
+                &[1, -2, -3, -4, 5, -6, -7, -8, 9],
+                3,
+                [(24, 3), (24, 4)],
+            ),
         ];
         for (given, entries, lent, items) in valuations {
             self.two(DECODER, &given, 0, &payload_of(entries), lent, items);
@@ -602,7 +634,7 @@ impl Cases {
         };
         let star = given(4, &[(0, 1), (0, 2), (0, 3)], &[1, 2, 3], &[0, 1, 2], 1);
         let ring = given(3, &[(0, 1), (0, 2), (1, 2)], &[0, 1, 2], &[1, 2, 0], 1);
-        let plans: [(Given, &[u8], [Item; 2]); 18] = [
+        let plans: [(Given, &[u8], [Item; 2]); 22] = [
             (pair(33), &[0, 1, 0], [(10, 0), (13, 3)]),
             (pair(1), &[0, 1, 9], [(13, 3), (17, 2)]),
             (pair(1), &[1, 2], [(17, 1), (18, 0)]),
@@ -640,6 +672,28 @@ impl Cases {
             (ring, &[0, 1, 2, 1, 2, 0], [(26, 3), (26, 4)]),
             (star, &[1, 2, 3, 0, 0, 0], [(21, 4), (21, 5)]),
             (path(&[0, 1], &[1, 2], 1), &[0, 1, 0, 1], [(22, 2), (22, 3)]),
+            // Free agents: two that are not on their starts; one that jumps; one that is in the way; one between two that
+            // are not at their goals.
+            (
+                path(&[0, 3], &[NO_GOAL, NO_GOAL], 0),
+                &[1, 2],
+                [(18, 0), (18, 1)],
+            ),
+            (
+                path(&[0, 3], &[NO_GOAL, 3], 1),
+                &[0, 3, 2, 1],
+                [(19, 2), (19, 3)],
+            ),
+            (
+                path(&[0, 1], &[0, NO_GOAL], 1),
+                &[0, 1, 1, 1],
+                [(20, 2), (22, 2)],
+            ),
+            (
+                path(&[0, 1, 3], &[1, NO_GOAL, 2], 1),
+                &[0, 1, 3, 0, 1, 3],
+                [(22, 3), (22, 5)],
+            ),
         ];
         for (given, plan, items) in plans {
             self.two_of_plan(&given, plan, items);
@@ -716,11 +770,13 @@ impl Cases {
 
         // The path 0-1-2, and vertices 3 and 4 apart: a goal twice and one out of reach, two out of reach.
         let apart = |starts: &[u8], goals: &[u8]| given(5, &[(0, 1), (1, 2)], starts, goals, 0);
-        let floors: [(&[u8], &[u8], [Item; 2]); 4] = [
+        let floors: [(&[u8], &[u8], [Item; 2]); 5] = [
             (&[0, 1, 2], &[3, 1, 1], [(9, 13), (30, 11)]),
             (&[0, 3], &[3, 3], [(9, 11), (30, 10)]),
             (&[0, 1], &[3, 4], [(30, 10), (30, 11)]),
             (&[0, 1, 3, 4], &[2, 3, 0, 4], [(30, 13), (30, 14)]),
+            // A free agent between them.
+            (&[0, 3, 1], &[3, NO_GOAL, 4], [(30, 11), (30, 13)]),
         ];
         for (starts, goals, items) in floors {
             self.two(FLOOR, &apart(starts, goals), 0, &[], 0, items);
@@ -776,7 +832,7 @@ impl Cases {
                 break edges;
             }
         };
-        let (starts, goals) = (self.random.vertices(n, k), self.random.vertices(n, k));
+        let (starts, goals) = (self.random.vertices(n, k), self.random.goals(n, k));
         let good = instance_bytes(n, &edges, &starts, &goals);
         let e = edges.len();
         let m = self.random.below(33) as u64;
@@ -813,10 +869,11 @@ impl Cases {
             bad.swap(j, j - 1);
         }
         self.refused(instance_bytes(n, &bad, &starts, &goals), m);
-        for at in [0, 1] {
+        // A goal byte of 255 is right.
+        for (at, beyond) in [(0, 255), (1, 254)] {
             let mut ends = [starts.clone(), goals.clone()];
             let a = 1 + self.random.below(k - 1);
-            ends[at][a] = [ends[at][0], n as u8, 255][self.random.below(3)];
+            ends[at][a] = [ends[at][0], n as u8, beyond][self.random.below(3)];
             self.refused(instance_bytes(n, &edges, &ends[0], &ends[1]), m);
         }
         for m in [33, 255, 1 << 32, 1 << 63, u64::MAX] {
@@ -847,8 +904,8 @@ impl Cases {
         self.floor(&given);
         self.pruning(&given);
         self.walked(&given, &plan);
-        // Wrong goals: the last row fails.
-        let goals = self.random.vertices(n, k);
+        // Wrong goals: the last row fails, unless all agents are free.
+        let goals = self.random.goals(n, k);
         let mut other = given.instance.clone();
         let from = other.len() - k;
         other[from..].copy_from_slice(&goals);
@@ -875,6 +932,31 @@ impl Cases {
             assert_eq!(accepted, Some((0, 0)), "{:?}", given.instance);
             let refused = self.pruned(&given, words as usize - 1);
             assert_eq!(refused, Some((12, words)), "{:?}", given.instance);
+        }
+    }
+
+    /// Instances with free agents and answers known beforehand, and every call on
+    /// them.
+    fn worked_free(&mut self) {
+        for worked in free::worked() {
+            let given = Given {
+                instance: worked.instance,
+                m: worked.m,
+            };
+            self.sizes(&given);
+            self.writer(&given, given.words());
+            for number in 0..=given.clauses() {
+                self.clause(&given, number, 66);
+            }
+            self.floor(&given);
+            self.pruned(&given, given.pruned_words());
+            for (plan, checked, decoded) in worked.plans {
+                assert_eq!(self.plan(&given, plan), Some(*checked), "{plan:?}");
+                self.encoder(&given, plan, given.variables());
+                let entries = plain::valuation(given.n(), given.k(), plan);
+                let answer = self.decoder(&given, &entries, plan.len());
+                assert_eq!(answer, Some(*decoded), "{plan:?}");
+            }
         }
     }
 
@@ -948,6 +1030,7 @@ impl Cases {
             (near(m + 1), 0),
             (near(1), near(m)),
             (v as u8, w as u8),
+            (w as u8, NO_GOAL),
         ];
         let mut edges = path_edges(n);
         for (start, goal) in ends {
@@ -1082,8 +1165,13 @@ impl Cases {
             .map(|_| self.random.below(n) as u8)
             .collect();
         plan[..k].copy_from_slice(given.starts());
+        // Free agents end anywhere.
         let from = plan.len() - k;
-        plan[from..].copy_from_slice(&given.instance[given.instance.len() - k..]);
+        for (byte, &goal) in plan[from..].iter_mut().zip(given.goals()) {
+            if !is_free(goal) {
+                *byte = goal;
+            }
+        }
         if self.random.chance(50) {
             self.plan(given, &plan);
         } else {
@@ -1350,17 +1438,23 @@ fn sequences<T: Clone>(items: &[T], length: usize) -> Vec<Vec<T>> {
     all
 }
 
-/// Starts or goals: k different vertices below n, k at most 2.
-fn ends(n: u8, k: usize) -> Vec<Vec<u8>> {
-    if k == 1 {
-        return (0..n).map(|v| vec![v]).collect();
-    }
-    (0..n)
-        .flat_map(|v| (0..n).filter(move |&w| w != v).map(move |w| vec![v, w]))
-        .collect()
+/// Starts: k different vertices below n.
+fn starts(n: u8, k: usize) -> Vec<Vec<u8>> {
+    let mut all = goals(n, k);
+    all.retain(|starts| !starts.contains(&NO_GOAL));
+    all
 }
 
-/// All instances on n vertices with k agents, k at most 2, at the horizon m.
+/// Goals: k different vertices below n, or none.
+fn goals(n: u8, k: usize) -> Vec<Vec<u8>> {
+    let bytes: Vec<u8> = (0..n).chain([NO_GOAL]).collect();
+    let mut all = sequences(&bytes, k);
+    let differs = |goals: &[u8], a: usize| is_free(goals[a]) || !goals[..a].contains(&goals[a]);
+    all.retain(|goals| (0..k).all(|a| differs(goals, a)));
+    all
+}
+
+/// All instances on n vertices with k agents at the horizon m.
 fn instances(n: usize, k: usize, m: u64) -> Vec<Given> {
     let edges = all_edges(n);
     let mut all = Vec::new();
@@ -1368,8 +1462,8 @@ fn instances(n: usize, k: usize, m: u64) -> Vec<Given> {
         let mut index = 0..edges.len();
         let mut chosen = edges.clone();
         chosen.retain(|_| graph >> index.next().unwrap_or(0) & 1 == 1);
-        for starts in ends(n as u8, k) {
-            for goals in ends(n as u8, k) {
+        for starts in starts(n as u8, k) {
+            for goals in goals(n as u8, k) {
                 let instance = instance_bytes(n, &chosen, &starts, &goals);
                 all.push(Given { instance, m });
             }
@@ -1394,16 +1488,16 @@ fn small_instances() -> Vec<Given> {
 /// The stored set: all of the above, thinned so that it stays small.
 fn gate(cases: &mut Cases) {
     for (index, given) in small_instances().iter().enumerate() {
-        // The first 1,131 have up to 3 vertices.
-        let step = if index < 1131 { 2 } else { 41 };
+        // The first 2,286 have up to 3 vertices. The steps share no divisor with the numbers of goals and starts.
+        let (step, pruned_step) = if index < 2286 { (5, 11) } else { (71, 139) };
         if index % step == 0 {
             cases.small(given);
         }
-        if index % (2 * step) == 1 {
+        if index % pruned_step == 1 {
             cases.small_pruned(given);
         }
     }
-    for given in small_instances().iter().step_by(3001) {
+    for given in small_instances().iter().step_by(5003) {
         cases.all_clauses(given);
     }
     for _ in 0..6 {
@@ -1412,9 +1506,9 @@ fn gate(cases: &mut Cases) {
     for (n, k, m, step) in [
         (1, 1, 2, 1),
         (2, 1, 1, 1),
-        (2, 2, 1, 2),
-        (3, 1, 1, 7),
-        (3, 2, 1, 71),
+        (2, 2, 1, 5),
+        (3, 1, 1, 11),
+        (3, 2, 1, 127),
     ] {
         for given in instances(n, k, m).iter().step_by(step) {
             cases.all_plans(given);
@@ -1423,8 +1517,8 @@ fn gate(cases: &mut Cases) {
     for (n, k, m, step) in [
         (1, 1, 2, 1),
         (2, 1, 1, 1),
-        (2, 2, 0, 2),
-        (2, 2, 1, 5),
+        (2, 2, 0, 3),
+        (2, 2, 1, 11),
         (3, 1, 1, 13),
     ] {
         for given in instances(n, k, m).iter().step_by(step) {
@@ -1475,12 +1569,14 @@ fn gate(cases: &mut Cases) {
     for _ in 0..60 {
         cases.any_size();
     }
+    cases.worked_free();
 }
 
 /// Fails where a kind never gives an answer that it can give, where the items of
 /// two numbers of neighbouring questions or of one question never fail at once,
 /// where no accepted plan tells a wrong count from the cost, or no answer a wrong
-/// floor, family H, size or writer from the right one.
+/// floor, family H, size or writer from the right one, or no answer of a call one
+/// that is wrong about free agents.
 fn require_all(cases: &Cases) {
     let mut missing = Vec::new();
     for kind in 1..=ASKED.len() as u8 {
@@ -1503,7 +1599,9 @@ fn require_all(cases: &Cases) {
     }
     let floors = cases.told_floors.missing();
     let names = floors.into_iter().map(String::from);
-    for name in names.chain(cases.told_sizes.missing()) {
+    let names = names.chain(cases.told_sizes.missing());
+    let free = cases.told_free.iter().flat_map(free::Told::missing);
+    for name in names.chain(free) {
         missing.push(format!("no answer tells from the right one: {name}"));
     }
     if !missing.is_empty() {
@@ -1544,6 +1642,7 @@ fn main() {
         told: Told::default(),
         told_floors: floors::Told::default(),
         told_sizes: sizes::Told::default(),
+        told_free: (mode == "gate").then(free::Told::default),
     };
     match mode {
         "gate" => {
@@ -1569,6 +1668,7 @@ fn main() {
                 cases.any_size();
             }
             cases.costs();
+            cases.worked_free();
             cases.largest(false);
             cases.longest();
         }
@@ -1579,14 +1679,17 @@ fn main() {
             }
         }
         "clauses" => {
-            let from = cases.random.below(11);
-            for given in small_instances().iter().skip(from).step_by(11) {
+            let from = cases.random.below(19);
+            for given in small_instances().iter().skip(from).step_by(19) {
                 cases.all_clauses(given);
             }
         }
         "plans" => {
-            for (n, k, m) in [(2, 1, 2), (2, 2, 1), (3, 1, 2), (3, 2, 1)] {
-                instances(n, k, m).iter().for_each(|g| cases.all_plans(g));
+            for (n, k, m, step) in [(2, 1, 2, 1), (2, 2, 1, 1), (3, 1, 2, 1), (3, 2, 1, 2)] {
+                let from = cases.random.below(step);
+                for given in instances(n, k, m).iter().skip(from).step_by(step) {
+                    cases.all_plans(given);
+                }
             }
             let all = instances(3, 2, 2);
             let at = cases.random.below(all.len());
@@ -1595,8 +1698,8 @@ fn main() {
         "valuations" => {
             for (n, k, m) in [(2, 1, 3), (2, 2, 1), (3, 1, 2), (4, 1, 1), (4, 2, 0)] {
                 let all = instances(n, k, m);
-                let from = cases.random.below(7);
-                for given in all.iter().skip(from).step_by(7) {
+                let from = cases.random.below(11);
+                for given in all.iter().skip(from).step_by(11) {
                     cases.all_valuations(given);
                 }
             }
@@ -1619,8 +1722,8 @@ fn main() {
                 cases.pruning(&Given { m, ..given });
             }
             for m in 0..=5 {
-                let from = cases.random.below(13);
-                for given in instances(4, 2, m).iter().skip(from).step_by(13) {
+                let from = cases.random.below(23);
+                for given in instances(4, 2, m).iter().skip(from).step_by(23) {
                     cases.pruning(given);
                 }
             }

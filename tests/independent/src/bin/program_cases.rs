@@ -12,6 +12,7 @@
 
 use independent::parts::malform;
 use independent::sample::{all_edges, instance_bytes, largest_instance, refused_twice, Generator};
+use independent::NO_GOAL;
 use std::io::{self, Write};
 use std::path::Path;
 use std::process::{exit, Command, Output, Stdio};
@@ -57,6 +58,12 @@ fn stored() -> Vec<Vec<u8>> {
         input(1, 3, &[], &[2, 0], &[0, 1]),
         input(4, 8, &dense, &[7, 0, 3, 4], &[1, 6, 5, 2]),
         input(32, 16, &ring, &[0, 8], &[8, 0]),
+        // Accepted too, with free agents: alone, first, between others, last, all.
+        input(1, 2, &[(0, 1)], &[0], &[NO_GOAL]),
+        input(1, 3, path, &[0, 2], &[NO_GOAL, 1]),
+        input(2, 6, grid, &[0, 2, 4], &[5, NO_GOAL, 1]),
+        input(1, 3, path, &[2, 0, 1], &[0, NO_GOAL, NO_GOAL]),
+        input(0, 3, &[], &[2, 0, 1], &[NO_GOAL; 3]),
         // 1
         vec![],
         vec![1],
@@ -86,8 +93,11 @@ fn stored() -> Vec<Vec<u8>> {
         // 8
         input(1, 3, path, &[0, 3], &[1, 2]),
         input(1, 3, path, &[2, 0, 2], &[0, 1, 2]),
+        // A start of 255, with a goal and without one.
+        input(1, 3, path, &[0, 255], &[1, 2]),
+        input(1, 3, path, &[0, 255], &[1, NO_GOAL]),
         // 9
-        input(1, 3, path, &[0, 1], &[1, 255]),
+        input(1, 3, path, &[0, 1], &[1, 254]),
         input(1, 3, path, &[0, 1, 2], &[1, 0, 1]),
         // 10
         changed(0, 33),

@@ -1,6 +1,7 @@
 //! The calls against the plain clause table.
 
 use super::{compare_words, says};
+use crate::parts::Parts;
 use crate::sample::{all_edges, instance_bytes, largest_instance, Generator};
 use crate::*;
 use std::collections::BTreeSet;
@@ -70,13 +71,13 @@ fn compare_plan(instance: &[u8], m: u64, plan: &[u8]) -> bool {
 /// All instances with n vertices and k agents.
 fn all_instances(n: usize, k: usize) -> Vec<Vec<u8>> {
     let possible = all_edges(n);
-    let places = all_places(n, k);
+    let (all_starts, all_goals) = (all_places(n, k), all_goals(n, k));
     let mut instances = Vec::new();
     for graph in 0..1 << possible.len() {
         let chosen = (0..possible.len()).filter(|j| graph >> j & 1 == 1);
         let edges: Vec<(u8, u8)> = chosen.map(|j| possible[j]).collect();
-        for starts in &places {
-            for goals in &places {
+        for starts in &all_starts {
+            for goals in &all_goals {
                 instances.push(instance_bytes(n, &edges, starts, goals));
             }
         }
@@ -89,6 +90,19 @@ fn all_places(n: usize, k: usize) -> Vec<Vec<u8>> {
     let mut places = all_plans(n, k);
     places.retain(|row| k == 1 || row[0] != row[1]);
     places
+}
+
+/// All goals of k agents, 1 or 2, each of which may be free.
+fn all_goals(n: usize, k: usize) -> Vec<Vec<u8>> {
+    // n stands for no goal here.
+    let mut goals = all_plans(n + 1, k);
+    for goal in goals.iter_mut().flatten() {
+        if usize::from(*goal) == n {
+            *goal = NO_GOAL;
+        }
+    }
+    goals.retain(|goals| k == 1 || goals[0] != goals[1] || is_free(goals[0]));
+    goals
 }
 
 /// All lists of `length` vertices.
@@ -180,6 +194,8 @@ fn all_small_valuations() {
             let count = n * k * (m + 1);
             for instance in all_instances(n, k) {
                 let clauses = plain::clauses(&instance, m as u64);
+                let [starts, goals, ..] = Parts::of(&instance).clause_counts(m);
+                let ends = (starts + goals) as usize;
                 let mut compare = |entries: &[i32]| {
                     let decoded = compare_decoder(&instance, m as u64, &clauses, entries);
                     accepted += usize::from(decoded);
@@ -193,7 +209,7 @@ fn all_small_valuations() {
                         // A few true entries more than the ends.
                         let bits = random.draw() & random.draw();
                         let mut entries = signed(count, bits);
-                        for literals in &clauses[..2 * k] {
+                        for literals in &clauses[..ends] {
                             entries[literals[0] as usize - 1] = literals[0];
                         }
                         compare(&entries);
@@ -310,6 +326,14 @@ fn largest_formula() {
     let clauses = plain::clauses(&instance, 32);
     assert_eq!(plain::words(&clauses).len(), 7_625_296);
     compare_formula(&instance, 32, &clauses);
+    // The same, with the first, the last and some other agents free: six fewer of two words.
+    let mut parts = Parts::of(&instance);
+    for a in [0, 3, 4, 9, 14, 15] {
+        parts.goals[a] = NO_GOAL;
+    }
+    let clauses = plain::clauses(&parts.bytes(), 32);
+    assert_eq!(plain::words(&clauses).len(), 7_625_284);
+    compare_formula(&parts.bytes(), 32, &clauses);
 }
 
 #[test]

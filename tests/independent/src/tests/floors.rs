@@ -129,7 +129,7 @@ fn all_small_floors() {
     for n in 1..=5u8 {
         for edges in all_maps(n.into()) {
             for start in 0..n {
-                for goal in 0..n {
+                for goal in (0..n).chain([NO_GOAL]) {
                     let instance = instance_bytes(n.into(), &edges, &[start], &[goal]);
                     let answer = compare_floor(&instance);
                     floors.insert((answer.number, answer.second));
@@ -143,15 +143,17 @@ fn all_small_floors() {
     assert!((0..=4).all(|floor| floors.contains(&(0, floor))));
 }
 
-/// One agent alone can go as soon as the floor says, and no sooner.
+/// One agent alone can go as soon as the floor says, and no sooner; without a goal
+/// it is there at once.
 #[test]
 fn one_agent_needs_the_floor() {
     for n in 1..=4u8 {
         for edges in all_maps(n.into()) {
-            for ends in 0..n * n {
-                let (start, goal) = (ends / n, ends % n);
+            let goals = || (0..n).chain([NO_GOAL]);
+            for (start, goal) in (0..n).flat_map(|start| goals().map(move |goal| (start, goal))) {
                 let instance = instance_bytes(n.into(), &edges, &[start], &[goal]);
                 let answer = floor(&instance);
+                assert!(!is_free(goal) || answer == says(0, 0));
                 for m in 0..=4u32 {
                     let count = u32::from(n).pow(m + 1);
                     let plan = |index: u32| {
@@ -175,14 +177,14 @@ fn family_h_changes_no_meaning() {
     let mut satisfying = 0;
     for n in 1..=3u8 {
         for edges in all_maps(n.into()) {
-            let mut ends: Vec<Vec<u8>> = (0..n).map(|v| vec![v]).collect();
-            ends.extend(
-                (0..n * n)
-                    .map(|x| vec![x / n, x % n])
-                    .filter(|x| x[0] != x[1]),
-            );
+            let bytes: Vec<u8> = (0..n).chain([NO_GOAL]).collect();
+            let mut ends: Vec<Vec<u8>> = bytes.iter().map(|&v| vec![v]).collect();
+            let pairs = bytes
+                .iter()
+                .flat_map(|&v| bytes.iter().map(move |&w| vec![v, w]));
+            ends.extend(pairs.filter(|x| x[0] != x[1] || is_free(x[0])));
             for (starts, goals) in ends.iter().flat_map(|x| ends.iter().map(move |y| (x, y))) {
-                if starts.len() != goals.len() {
+                if starts.len() != goals.len() || starts.contains(&NO_GOAL) {
                     continue;
                 }
                 let instance = instance_bytes(n.into(), &edges, starts, goals);

@@ -1,6 +1,7 @@
 mod cross;
 mod examples;
 mod floors;
+mod free;
 mod numbering;
 mod questions;
 mod reader;
@@ -32,11 +33,7 @@ fn counts(words: u64, clauses: u64) -> Size {
 
 /// What a size call says when it refuses.
 fn uncounted(refusal: Answer) -> Size {
-    Size {
-        number: refusal.number,
-        second: refusal.second,
-        clauses: 0,
-    }
+    refusal.into()
 }
 
 type SizeCall = fn(&[u8], u64) -> Size;

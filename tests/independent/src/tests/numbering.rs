@@ -42,7 +42,7 @@ fn two_agents() -> Vec<u8> {
 
 /// Its clauses A to G, each family in lines of its own; `floors` has family H.
 #[rustfmt::skip]
-const CLAUSES: [&[i32]; 38] = [
+pub(super) const CLAUSES: [&[i32]; 38] = [
     &[1], &[9],
     &[5], &[12],
     &[1, 2, 3], &[7, 8, 9], &[4, 5, 6], &[10, 11, 12],

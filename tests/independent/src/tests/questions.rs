@@ -1,9 +1,11 @@
 //! Each question, its place, and which of two refusals comes first.
 
 use super::{closed_counts, counts, says, uncounted, FORMULAS, WROTE};
+use crate::calls::say;
 use crate::output::{some_text, some_valuation};
 use crate::parts::{enter_occupied, malform, Parts};
 use crate::questions::{failing, first_no, Handed, Item, ASKED, NUMBERS};
+use crate::questions::{CLAUSE, DECODER, FLOOR, PRUNED, PRUNED_SIZE, SIZE, WRITER};
 use crate::sample::{all_edges, instance_bytes, largest_instance, Generator};
 use crate::*;
 use std::collections::BTreeSet;
@@ -110,7 +112,7 @@ fn questions_6_and_7_edges() {
 fn questions_8_to_10() {
     assert_eq!(refused(&path(&[0, 4, 0], &[9, 9, 9]), 33), says(8, 11));
     assert_eq!(refused(&path(&[0, 1, 0], &[9, 9, 9]), 33), says(8, 12));
-    assert_eq!(refused(&path(&[0, 1, 2], &[3, 2, 255]), 33), says(9, 15));
+    assert_eq!(refused(&path(&[0, 1, 2], &[3, 2, 254]), 33), says(9, 15));
     assert_eq!(refused(&path(&[0, 1, 2], &[3, 3, 255]), 33), says(9, 14));
     assert_eq!(refused(&path(&[0, 1, 2], &[3, 2, 1]), 33), says(10, 0));
     assert_eq!(refused(&PAIR, u64::MAX), says(10, 0));
@@ -493,7 +495,7 @@ fn calls_answer_the_first_no() {
         let mut entries = plain::valuation(n, k, &plan);
         if random.chance(20) {
             // Goals that may be out of reach.
-            let goals = random.vertices(n, k);
+            let goals = random.goals(n, k);
             let from = instance.len() - k;
             instance[from..].copy_from_slice(&goals);
         }
@@ -532,38 +534,27 @@ fn calls_answer_the_first_no() {
         for (call, numbers) in ASKED.into_iter().enumerate() {
             let lent = match (random.below(4), call) {
                 (0, _) => random.below(6),
-                (_, 3) => 12,
+                (_, DECODER) => 12,
                 _ => 2_000,
             };
-            let (mut words, mut bytes) = (vec![7; lent], vec![7; lent]);
-            let pruned = matches!(call, 7 | 9);
-            let (size, _) = FORMULAS[usize::from(pruned)];
-            let size = size(&instance, horizon);
-            let answer = match call {
-                0 => write_formula(&instance, horizon, &mut words),
-                1 => clause(&instance, horizon, number, &mut words),
-                2 => check_plan(&instance, horizon, &plan),
-                3 => decode(&instance, horizon, &entries, &mut bytes),
-                4 => encode(&instance, horizon, &plan, &mut words),
-                5 => read_valuation(&instance, horizon, &text, &mut words),
-                6 => floor(&instance),
-                7 => write_pruned(&instance, horizon, &mut words),
-                _ => says(size.number, size.second),
-            };
+            let pruned = matches!(call, PRUNED | PRUNED_SIZE);
             let handed = Handed {
                 instance: &instance,
-                horizon: if call == 6 { 0 } else { horizon },
-                clause: (call == 1).then_some(number),
+                horizon: if call == FLOOR { 0 } else { horizon },
+                clause: (call == CLAUSE).then_some(number),
                 plan: &plan,
                 entries: &entries,
                 text: &text,
                 lent,
                 pruned,
             };
+            let answer = say(call, &instance, &handed, vec![7; lent], vec![7; lent]).answer;
             match (first_no(numbers, &handed), call) {
-                (Some((number, place)), _) => assert_eq!(answer, says(number, place)),
-                (None, 0 | 7) => assert_eq!(answer, WROTE),
-                (None, 8 | 9) => assert_eq!(size, closed_counts(&instance, horizon, pruned)),
+                (Some((number, place)), _) => assert_eq!(answer, says(number, place).into()),
+                (None, WRITER | PRUNED) => assert_eq!(answer, WROTE.into()),
+                (None, SIZE | PRUNED_SIZE) => {
+                    assert_eq!(answer, closed_counts(&instance, horizon, pruned));
+                }
                 (None, _) => assert_eq!(answer.number, 0),
             }
             seen[call][answer.number as usize] = true;

@@ -1,0 +1,95 @@
+-- 22 comes from the question about row m, and names the lowest agent that has a goal and is not at it.
+use mathlib.Core.Path.{_≡_, sym, _∙_, ap, subst}
+use mathlib.Core.Logic.{⊎-elim}
+use mathlib.Core.List.{List, [], _∷_, _++_}
+use mathlib.Core.Bool.{Bool, not, _||_}
+use Prim.Native.Nat.{ℕ, _<_}
+use native.Mathlib.Omega.{arith}
+use lib.Dec.{T, eqb}
+use Rattle.lists.specs.Loop.{for, all}
+use Rattle.lists.proofs.Tests.{and-iff, eqb-iff}
+use Rattle.lists.proofs.Loops.{all-append, for-all}
+use Rattle.answers.specs.declared.Answer.{Answer}
+use Rattle.answers.specs.Answers.{Question, refuse, decide}
+use Rattle.answers.specs.Fault.{FirstFault}
+use Rattle.answers.proofs.Laws.{each-all, ask-all, decide-each, decide-behind, decide-count}
+use Rattle.instance.specs.declared.Sizes.{Sizes}
+use Rattle.instance.specs.Instance.{Instance, instance, free}
+use Rattle.instance.specs.Questions.{instanceQuestions}
+use Rattle.formula.specs.Formula.{formula}
+use Rattle.plan.specs.Plan.{planRow, planIndex, Leaving, stays, exchanges, movesOn}
+use Rattle.calls.specs.Questions.{occupiedNumber, question13, question16, question17, question18}
+use Rattle.calls.specs.Calls.{stepQuestions, planQuestions, checkAnswer, encodeAnswer}
+
+abbrev is22 : Answer → Bool
+is22 r = eqb (r .number) 22
+
+-- the questions before it have other numbers
+abbrev Others : List Question → Type 0
+Others qs = T (all (all (λ r. not (is22 r))) qs)
+
+other-occupied : (w : Leaving) → T (not (eqb (occupiedNumber w) 22))
+unfolding occupiedNumber
+other-occupied stays = tt
+other-occupied exchanges = tt
+other-occupied movesOn = tt
+
+others-instance : (b : List ℕ) (m : ℕ) → Others (instanceQuestions b m)
+unfolding instanceQuestions
+others-instance b m =
+    simp (and-iff, each-all, ask-all)
+    ((λ f. tt), ((λ f. tt), ((λ f. tt), ((λ f. tt), ((λ f. tt), ((λ j l f. tt), ((λ j l f. tt), ((λ a l f. tt), ((λ a l f. tt), ((λ f. tt), tt))))))))))
+
+behind : (qs rs : List Question) (c : ℕ) → Others qs → decide (qs ++ rs) c .number ≡ 22 → decide (qs ++ rs) c ≡ decide rs c
+behind qs rs c h e = decide-behind is22 qs rs c h (eqb-iff _ 22 .1 e) .1
+
+module _ (I : Instance) (p : List ℕ) where
+  open Instance I using (sizes, goal)
+  open Sizes sizes using (k, m)
+
+  abbrev at : ℕ → Bool
+  at a = free (goal a) || eqb (planRow sizes p m a) (goal a)
+
+  -- the lowest agent that fails gives the place
+  abbrev pub OffAt : Answer → Type 0
+  OffAt answer = (a : ℕ) × (a < k) × FirstFault k at a × (answer .second ≡ planIndex sizes m a)
+
+  front : List Question
+  front = question17 I p ∷ question18 I p ∷ for m (stepQuestions I p)
+
+  others-front : Others front
+  unfolding front
+  others-front =
+      simp (and-iff, for-all, each-all)
+      ((λ i l f. tt), ((λ a l f. tt), (λ t l. ((λ a r f. tt), ((λ a r f. other-occupied _), ((λ a r f. tt), tt))))))
+
+  off-plan : (c : ℕ) → decide (planQuestions I p) c .number ≡ 22 → OffAt (decide (planQuestions I p) c)
+  unfolding planQuestions front
+  off-plan c e =
+      let q = behind front _ c others-front e in
+      ⊎-elim
+      (λ w.
+      let z : 22 ≡ 0 = sym e ∙ ap (λ (r : Answer). r .number) (q ∙ w .1 ∙ decide-count [] c tt) in
+      absurd (let f : ⊥ = omega arith in f))
+      (λ (a, l, f, r). (a, l, f, ap (λ (r : Answer). r .second) (q ∙ r)))
+      (decide-each k at (λ a. refuse 22 (planIndex sizes m a)) [] c)
+
+module _ (b : List ℕ) (m : ℕ) (p : List ℕ) where
+  abbrev J : Instance
+  J = instance b m
+
+  pub off-check : checkAnswer b m p .number ≡ 22 → OffAt J p (checkAnswer b m p)
+  unfolding checkAnswer
+  off-check e =
+      let rest = question13 J p ∷ planQuestions J p in
+      let q = behind (instanceQuestions b m) rest _ (others-instance b m) e in
+      let q′ = q ∙ behind (question13 J p ∷ []) (planQuestions J p) _ (simp (and-iff, ask-all) ((λ f. tt), tt)) (sym (ap (λ (r : Answer). r .number) q) ∙ e) in
+      subst (OffAt J p) (sym q′) (off-plan J p _ (sym (ap (λ (r : Answer). r .number) q′) ∙ e))
+
+  pub off-encode : (room : ℕ) → encodeAnswer b m p room .number ≡ 22 → OffAt J p (encodeAnswer b m p room)
+  unfolding encodeAnswer
+  off-encode room e =
+      let rest = question13 J p ∷ question16 (formula J) room ∷ planQuestions J p in
+      let q = behind (instanceQuestions b m) rest _ (others-instance b m) e in
+      let q′ = q ∙ behind (question13 J p ∷ question16 (formula J) room ∷ []) (planQuestions J p) _ (simp (and-iff, ask-all) ((λ f. tt), ((λ f. tt), tt))) (sym (ap (λ (r : Answer). r .number) q) ∙ e) in
+      subst (OffAt J p) (sym q′) (off-plan J p _ (sym (ap (λ (r : Answer). r .number) q′) ∙ e))

@@ -1,0 +1,151 @@
+-- Free agents: what the questions, the families and the counts make of them.
+use mathlib.Core.Path.{_≡_, refl, sym, _∙_, ap}
+use mathlib.Core.Logic.{_↔_, _≢_, inl, inr, ⊎-elim}
+use mathlib.Core.List.{List, [], _∷_, _++_}
+use mathlib.Core.Bool.{Bool, true, false, not, _||_}
+use Prim.Native.Nat.{ℕ, suc, _+_, _*_, _<_}
+use native.Mathlib.Nat.{mul-one}
+use native.Mathlib.Omega.{arith}
+use lib.ListN.{length, getD, length-append}
+use lib.Seq.{getD-append-add}
+use borrow.Author.Tests.{eq-eqb}
+use lib.Dec.{T}
+use Rattle.lists.specs.Loop.{for, each, all, sum}
+use Rattle.lists.proofs.Tests.{or-iff, or-imp, and-iff, not-iff, eqb-iff, ltb-iff, every-iff}
+use Rattle.lists.proofs.Loops.{for-split, for-nil, all-append, each-for, each-when}
+use Rattle.lists.proofs.Sums.{ind, sum-ext, sum-add, sum-const, when-count, for-at}
+use Rattle.answers.specs.declared.Answer.{Answer}
+use Rattle.answers.specs.Answers.{accept, clear}
+use Rattle.answers.specs.Fault.{FirstFault}
+use Rattle.answers.proofs.Laws.{clear-iff, each-nil, decide-count}
+use Rattle.instance.specs.declared.Sizes.{Sizes}
+use Rattle.instance.specs.Instance.{Instance, noGoal, free, HasGoal, withGoal, goalCount, instance, agents, goalOf, adjacent}
+use Rattle.instance.specs.Questions.{question9, bytesQuestions, instanceAnswer}
+use Rattle.instance.proofs.Goals.{goal-count, goal-count-below}
+use Rattle.instance.proofs.Instance.{instance-iff, goals-counted}
+use Rattle.distances.specs.Distance.{reachable, startToGoal, floor}
+use Rattle.distances.proofs.Within.{floor-most}
+use Rattle.distances.proofs.Goals.{to-goal-free}
+use Rattle.formula.specs.Variables.{X}
+use Rattle.formula.specs.Formula.{Clause, A, B, clauses}
+use Rattle.formula.specs.Blocks.{given, family}
+use Rattle.formula.specs.Counts.{clauseCount, wordCount}
+use Rattle.formula.proofs.Blocks.{clauses-families}
+use Rattle.formula.proofs.Counts.{count-A, count-B}
+use Rattle.formula.proofs.Places.{goal-getD}
+use Rattle.plan.specs.Plan.{planRow}
+use Rattle.calls.specs.Calls.{goalQuestion, floorQuestions, checkAnswer, encodeAnswer, floorAnswer}
+use Rattle.calls.proofs.Goals.{OffAt, off-check, off-encode}
+use Rattle.claims.specs.Free.{NewGoals, freeAgents, AllFree, InFormula, OffGoal, Idle, Claim}
+use Rattle.claims.proofs.Distances.{bytes-ok}
+
+nine : (b : List ℕ) → T (clear (question9 b)) ↔ NewGoals b
+nine b =
+    simp (clear-iff, each-nil, or-imp, and-iff, not-iff, eqb-iff, ltb-iff, every-iff) (
+      (λ h a l g. let (x, y) = h a l g in (x, λ c o f. y c o)),
+      (λ h a l g. let (x, y) = h a l g in (x, λ c o e. y c o (λ z. g (sym e ∙ z)) e)),
+    )
+
+-- one of the two holds of each agent
+either : (b : Bool) → ind (not b) + ind b ≡ 1
+either true = refl
+either false = refl
+
+module _ (b : List ℕ) (m : ℕ) where
+  abbrev I : Instance
+  I = instance b m
+
+  open Instance I using (sizes, goal)
+  open Sizes sizes using (k, g)
+
+  abbrev by : ℕ → List Clause
+  by = family (given I)
+
+  others : g + length (freeAgents b) ≡ k
+  unfolding instance
+  others =
+      let x = goal-count (goalOf b) (agents b) in
+      let y = when-count (agents b) (λ a. free (goalOf b a)) (λ a. a) in
+      let z : sum (agents b) (λ a. ind (not (free (goalOf b a))) + ind (free (goalOf b a))) ≡ agents b =
+      sum-ext (agents b) _ (λ a. 1) (λ a l. either (free (goalOf b a))) ∙ sum-const (agents b) 1 ∙ mul-one (agents b) in
+      omega (arith, x, y, z, sum-add (agents b) (λ a. ind (not (free (goalOf b a)))) (λ a. ind (free (goalOf b a))))
+
+  goals : B sizes goal ≡ each (λ a. (X sizes m a (goal a) ∷ []) ∷ []) (withGoal k goal)
+  unfolding B instance
+  goals = sym (simp (each-for, each-when) refl)
+
+  in-B : (a : ℕ) → a < k → HasGoal (goal a) → getD (clauses I) (k + goalCount a goal) [] ≡ X sizes m a (goal a) ∷ []
+  unfolding family instance
+  in-B a l h =
+      let e : k + goalCount a goal ≡ sum 1 (λ u. length (by u)) + goalCount a goal = omega (arith, count-A I) in
+      let r : goalCount a goal < length (by 1) = omega (arith, count-B I (goals-counted b m), goals-counted b m, goal-count-below goal k a l h) in
+      ap (λ (x : ℕ). getD (clauses I) x []) e
+      ∙ ap (λ (L : List Clause). getD L (sum 1 (λ u. length (by u)) + goalCount a goal) []) (clauses-families I)
+      ∙ for-at 7 by [] 1 (goalCount a goal) (omega arith) r
+      ∙ goal-getD sizes goal a l h
+
+  behind-B : (i : ℕ) → getD (clauses I) (k + g + i) [] ≡ getD (for 5 (λ j. by (2 + j))) i []
+  unfolding family
+  behind-B i =
+      let e : k + g + i ≡ length (for 2 by) + i = omega (arith, length-append (by 0) (by 1), count-A I, count-B I (goals-counted b m)) in
+      ap (λ (x : ℕ). getD (clauses I) x []) e
+      ∙ ap (λ (L : List Clause). getD L (length (for 2 by) + i) []) (clauses-families I ∙ for-split 2 5 by)
+      ∙ getD-append-add (for 2 by) (for 5 (λ j. by (2 + j))) i []
+
+  in-formula : InFormula b m
+  unfolding clauseCount wordCount family instance
+  in-formula =
+      record {
+        goals = goals;
+        inB = in-B;
+        behindB = behind-B;
+        others = others;
+        fewerClauses = omega (arith, others);
+        fewerWords = omega (arith, others);
+      }
+
+  off : (p : List ℕ) (answer : Answer) → OffAt I p answer → OffGoal b m p (answer .second)
+  unfolding instance
+  off p answer (a, l, f, e) =
+      record {
+        a = a;
+        agent = l;
+        has = λ z. f .here l (or-iff (free (goal a)) _ .1 (inl (eqb-iff (goal a) noGoal .1 z)));
+        off = λ z. f .here l (or-iff (free (goal a)) _ .1 (inr (eqb-iff (planRow sizes p m a) (goal a) .1 z)));
+        lower = λ c o h. eqb-iff (planRow sizes p m c) (goal c) .0 (or-imp (free (goal c)) _ .0 (f .before c o) (λ t. h (eqb-iff (goal c) noGoal .0 t)));
+        at = e;
+      }
+
+  module _ (none : AllFree b) where
+    -- what is measured to no goal is 0
+    nothing : (a : ℕ) → a < agents b → startToGoal (instance b 0) a ≡ 0
+    unfolding instance
+    nothing a l = to-goal-free (goalOf b a) _ (eqb-iff (goalOf b a) noGoal .1 (none a l))
+
+    floor-none : instanceAnswer b 0 .number ≡ 0 → floorAnswer b ≡ accept 0
+    unfolding floorAnswer instance
+    floor-none e =
+        let clear30 : goalQuestion b ≡ [] = each-nil (agents b) (λ a. reachable (startToGoal (instance b 0) a)) _ .1 (λ a l. rw (nothing a l) tt) in
+        let yes : T (all clear (floorQuestions b)) = all-append clear (bytesQuestions b) (goalQuestion b ∷ []) .1 (bytes-ok b 0 (instance-iff b 0 .0 e), and-iff (clear (goalQuestion b)) true .1 (clear-iff (goalQuestion b) .1 clear30, tt)) in
+        let zero : floor (instance b 0) ≡ 0 = omega (arith, floor-most (instance b 0) 0 (λ a l. omega (arith, nothing a l))) in
+        decide-count (floorQuestions b) _ yes ∙ ap accept zero
+
+    idle : Idle b m
+    unfolding B instance
+    idle =
+        record {
+          emptyB = for-nil k _ .1 (λ a l. rw (eq-eqb (goal a) noGoal (none a l)));
+          checked = λ p e. let o = off p (checkAnswer b m p) (off-check b m p e) in o .has (none (o .a) (o .agent));
+          encoded = λ p room e. let o = off p (encodeAnswer b m p room) (off-encode b m p room e) in o .has (none (o .a) (o .agent));
+          floor = floor-none;
+        }
+
+pub free-claim : Claim
+free-claim =
+    record {
+      nine = nine;
+      formula = in-formula;
+      check = λ b m p e. off b m p (checkAnswer b m p) (off-check b m p e);
+      encode = λ b m p room e. off b m p (encodeAnswer b m p room) (off-encode b m p room e);
+      allFree = idle;
+    }

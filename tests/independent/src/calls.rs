@@ -1,0 +1,43 @@
+//! The ten calls, by their places in `ASKED`.
+
+use crate::questions::Handed;
+use crate::questions::{CLAUSE, DECODER, ENCODER, FLOOR, PLAN, PRUNED, READER, SIZE, WRITER};
+use crate::{check_plan, clause, decode, encode, floor, formula_size, pruned_size};
+use crate::{read_valuation, write_formula, write_pruned, Size};
+
+/// What a call answers, and what it leaves in its slice: words, or a plan's bytes.
+#[derive(PartialEq, Debug)]
+pub struct Said {
+    pub answer: Size,
+    pub words: Vec<i32>,
+    pub plan: Vec<u8>,
+}
+
+/// Makes the call on this instance, with what else was handed. Lent are these
+/// words, or this plan to the decoder.
+pub fn say(
+    call: usize,
+    instance: &[u8],
+    handed: &Handed,
+    mut words: Vec<i32>,
+    mut plan: Vec<u8>,
+) -> Said {
+    let m = handed.horizon;
+    let answer = match call {
+        WRITER => write_formula(instance, m, &mut words).into(),
+        CLAUSE => clause(instance, m, handed.clause.unwrap_or(0), &mut words).into(),
+        PLAN => check_plan(instance, m, handed.plan).into(),
+        DECODER => decode(instance, m, handed.entries, &mut plan).into(),
+        ENCODER => encode(instance, m, handed.plan, &mut words).into(),
+        READER => read_valuation(instance, m, handed.text, &mut words).into(),
+        FLOOR => floor(instance).into(),
+        PRUNED => write_pruned(instance, m, &mut words).into(),
+        SIZE => formula_size(instance, m),
+        _ => pruned_size(instance, m),
+    };
+    Said {
+        answer,
+        words,
+        plan,
+    }
+}
