@@ -2,22 +2,22 @@
 use mathlib.Core.Path.{_≡_, sym, _∙_, ap, subst}
 use mathlib.Core.Logic.{⊎-elim}
 use mathlib.Core.List.{List, [], _∷_, _++_}
-use mathlib.Core.Bool.{Bool, not, _||_}
+use mathlib.Core.Bool.{Bool, not}
 use Prim.Native.Nat.{ℕ, _<_}
 use native.Mathlib.Omega.{arith}
 use lib.Dec.{T, eqb}
 use Rattle.lists.specs.Loop.{for, all}
 use Rattle.lists.proofs.Tests.{and-iff, eqb-iff}
-use Rattle.lists.proofs.Loops.{all-append, for-all}
+use Rattle.lists.proofs.Loops.{for-all}
 use Rattle.answers.specs.declared.Answer.{Answer}
 use Rattle.answers.specs.Answers.{Question, refuse, decide}
 use Rattle.answers.specs.Fault.{FirstFault}
 use Rattle.answers.proofs.Laws.{each-all, ask-all, decide-each, decide-behind, decide-count}
 use Rattle.instance.specs.declared.Sizes.{Sizes}
-use Rattle.instance.specs.Instance.{Instance, instance, free}
+use Rattle.instance.specs.Instance.{Instance, instance}
 use Rattle.instance.specs.Questions.{instanceQuestions}
 use Rattle.formula.specs.Formula.{formula}
-use Rattle.plan.specs.Plan.{planRow, planIndex, Leaving, stays, exchanges, movesOn}
+use Rattle.plan.specs.Plan.{planRow, planIndex, atGoal, Leaving, stays, exchanges, movesOn}
 use Rattle.calls.specs.Questions.{occupiedNumber, question13, question16, question17, question18}
 use Rattle.calls.specs.Calls.{stepQuestions, planQuestions, checkAnswer, encodeAnswer}
 
@@ -47,12 +47,9 @@ module _ (I : Instance) (p : List ℕ) where
   open Instance I using (sizes, goal)
   open Sizes sizes using (k, m)
 
-  abbrev at : ℕ → Bool
-  at a = free (goal a) || eqb (planRow sizes p m a) (goal a)
-
   -- the lowest agent that fails gives the place
   abbrev pub OffAt : Answer → Type 0
-  OffAt answer = (a : ℕ) × (a < k) × FirstFault k at a × (answer .second ≡ planIndex sizes m a)
+  OffAt answer = (a : ℕ) × (a < k) × FirstFault k (atGoal goal (planRow sizes p m)) a × (answer .second ≡ planIndex sizes m a)
 
   front : List Question
   front = question17 I p ∷ question18 I p ∷ for m (stepQuestions I p)
@@ -72,7 +69,7 @@ module _ (I : Instance) (p : List ℕ) where
       let z : 22 ≡ 0 = sym e ∙ ap (λ (r : Answer). r .number) (q ∙ w .1 ∙ decide-count [] c tt) in
       absurd (let f : ⊥ = omega arith in f))
       (λ (a, l, f, r). (a, l, f, ap (λ (r : Answer). r .second) (q ∙ r)))
-      (decide-each k at (λ a. refuse 22 (planIndex sizes m a)) [] c)
+      (decide-each k (atGoal goal (planRow sizes p m)) (λ a. refuse 22 (planIndex sizes m a)) [] c)
 
 module _ (b : List ℕ) (m : ℕ) (p : List ℕ) where
   abbrev J : Instance

@@ -1,6 +1,5 @@
 -- The questions asked after 1 to 10: under each number, what is asked and the place that a no names.
 use mathlib.Core.List.{List, [], _∷_}
-use mathlib.Core.Bool.{_||_}
 use Prim.Native.Nat.{ℕ, suc, _+_}
 use lib.ListN.{length, getD}
 use lib.Dec.{leb, ltb, eqb}
@@ -8,10 +7,10 @@ use lib.IntN.{ℤ}
 use Rattle.lists.specs.Loop.{any}
 use Rattle.answers.specs.Answers.{Question, ask, askEach, refuse}
 use Rattle.instance.specs.declared.Sizes.{Sizes}
-use Rattle.instance.specs.Instance.{Instance, free, adjacent}
+use Rattle.instance.specs.Instance.{Instance, adjacent}
 use Rattle.distances.specs.Distance.{reachable}
 use Rattle.formula.specs.Formula.{Formula}
-use Rattle.plan.specs.Plan.{planBytes, planIndex, planRow, condition1, condition2, condition3, Leaving, stays, exchanges, movesOn, occupantLeaves}
+use Rattle.plan.specs.Plan.{planBytes, planIndex, planRow, condition1, condition2, condition3, atGoal, Leaving, stays, exchanges, movesOn, occupantLeaves}
 use Rattle.valuation.specs.Valuation.{rightEntry, satisfied?}
 use Rattle.solver_text.specs.Text.{lines}
 use Rattle.solver_text.specs.Form.{textMost, rightLine, offset, complete?, satisfiable?, statusPlace, given, times}
@@ -75,7 +74,7 @@ module _ (I : Instance) (p : List ℕ) where
 
   -- Is row m the goals? Free agents are passed over.
   abbrev pub question22 : Question
-  question22 = askEach k (λ a. free (goal a) || eqb (planRow sizes p m a) (goal a)) λ a. refuse 22 (planIndex sizes m a)
+  question22 = askEach k (atGoal goal (planRow sizes p m)) λ a. refuse 22 (planIndex sizes m a)
 
 -- of a formula f and a list of entries
 module _ (f : Formula) (entries : List ℤ) where
@@ -105,7 +104,7 @@ module _ (N : ℕ) (text : List ℕ) where
   abbrev pub question29 : Question
   question29 = askEach N (λ i. eqb (times (suc i) (given text)) 1) λ i. refuse 29 (suc i)
 
--- Can each goal be reached from its start? In the floor call only: of k agents with d a from start to goal, 0 of a free agent, where `place` is the offset of
--- the first goal.
+-- Can each goal be reached from its start? In the floor call only: of k agents with d a from start to goal, 0 for a free agent, where
+-- `place` is the offset of the first goal.
 abbrev pub question30 : ℕ → (ℕ → ℕ) → ℕ → Question
 question30 k d place = askEach k (λ a. reachable (d a)) λ a. refuse 30 (place + a)

@@ -1,9 +1,9 @@
 -- Free agents: what the questions, the families and the counts make of them.
 use mathlib.Core.Path.{_≡_, refl, sym, _∙_, ap}
-use mathlib.Core.Logic.{_↔_, _≢_, inl, inr, ⊎-elim}
-use mathlib.Core.List.{List, [], _∷_, _++_}
-use mathlib.Core.Bool.{Bool, true, false, not, _||_}
-use Prim.Native.Nat.{ℕ, suc, _+_, _*_, _<_}
+use mathlib.Core.Logic.{inl, inr}
+use mathlib.Core.List.{List, [], _∷_}
+use mathlib.Core.Bool.{Bool, true, false, not}
+use Prim.Native.Nat.{ℕ, _+_, _<_}
 use native.Mathlib.Nat.{mul-one}
 use native.Mathlib.Omega.{arith}
 use lib.ListN.{length, getD, length-append}
@@ -11,40 +11,33 @@ use lib.Seq.{getD-append-add}
 use borrow.Author.Tests.{eq-eqb}
 use lib.Dec.{T}
 use Rattle.lists.specs.Loop.{for, each, all, sum}
-use Rattle.lists.proofs.Tests.{or-iff, or-imp, and-iff, not-iff, eqb-iff, ltb-iff, every-iff}
-use Rattle.lists.proofs.Loops.{for-split, for-nil, all-append, each-for, each-when}
+use Rattle.lists.proofs.Tests.{or-iff, or-imp, and-iff, eqb-iff}
+use Rattle.lists.proofs.Loops.{for-ext, for-split, for-nil, all-append, each-for, each-when}
+use Rattle.lists.proofs.Blocks.{for1-length}
 use Rattle.lists.proofs.Sums.{ind, sum-ext, sum-add, sum-const, when-count, for-at}
 use Rattle.answers.specs.declared.Answer.{Answer}
 use Rattle.answers.specs.Answers.{accept, clear}
-use Rattle.answers.specs.Fault.{FirstFault}
 use Rattle.answers.proofs.Laws.{clear-iff, each-nil, decide-count}
 use Rattle.instance.specs.declared.Sizes.{Sizes}
-use Rattle.instance.specs.Instance.{Instance, noGoal, free, HasGoal, withGoal, goalCount, instance, agents, goalOf, adjacent}
-use Rattle.instance.specs.Questions.{question9, bytesQuestions, instanceAnswer}
+use Rattle.instance.specs.Instance.{Instance, noGoal, free, HasGoal, withGoal, goalCount, AllBound, AllFree, instance, agents, goalOf}
+use Rattle.instance.specs.Questions.{bytesQuestions, instanceAnswer}
 use Rattle.instance.proofs.Goals.{goal-count, goal-count-below}
-use Rattle.instance.proofs.Instance.{instance-iff, goals-counted}
+use Rattle.instance.proofs.Instance.{instance-iff, goals-new, goals-counted}
 use Rattle.distances.specs.Distance.{reachable, startToGoal, floor}
 use Rattle.distances.proofs.Within.{floor-most}
 use Rattle.distances.proofs.Goals.{to-goal-free}
 use Rattle.formula.specs.Variables.{X}
-use Rattle.formula.specs.Formula.{Clause, A, B, clauses}
+use Rattle.formula.specs.Formula.{Clause, B, clauses}
 use Rattle.formula.specs.Blocks.{given, family}
 use Rattle.formula.specs.Counts.{clauseCount, wordCount}
 use Rattle.formula.proofs.Blocks.{clauses-families}
 use Rattle.formula.proofs.Counts.{count-A, count-B}
-use Rattle.formula.proofs.Places.{goal-getD}
+use Rattle.formula.proofs.Places.{goal-block, goal-getD}
 use Rattle.plan.specs.Plan.{planRow}
 use Rattle.calls.specs.Calls.{goalQuestion, floorQuestions, checkAnswer, encodeAnswer, floorAnswer}
 use Rattle.calls.proofs.Goals.{OffAt, off-check, off-encode}
-use Rattle.claims.specs.Free.{NewGoals, freeAgents, AllFree, InFormula, OffGoal, Idle, Claim}
+use Rattle.claims.specs.Free.{freeAgents, InFormula, OffGoal, Bound, Idle, Claim}
 use Rattle.claims.proofs.Distances.{bytes-ok}
-
-nine : (b : List ℕ) → T (clear (question9 b)) ↔ NewGoals b
-nine b =
-    simp (clear-iff, each-nil, or-imp, and-iff, not-iff, eqb-iff, ltb-iff, every-iff) (
-      (λ h a l g. let (x, y) = h a l g in (x, λ c o f. y c o)),
-      (λ h a l g. let (x, y) = h a l g in (x, λ c o e. y c o (λ z. g (sym e ∙ z)) e)),
-    )
 
 -- one of the two holds of each agent
 either : (b : Bool) → ind (not b) + ind b ≡ 1
@@ -116,7 +109,17 @@ module _ (b : List ℕ) (m : ℕ) where
         at = e;
       }
 
-  module _ (none : AllFree b) where
+  -- where every agent has a goal
+  bound : AllBound I → Bound b m
+  unfolding B instance
+  bound h =
+      let e : B sizes goal ≡ for k (λ a. (X sizes m a (goal a) ∷ []) ∷ []) = for-ext k _ _ (λ a l. goal-block sizes goal a (h a l)) in
+      record {
+        all = sym (count-B I (goals-counted b m)) ∙ ap length e ∙ for1-length k _;
+        wholeB = e;
+      }
+
+  module _ (none : AllFree I) where
     -- what is measured to no goal is 0
     nothing : (a : ℕ) → a < agents b → startToGoal (instance b 0) a ≡ 0
     unfolding instance
@@ -143,9 +146,10 @@ module _ (b : List ℕ) (m : ℕ) where
 pub free-claim : Claim
 free-claim =
     record {
-      nine = nine;
+      nine = goals-new;
       formula = in-formula;
       check = λ b m p e. off b m p (checkAnswer b m p) (off-check b m p e);
       encode = λ b m p room e. off b m p (encodeAnswer b m p room) (off-encode b m p room e);
+      allBound = bound;
       allFree = idle;
     }

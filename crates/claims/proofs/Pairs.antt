@@ -13,8 +13,7 @@ use Rattle.lists.proofs.Blocks.{place-lt, nested-getD}
 use Rattle.lists.proofs.Sums.{for-at}
 use Rattle.lists.proofs.Pairs.{pairs-below, above-one, above-getD, pair-some, pair-within, greatest-low}
 use Rattle.instance.specs.declared.Sizes.{Sizes}
-use Rattle.instance.specs.Instance.{Instance, instance}
-use Rattle.instance.proofs.Instance.{goals-counted}
+use Rattle.instance.specs.Instance.{Instance, Counted}
 use Rattle.formula.specs.Variables.{Literal, ¬X}
 use Rattle.formula.specs.Formula.{Clause, noTwo, D, E, clauses}
 use Rattle.formula.specs.Blocks.{given, family}
@@ -54,12 +53,9 @@ module _ (n : ℕ) where
   unfolding pairList
   by-pairs ¬x = sym (simp (each-for, each-when) refl)
 
-module _ (bytes : List ℕ) (m : ℕ) where
-  abbrev I : Instance
-  I = instance bytes m
-
+module _ (I : Instance) (w : Counted I) where
   open Instance I using (sizes)
-  open Sizes sizes using (n, k)
+  open Sizes sizes using (n, k, m)
 
   abbrev by : ℕ → List Clause
   by = family (given I)
@@ -82,14 +78,14 @@ module _ (bytes : List ℕ) (m : ℕ) where
       ∙ nested-getD (suc m) b (pairs c) (λ t x. noTwo c (¬x t x)) [] (λ t x. two-length c (¬x t x)) t x place (omega arith) q (pair-within c v w o l)
       ∙ two-getD c (¬x t x) v w o l)
 
-  families : Families bytes m
-  unfolding family D E instance
+  families : Families I
+  unfolding family D E
   families =
       record {
         vertices = λ t a. by-pairs n _;
         agents = λ t v. by-pairs k _;
-        inD = numbered 3 k n _ (λ t a. ¬X sizes t a) (omega arith) (omega (arith, count-A I, count-B I (goals-counted bytes m), count-C I)) refl;
-        inE = numbered 4 n k _ (λ t v a. ¬X sizes t a v) (omega arith) (omega (arith, count-A I, count-B I (goals-counted bytes m), count-C I, count-D I)) refl;
+        inD = numbered 3 k n _ (λ t a. ¬X sizes t a) (omega arith) (omega (arith, count-A I, count-B I w, count-C I)) refl;
+        inE = numbered 4 n k _ (λ t v a. ¬X sizes t a v) (omega arith) (omega (arith, count-A I, count-B I w, count-C I, count-D I)) refl;
       }
 
 pub pairs-claim : Claim

@@ -7,7 +7,7 @@ use lib.ListN.{length}
 use lib.Dec.{T}
 use lib.IntN.{ℤ}
 use Rattle.instance.specs.declared.Sizes.{Sizes}
-use Rattle.instance.specs.Instance.{Instance, noGoal, HasGoal, instance, agents, goals, startOf, goalOf, neighbourWords}
+use Rattle.instance.specs.Instance.{Instance, HasGoal, AllFree, instance, agents, goals, startOf, goalOf, neighbourWords}
 use Rattle.instance.specs.Questions.{instanceAnswer}
 use Rattle.distances.specs.Distance.{unreachable, distance}
 use Rattle.distances.specs.Table.{cell, TableOf}
@@ -57,7 +57,7 @@ module _ (b : List ℕ) (m : ℕ) where
 pub record Greatest (b : List ℕ) (x : ℕ) : Type 0 where
   pub each : (a : ℕ) → a < agents b → HasGoal (goalOf b a) → (d : ℕ) × (d ≤ x) × Shortest (instance b 0) (startOf b a) (goalOf b a) d
   pub one : ((a : ℕ) × (a < agents b) × HasGoal (goalOf b a) × Shortest (instance b 0) (startOf b a) (goalOf b a) x)
-      ⊎ (((a : ℕ) → a < agents b → goalOf b a ≡ noGoal) × (x ≡ 0))
+      ⊎ (AllFree (instance b 0) × (x ≡ 0))
 
 -- agent a has a goal, which cannot be reached from its start, but that of each lower agent that has one can, and the place is the offset
 -- of that goal

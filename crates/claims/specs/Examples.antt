@@ -8,6 +8,7 @@ use lib.IntN.{ℤ, pos, negℤ}
 use Rattle.answers.specs.declared.Answer.{Answer}
 use Rattle.answers.specs.declared.Size.{Size}
 use Rattle.answers.specs.Answers.{accept, refuse}
+use Rattle.instance.specs.Instance.{noGoal}
 use Rattle.formula.specs.Formula.{formula}
 use Rattle.formula.specs.Pruned.{pruned}
 use Rattle.calls.specs.Calls.{sizeAnswer, writeAnswer, writeSlice, clauseAnswer, clauseSlice, checkAnswer, decodeAnswer, decodeSlice, encodeAnswer, encodeSlice, readAnswer, readSlice, floorAnswer}
@@ -40,10 +41,6 @@ pathThree g₀ g₁ g₂ = 3 ∷ 3 ∷ 2 ∷ 0 ∷ 0 ∷ 1 ∷ 1 ∷ 2 ∷ 0 ∷
 
 abbrev pub pathFull : List ℕ
 pathFull = pathThree 0 1 2
-
--- no goal
-abbrev none : ℕ
-none = 255
 
 -- two vertices without an edge, one agent
 abbrev pub cutOne : ℕ → ℕ → List ℕ
@@ -198,11 +195,9 @@ pathPruned =
     ∷ neg 6 ∷ pos 0
     ∷ []
 
-abbrev cutPruned : List ℤ
-cutPruned =
-    pos 1 ∷ pos 0
-    ∷ pos 3 ∷ pos 0
-    ∷ pos 1 ∷ pos 2 ∷ pos 0
+abbrev cutBehind : List ℤ
+cutBehind =
+    pos 1 ∷ pos 2 ∷ pos 0
     ∷ pos 3 ∷ pos 4 ∷ pos 0
     ∷ neg 1 ∷ neg 2 ∷ pos 0
     ∷ neg 3 ∷ neg 4 ∷ pos 0
@@ -211,6 +206,9 @@ cutPruned =
     ∷ neg 2 ∷ pos 0
     ∷ neg 4 ∷ pos 0
     ∷ []
+
+abbrev cutPruned : List ℤ
+cutPruned = pos 1 ∷ pos 0 ∷ pos 3 ∷ pos 0 ∷ cutBehind
 
 -- ---- lines of a solver's text, the v lines with their line ends
 -- "s SATISFIABLE", "s UNSATISFIABLE", "s UNKNOWN"
@@ -341,42 +339,49 @@ table =
     ∷ example pair 0 (check (0 ∷ [])) (answer (refuse 22 0))
     ∷ example (pairWith 0 0) 0 (check (0 ∷ [])) (answer (accept 0))
     -- a free agent on the pair: B is empty; it may end anywhere on the map; family H forbids vertex 1 at time 0, by the start alone
-    ∷ example (pairWith 0 none) 1 size (sized 22 7)
-    ∷ example (pairWith 0 none) 1 (write (sevens 22)) (words (accept 0) (pos 1 ∷ pos 0 ∷ pairBehind))
-    ∷ example (pairWith 0 none) 1 prunedSize (sized 24 8)
-    ∷ example (pairWith 0 none) 1 (prune (sevens 24)) (words (accept 0) (pos 1 ∷ pos 0 ∷ pairBehind ++ neg 2 ∷ pos 0 ∷ []))
-    ∷ example (pairWith 0 none) 1 (check (0 ∷ 0 ∷ [])) (answer (accept 0))
-    ∷ example (pairWith 0 none) 1 (check (0 ∷ 1 ∷ [])) (answer (accept 1))
-    ∷ example (pairWith 0 none) 1 (check (0 ∷ none ∷ [])) (answer (refuse 17 1))
-    ∷ example (pairWith 0 none) 1 (encode (0 ∷ 0 ∷ []) (sevens 4)) (valuation (accept 4) (pos 1 ∷ neg 2 ∷ pos 3 ∷ neg 4 ∷ []))
-    ∷ example (pairWith 0 none) 1 (decode (pos 1 ∷ neg 2 ∷ pos 3 ∷ neg 4 ∷ []) lentPlan) (plan (accept 2) (0 ∷ 0 ∷ 7 ∷ 7 ∷ []))
+    ∷ example (pairWith 0 noGoal) 1 size (sized 22 7)
+    ∷ example (pairWith 0 noGoal) 1 (write (sevens 22)) (words (accept 0) (pos 1 ∷ pos 0 ∷ pairBehind))
+    ∷ example (pairWith 0 noGoal) 1 prunedSize (sized 24 8)
+    ∷ example (pairWith 0 noGoal) 1 (prune (sevens 24)) (words (accept 0) (pos 1 ∷ pos 0 ∷ pairBehind ++ neg 2 ∷ pos 0 ∷ []))
+    ∷ example (pairWith 0 noGoal) 1 (check (0 ∷ 0 ∷ [])) (answer (accept 0))
+    ∷ example (pairWith 0 noGoal) 1 (check (0 ∷ 1 ∷ [])) (answer (accept 1))
+    ∷ example (pairWith 0 noGoal) 1 (check (0 ∷ noGoal ∷ [])) (answer (refuse 17 1))
+    ∷ example (pairWith 0 noGoal) 1 (encode (0 ∷ 0 ∷ []) (sevens 4)) (valuation (accept 4) (pos 1 ∷ neg 2 ∷ pos 3 ∷ neg 4 ∷ []))
+    ∷ example (pairWith 0 noGoal) 1 (decode (pos 1 ∷ neg 2 ∷ pos 3 ∷ neg 4 ∷ []) lentPlan) (plan (accept 2) (0 ∷ 0 ∷ 7 ∷ 7 ∷ []))
     -- its start is asked as any other's: by 8, by 18, by A
-    ∷ example (pairWith none none) 1 size (unsized 8 6)
-    ∷ example (pairWith 0 none) 1 (check (1 ∷ 1 ∷ [])) (answer (refuse 18 0))
-    ∷ example (pairWith 0 none) 1 (decode (neg 1 ∷ pos 2 ∷ neg 3 ∷ pos 4 ∷ []) lentPlan) (plan (refuse 24 0) lentPlan)
-    -- 254 is a goal, and on no map; a goal twice is refused with a free agent between, but no goal may stand twice
+    ∷ example (pairWith noGoal noGoal) 1 size (unsized 8 6)
+    ∷ example (pairWith 0 noGoal) 1 (check (1 ∷ 1 ∷ [])) (answer (refuse 18 0))
+    ∷ example (pairWith 0 noGoal) 1 (decode (neg 1 ∷ pos 2 ∷ neg 3 ∷ pos 4 ∷ []) lentPlan) (plan (refuse 24 0) lentPlan)
+    -- 254 is a goal, and on no map; a goal twice is refused with a free agent between, but 255 may stand twice
     ∷ example (pairWith 0 254) 1 size (unsized 9 7)
-    ∷ example (pathThree 0 none 0) 1 size (unsized 9 13)
-    ∷ example (pathThree none none 0) 0 (check (0 ∷ 1 ∷ 2 ∷ [])) (answer (refuse 22 2))
+    ∷ example (pathThree 0 noGoal 0) 1 size (unsized 9 13)
+    ∷ example (pathThree noGoal noGoal 0) 0 (check (0 ∷ 1 ∷ 2 ∷ [])) (answer (refuse 22 2))
     -- agent 0 is free and agent 1 goes to 0: its clause of B is number 2, and C begins at 3
-    ∷ example (pairTwo none 0) 1 size (sized 70 23)
-    ∷ example (pairTwo none 0) 1 (write (sevens 70)) (words (accept 0) (pos 1 ∷ pos 0 ∷ pos 6 ∷ pos 0 ∷ pos 7 ∷ pos 0 ∷ exchangeBehind))
-    ∷ example (pairTwo none 0) 1 (clause 2 (sevens 2)) (words (accept 2) (pos 7 ∷ pos 0 ∷ []))
-    ∷ example (pairTwo none 0) 1 (clause 3 (sevens 3)) (words (accept 3) (pos 1 ∷ pos 2 ∷ pos 0 ∷ []))
-    ∷ example (pairTwo none 0) 1 (clause 23 (sevens 0)) (words (refuse 11 23) (sevens 0))
+    ∷ example (pairTwo noGoal 0) 1 size (sized 70 23)
+    ∷ example (pairTwo noGoal 0) 1 (write (sevens 70)) (words (accept 0) (pos 1 ∷ pos 0 ∷ pos 6 ∷ pos 0 ∷ pos 7 ∷ pos 0 ∷ exchangeBehind))
+    ∷ example (pairTwo noGoal 0) 1 (clause 2 (sevens 2)) (words (accept 2) (pos 7 ∷ pos 0 ∷ []))
+    ∷ example (pairTwo noGoal 0) 1 (clause 3 (sevens 3)) (words (accept 3) (pos 1 ∷ pos 2 ∷ pos 0 ∷ []))
+    ∷ example (pairTwo noGoal 0) 1 (clause 23 (sevens 0)) (words (refuse 11 23) (sevens 0))
     -- both stay: agent 1 is not at its goal
-    ∷ example (pairTwo none 0) 1 (check (0 ∷ 1 ∷ 0 ∷ 1 ∷ [])) (answer (refuse 22 3))
-    ∷ example (pairTwo none 0) 1 (decode (pos 1 ∷ neg 2 ∷ pos 3 ∷ neg 4 ∷ neg 5 ∷ pos 6 ∷ neg 7 ∷ pos 8 ∷ []) lentPlan) (plan (refuse 24 2) lentPlan)
+    ∷ example (pairTwo noGoal 0) 1 (check (0 ∷ 1 ∷ 0 ∷ 1 ∷ [])) (answer (refuse 22 3))
+    ∷ example (pairTwo noGoal 0) 1 (decode (pos 1 ∷ neg 2 ∷ pos 3 ∷ neg 4 ∷ neg 5 ∷ pos 6 ∷ neg 7 ∷ pos 8 ∷ []) lentPlan) (plan (refuse 24 2) lentPlan)
     -- with agent 1 free, or both, they may stay
-    ∷ example (pairTwo 0 none) 1 (check (0 ∷ 1 ∷ 0 ∷ 1 ∷ [])) (answer (accept 0))
-    ∷ example (pairTwo none none) 1 size (sized 68 22)
-    ∷ example (pairTwo none none) 1 (check (0 ∷ 1 ∷ 0 ∷ 1 ∷ [])) (answer (accept 0))
+    ∷ example (pairTwo 0 noGoal) 1 (check (0 ∷ 1 ∷ 0 ∷ 1 ∷ [])) (answer (accept 0))
+    ∷ example (pairTwo noGoal noGoal) 1 size (sized 68 22)
+    ∷ example (pairTwo noGoal noGoal) 1 (check (0 ∷ 1 ∷ 0 ∷ 1 ∷ [])) (answer (accept 0))
+    -- the free agent makes way: its cost counts; the valuation is the one that it has with a goal
+    ∷ example (pathTwo 0 1 1 noGoal) 2 (check (0 ∷ 1 ∷ 0 ∷ 2 ∷ 1 ∷ 2 ∷ [])) (answer (accept 3))
+    ∷ example (pathTwo 0 1 1 noGoal) 2 (encode (0 ∷ 1 ∷ 0 ∷ 2 ∷ 1 ∷ 2 ∷ []) (sevens 18)) (valuation (accept 18) waitThenFollow)
+    ∷ example (pathTwo 0 1 1 noGoal) 2 (decode waitThenFollow (replicate 6 7)) (plan (accept 6) (0 ∷ 1 ∷ 0 ∷ 2 ∷ 1 ∷ 2 ∷ []))
+    -- a free agent that is cut off: family H forbids vertex 1 at both times
+    ∷ example (cutOne 0 noGoal) 1 prunedSize (sized 24 9)
+    ∷ example (cutOne 0 noGoal) 1 (prune (sevens 24)) (words (accept 0) (pos 1 ∷ pos 0 ∷ cutBehind))
     -- floors: a free agent counts 0, and gives no 30 where it is cut off
-    ∷ example (pairTwo none none) 0 floor (answer (accept 0))
-    ∷ example (pathTwo 0 1 none 2) 0 floor (answer (accept 1))
-    ∷ example (cutOne 0 none) 0 floor (answer (accept 0))
-    ∷ example (cutTwo none 0) 0 floor (answer (refuse 30 9))
-    ∷ example (cutTwo 1 none) 0 floor (answer (accept 1))
+    ∷ example (pairTwo noGoal noGoal) 0 floor (answer (accept 0))
+    ∷ example (pathTwo 0 1 noGoal 2) 0 floor (answer (accept 1))
+    ∷ example (cutOne 0 noGoal) 0 floor (answer (accept 0))
+    ∷ example (cutTwo noGoal 0) 0 floor (answer (refuse 30 9))
+    ∷ example (cutTwo 1 noGoal) 0 floor (answer (accept 1))
     ∷ []
 
 -- every row's call gives what the row says is seen

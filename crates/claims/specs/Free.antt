@@ -1,5 +1,6 @@
 -- What is claimed of free agents, which have no goal, and of the goals there are: in question 9, in the formula, in 22 and in the floor.
--- That a plan passes where it leads to the goals there are is claimed in `Formula`, what family H and the floor make of them in `Distances`.
+-- That a plan passes where it leads to the goals there are is claimed in `Formula`, what family H and the floor make of them in
+-- `Distances`.
 use mathlib.Core.Path.{_≡_}
 use mathlib.Core.Logic.{_↔_, _≢_}
 use mathlib.Core.List.{List, [], _∷_, _++_}
@@ -7,10 +8,9 @@ use Prim.Native.Nat.{ℕ, _+_, _*_, _<_}
 use lib.ListN.{length, getD}
 use lib.Dec.{T}
 use Rattle.lists.specs.Loop.{for, when, each}
-use Rattle.answers.specs.declared.Answer.{Answer}
 use Rattle.answers.specs.Answers.{accept, clear}
 use Rattle.instance.specs.declared.Sizes.{Sizes}
-use Rattle.instance.specs.Instance.{Instance, noGoal, free, HasGoal, withGoal, goalCount, instance, vertices, agents, goalOf, adjacent}
+use Rattle.instance.specs.Instance.{Instance, free, HasGoal, withGoal, goalCount, AllBound, AllFree, NewGoals, instance, agents, goalOf, adjacent}
 use Rattle.instance.specs.Questions.{question9, instanceAnswer}
 use Rattle.formula.specs.Variables.{X}
 use Rattle.formula.specs.Formula.{B, C, D, E, F, G, clauses}
@@ -18,22 +18,11 @@ use Rattle.formula.specs.Counts.{clauseCount, wordCount}
 use Rattle.plan.specs.Plan.{planRow}
 use Rattle.calls.specs.Calls.{checkAnswer, encodeAnswer, floorAnswer}
 
--- of the instance bytes b
-module _ (b : List ℕ) where
-  -- each goal other than 255 is a vertex, and unlike the earlier goals other than 255
-  abbrev pub NewGoals : Type 0
-  NewGoals =
-      (a : ℕ) → a < agents b → HasGoal (goalOf b a)
-      → (goalOf b a < vertices b) × ((c : ℕ) → c < a → HasGoal (goalOf b c) → goalOf b c ≢ goalOf b a)
+-- the free agents of the bytes b
+abbrev pub freeAgents : List ℕ → List ℕ
+freeAgents b = for (agents b) λ a. when (free (goalOf b a)) (a ∷ [])
 
-  -- the free agents
-  abbrev pub freeAgents : List ℕ
-  freeAgents = for (agents b) λ a. when (free (goalOf b a)) (a ∷ [])
-
-  abbrev pub AllFree : Type 0
-  AllFree = (a : ℕ) → a < agents b → goalOf b a ≡ noGoal
-
--- and of the horizon m
+-- for the instance bytes b and the horizon m
 module _ (b : List ℕ) (m : ℕ) where
   abbrev I : Instance
   I = instance b m
@@ -42,8 +31,8 @@ module _ (b : List ℕ) (m : ℕ) where
   open Sizes sizes using (n, k, e, g)
 
   -- the sizes, if every agent had a goal
-  abbrev pub bound : Sizes
-  bound = record { n = n; k = k; e = e; m = m; g = k }
+  abbrev pub allWithGoal : Sizes
+  allWithGoal = record { n = n; k = k; e = e; m = m; g = k }
 
   pub record InFormula : Type 0 where
     -- B has a clause for each agent that has a goal, in their order
@@ -54,8 +43,8 @@ module _ (b : List ℕ) (m : ℕ) where
     pub behindB : (i : ℕ) → getD (clauses I) (k + g + i) [] ≡ getD (C sizes ++ D sizes ++ E sizes ++ F sizes (adjacent I) ++ G sizes) i []
     -- one clause and two words fewer for each free agent
     pub others : g + length (freeAgents b) ≡ k
-    pub fewerClauses : clauseCount sizes + length (freeAgents b) ≡ clauseCount bound
-    pub fewerWords : wordCount sizes + 2 * length (freeAgents b) ≡ wordCount bound
+    pub fewerClauses : clauseCount sizes + length (freeAgents b) ≡ clauseCount allWithGoal
+    pub fewerWords : wordCount sizes + 2 * length (freeAgents b) ≡ wordCount allWithGoal
 
   -- agent a has a goal and is not at it in row m, each lower agent that has a goal is at its own, and the place is that of a in row m
   pub record OffGoal (p : List ℕ) (place : ℕ) : Type 0 where
@@ -65,6 +54,11 @@ module _ (b : List ℕ) (m : ℕ) where
     pub off : planRow sizes p m a ≢ goal a
     pub lower : (c : ℕ) → c < a → HasGoal (goal c) → planRow sizes p m c ≡ goal c
     pub at : place ≡ m * k + a
+
+  -- where every agent has a goal, all is as if there were no free agents
+  pub record Bound : Type 0 where
+    pub all : g ≡ k
+    pub wholeB : B sizes goal ≡ for k λ a. (X sizes m a (goal a) ∷ []) ∷ []
 
   -- where all agents are free
   pub record Idle : Type 0 where
@@ -79,4 +73,5 @@ pub record Claim : Type 0 where
   pub formula : (b : List ℕ) (m : ℕ) → InFormula b m
   pub check : (b : List ℕ) (m : ℕ) (p : List ℕ) → checkAnswer b m p .number ≡ 22 → OffGoal b m p (checkAnswer b m p .second)
   pub encode : (b : List ℕ) (m : ℕ) (p : List ℕ) (room : ℕ) → encodeAnswer b m p room .number ≡ 22 → OffGoal b m p (encodeAnswer b m p room .second)
-  pub allFree : (b : List ℕ) (m : ℕ) → AllFree b → Idle b m
+  pub allBound : (b : List ℕ) (m : ℕ) → AllBound (instance b m) → Bound b m
+  pub allFree : (b : List ℕ) (m : ℕ) → AllFree (instance b m) → Idle b m

@@ -1,13 +1,13 @@
 -- What is claimed of the pairs that families D and E go by: how many begin below a vertex or an agent, and where each stands.
 use mathlib.Core.Path.{_≡_}
 use mathlib.Core.Logic.{_↔_}
-use mathlib.Core.List.{List, [], _∷_}
+use mathlib.Core.List.{[], _∷_}
 use Prim.Native.Nat.{ℕ, _+_, _*_, _-_, _/_, _≤_, _<_}
 use lib.ListN.{length, getD}
 use Rattle.lists.specs.Loop.{each, pairs}
 use Rattle.lists.specs.Pairs.{pairList, pairsBelow}
 use Rattle.instance.specs.declared.Sizes.{Sizes}
-use Rattle.instance.specs.Instance.{Instance, instance}
+use Rattle.instance.specs.Instance.{Instance, Counted}
 use Rattle.formula.specs.Variables as variables
 use Rattle.formula.specs.Variables.{Literal}
 use Rattle.formula.specs.Formula.{blockD, blockE, clauses}
@@ -24,13 +24,10 @@ pub record Items (n : ℕ) : Type 0 where
   -- the pair at place p begins with the greatest item whose count is not above p
   pub greatest : (p v : ℕ) → p < pairs n → v < n → (pairsBelow n v ≤ p) ↔ (v ≤ getD (pairList n) p (0, 0) .0)
 
--- vertices in family D, and agents in family E, of the instance bytes b and the horizon m
-module _ (b : List ℕ) (m : ℕ) where
-  abbrev I : Instance
-  I = instance b m
-
+-- vertices in family D, and agents in family E
+module _ (I : Instance) where
   open Instance I using (sizes)
-  open Sizes sizes using (n, k)
+  open Sizes sizes using (n, k, m)
 
   abbrev ¬X : ℕ → ℕ → ℕ → Literal
   ¬X = variables.¬X sizes
@@ -47,7 +44,7 @@ module _ (b : List ℕ) (m : ℕ) where
         → getD (clauses I) (clausesBy sizes .A + clausesBy sizes .B + clausesBy sizes .C + clausesBy sizes .D + ((t * n + v) * pairs k + (pairsBelow k a + (b - a - 1)))) []
         ≡ ¬X t a v ∷ ¬X t b v ∷ []
 
--- for every number of items, so for the vertices and for the agents of every accepted instance
+-- for every number of items, and every instance whose g is the number of agents that have a goal; so for every accepted instance
 pub record Claim : Type 0 where
   pub items : (n : ℕ) → Items n
-  pub families : (b : List ℕ) (m : ℕ) → Families b m
+  pub families : (I : Instance) → Counted I → Families I

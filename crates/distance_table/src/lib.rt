@@ -1,13 +1,12 @@
 // The table of distances, filled breadth first from the words of neighbours: from each vertex a round for each distance, whose frontier,
 // the vertices at that distance, is a word.
 ghost use mathlib.Core.Path.{_≡_};
-ghost use mathlib.Core.List.{[]};
 ghost use mathlib.Core.Bool.{_&&_, cond};
 ghost use Prim.Native.Nat.{ℕ, _^_, _≤_, _<_};
 ghost use lib.ListN.{length, getD, replicate};
 ghost use Rattle.lists.specs.Loop.{some};
 ghost use Rattle.bits.specs.Bits.{set?};
-ghost use Rattle.instance.specs.Instance.{HasGoal, joined};
+ghost use Rattle.instance.specs.Instance.{GoalBelow, joined};
 ghost use Rattle.distances.specs.Table.{RowOf, TableOf, startRow, goalRow};
 
 // Gives each vertex of the frontier the distance d. The answer is the word of all their neighbours.
@@ -78,7 +77,7 @@ pub fn start_row(table: &[[u8; 64]], starts: &[u8; 16], a: usize) -> [u8; 64]
 
 // Of its goal; zeros where it is free.
 pub fn goal_row(table: &[[u8; 64]], goals: &[u8; 16], a: usize) -> [u8; 64]
-    requires { ⌜ (a < 16) × (HasGoal (getD (now goals) a 0) → getD (now goals) a 0 < length (now table)) ⌝ }
+    requires { ⌜ (a < 16) × GoalBelow (length (now table)) (getD (now goals) a 0) ⌝ }
     ensures { λ r. ⌜ r ≡ goalRow (now (table .entry)) (now (goals .entry)) a ⌝ }
 {
     if goals::is_free(goals[a]) {

@@ -17,7 +17,7 @@ reachable d = not (eqb d unreachable)
 abbrev pub further : ℕ → ℕ → Bool
 further t d = eqb d unreachable || ltb t d
 
--- what is measured to or from this goal: d, and 0 where it is none
+-- the distance d to or from this goal, 0 where the agent is free
 abbrev pub toGoal : ℕ → ℕ → ℕ
 toGoal goal d = cond (free goal) 0 d
 

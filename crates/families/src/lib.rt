@@ -14,7 +14,7 @@ ghost use Rattle.lists.specs.Slice.{Wrote};
 ghost use Rattle.formula.specs.Variables.{X, highest};
 ghost use Rattle.formula.specs.Formula.{line, noTwo, blockB, blockD, blockE, blockF, blockG};
 ghost use Rattle.formula.specs.Blocks.{times, blocksAt, heldIn, block, family};
-ghost use Rattle.instance.specs.Instance.{HasGoal, joined};
+ghost use Rattle.instance.specs.Instance.{GoalBelow, joined};
 ghost use Rattle.instance.specs.Limits.{Limits};
 ghost use Rattle.instance.specs.Ready.{Ready};
 ghost use Rattle.families.specs.Runs.{nots, above, apart};
@@ -47,7 +47,7 @@ fn write_unit(f: &mut [i32], s: Sizes, t: Step, row: &[u8; 16], a: Agent) -> usi
 // B, of agent a: at time m it is at its goal, if it has one.
 fn write_goal(f: &mut [i32], s: Sizes, goals: &[u8; 16], a: Agent) -> usize
     requires { ⌜ Limits s ⌝ }
-    requires { ⌜ (a .0 < s .k) × (HasGoal (getD (now goals) (a .0) 0) → getD (now goals) (a .0) 0 < s .n) ⌝ }
+    requires { ⌜ (a .0 < s .k) × GoalBelow (s .n) (getD (now goals) (a .0) 0) ⌝ }
     requires { ⌜ length (each line (blockB s (λ i. getD (now goals) i 0) (a .0))) ≤ length (now f) ⌝ }
     ensures { λ r. ⌜ Wrote (each line (blockB s (λ i. getD (now (goals .entry)) i 0) (a .0))) (now (f .entry)) (now (f .exit)) r ⌝ }
 {

@@ -3,13 +3,13 @@ use answers::Answer;
 ghost use mathlib.Core.Path.{_≡_};
 ghost use Prim.Native.Nat.{ℕ, _≤_, _<_, max};
 ghost use lib.ListN.{length, getD};
-ghost use Rattle.instance.specs.Instance.{HasGoal};
+ghost use Rattle.instance.specs.Instance.{GoalBelow};
 ghost use Rattle.calls.specs.Calls.{floorAnswer};
 ghost use Rattle.floor.specs.Measured.{measured, between};
 
 // From the start of agent a to its goal, 0 where it is free.
 fn distance_of(table: &[[u8; 64]], starts: &[u8; 16], goals: &[u8; 16], a: usize) -> usize
-    requires { ⌜ (a < 16) × (length (now table) ≡ 64) × (getD (now starts) a 0 < 64) × (HasGoal (getD (now goals) a 0) → getD (now goals) a 0 < 64) ⌝ }
+    requires { ⌜ (a < 16) × (length (now table) ≡ 64) × (getD (now starts) a 0 < 64) × GoalBelow 64 (getD (now goals) a 0) ⌝ }
     ensures { λ r. ⌜ (r ≡ between (now (starts .entry)) (now (goals .entry)) (now (table .entry)) a) × (r < 256) ⌝ }
 {
     let goal = goals[a];
@@ -39,7 +39,7 @@ fn measure(
     place: usize,
 ) -> Answer
     requires { ⌜ (k ≤ 16) × (place ≤ 65535) × (length (now table) ≡ 64) ⌝ }
-    requires { ⌜ ((a : ℕ) → a < k → (getD (now starts) a 0 < 64) × (HasGoal (getD (now goals) a 0) → getD (now goals) a 0 < 64)) ⌝ }
+    requires { ⌜ ((a : ℕ) → a < k → (getD (now starts) a 0 < 64) × GoalBelow 64 (getD (now goals) a 0)) ⌝ }
     ensures { λ r. ⌜ r ≡ measured k (between (now (starts .entry)) (now (goals .entry)) (now (table .entry))) place ⌝ }
 {
     let mut most: usize = 0;

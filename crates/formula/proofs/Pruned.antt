@@ -1,5 +1,5 @@
 -- The counts of the pruned formula are the lengths of its lists.
-use mathlib.Core.Path.{_≡_, refl, sym, _∙_, ap, ap₂}
+use mathlib.Core.Path.{_≡_, sym, _∙_, ap, ap₂}
 use mathlib.Core.Logic.{_↔_, _⊎_, inl, inr, ⊎-elim, by-cases}
 use mathlib.Core.List.{[], _∷_}
 use mathlib.Core.Bool.{Bool, _||_}

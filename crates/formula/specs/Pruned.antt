@@ -35,7 +35,7 @@ module _ (s : Sizes) where
 module _ (I : Instance) where
   open Instance I using (sizes, start, goal)
 
-  -- the distance of v from the start of agent a, and from its goal; 0 of a free agent, which is further than no time
+  -- the distance of v from the start of agent a, and from its goal; for a free agent 0, which is not further than any time
   abbrev pub fromStart : ℕ → ℕ → ℕ
   fromStart a v = distance I (start a) v
 

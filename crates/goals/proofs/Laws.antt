@@ -1,9 +1,9 @@
 -- What the test of a goal byte says of the next agent.
-use mathlib.Core.Path.{_≡_, _∙_, ap}
+use mathlib.Core.Path.{_≡_, ap}
 use mathlib.Core.Bool.{Bool, true, false, not}
-use Prim.Native.Nat.{ℕ, suc, _+_}
+use Prim.Native.Nat.{ℕ, _+_}
 use native.Mathlib.Numerals.{add-one}
-use borrow.Author.Tests.{not-true, not-false}
+use borrow.Author.Tests.{not-false}
 use Rattle.answers.proofs.Faults.{holds}
 use Rattle.instance.specs.Instance.{free, HasGoal, goalCount}
 use Rattle.instance.proofs.Goals.{has-goal, goal-count-has, goal-count-free}

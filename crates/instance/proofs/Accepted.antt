@@ -9,7 +9,7 @@ use Rattle.lists.specs.Slice.{filled}
 use Rattle.answers.proofs.Laws.{byNumber-accepted}
 use Rattle.instance.specs.declared.Sizes.{Sizes}
 use Rattle.instance.specs.declared.Checked.{Checked}
-use Rattle.instance.specs.Instance.{Instance, HasGoal, goalCount, instance, checked, unchecked, forAgents, vertices, agents, edges, starts, goals, adjacent, neighbourWords, joined, Edges, Endpoints, Counted}
+use Rattle.instance.specs.Instance.{Instance, GoalBelow, goalCount, instance, checked, unchecked, forAgents, vertices, agents, edges, starts, goals, adjacent, neighbourWords, joined, Edges, Endpoints, Counted}
 use Rattle.instance.specs.Limits.{Limits}
 use Rattle.instance.specs.Ready.{Ready}
 use Rattle.instance.specs.Shows.{Shows}
@@ -113,7 +113,7 @@ module _ (b : List ℕ) (c : Checked) (w : Accepted b c) where
   starts-inside a l =
       rw (start-at a l, sizes-same) (endpoints-known .startsInside a (subst (λ (s : Sizes). a < s .k) sizes-same l))
 
-  goals-inside : (a : ℕ) → a < c .sizes .k → HasGoal (getD (c .goals) a 0) → getD (c .goals) a 0 < c .sizes .n
+  goals-inside : (a : ℕ) → a < c .sizes .k → GoalBelow (c .sizes .n) (getD (c .goals) a 0)
   unfolding instance
   goals-inside a l =
       rw (goal-at a l, sizes-same) (endpoints-known .goalsInside a (subst (λ (s : Sizes). a < s .k) sizes-same l))

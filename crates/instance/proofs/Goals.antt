@@ -3,13 +3,13 @@ use mathlib.Core.Path.{_≡_, sym, _∙_, ap}
 use mathlib.Core.Logic.{_↔_, _⊎_, inl, inr, ⊎-elim, by-cases}
 use mathlib.Core.List.{[], _∷_}
 use mathlib.Core.Bool.{Bool, true, false, not, _&&_, _||_}
-use Prim.Native.Nat.{ℕ, zero, suc, _+_, _≤_, _<_}
+use Prim.Native.Nat.{ℕ, zero, suc, _≤_, _<_}
 use native.Mathlib.Nat.{le-refl}
 use native.Mathlib.Decide.{ℕ-discrete}
 use native.Mathlib.Omega.{arith}
 use borrow.Author.Tests.{not-true, not-false}
 use lib.ListN.{length}
-use lib.Dec.{T, eqb}
+use lib.Dec.{T}
 use Rattle.lists.specs.Loop.{for, when, sum}
 use Rattle.lists.proofs.Tests.{below-zero, below-suc, and-iff, or-iff, or-imp, not-iff, eqb-iff}
 use Rattle.lists.proofs.Loops.{for-ext}

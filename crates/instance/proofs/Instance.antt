@@ -2,7 +2,7 @@
 use mathlib.Core.Path.{_≡_, refl, sym, _∙_, ap}
 use mathlib.Core.Logic.{_↔_, _≢_, inl, inr, ⊎-elim}
 use mathlib.Core.List.{List, _++_}
-use Prim.Native.Nat.{ℕ, suc, _+_, _*_, _-_, _≤_}
+use Prim.Native.Nat.{ℕ, suc, _+_, _*_, _-_, _≤_, _<_}
 use native.Mathlib.Nat.{mul-le-mul}
 use native.Mathlib.Omega.{arith}
 use lib.ListN.{length}
@@ -12,10 +12,18 @@ use Rattle.lists.proofs.Tests.{and-iff, or-iff, or-imp, not-iff, eqb-iff, ltb-i
 use Rattle.answers.specs.declared.Answer.{Answer}
 use Rattle.answers.specs.Answers.{Question, decide, clear}
 use Rattle.answers.proofs.Laws.{numbered, clear-iff, each-all, each-nil, decide-iff, decide-after, decide-refused, ask-nil, ask-all}
-use Rattle.instance.specs.Instance.{instance, vertices, agents, edges, lowEnd, goalOf, Edges, Endpoints, Counted}
+use Rattle.instance.specs.Instance.{NewGoals, instance, vertices, agents, edges, lowEnd, startOf, goalOf, Edges, Endpoints, Counted}
 use Rattle.instance.specs.Limits.{Limits}
-use Rattle.instance.specs.Questions.{instanceQuestions, instanceAnswer}
+use Rattle.instance.specs.Questions.{question9, instanceQuestions, instanceAnswer}
 use Rattle.instance.proofs.Goals.{goal-count-most}
+
+-- question 9 is answered yes exactly where each goal there is is a vertex, and unlike the earlier ones there are
+pub goals-new : (b : List ℕ) → T (clear (question9 b)) ↔ NewGoals b
+goals-new b =
+    simp (clear-iff, each-nil, or-imp, and-iff, not-iff, eqb-iff, ltb-iff, every-iff) (
+      (λ h a l g. let (x, y) = h a l g in (x, λ c o f. y c o)),
+      (λ h a l g. let (x, y) = h a l g in (x, λ c o e. y c o (λ z. g (sym e ∙ z)) e)),
+    )
 
 module _ (b : List ℕ) (m : ℕ) where
   pub numbered-instance : T (all numbered (instanceQuestions b m))
@@ -49,9 +57,10 @@ module _ (b : List ℕ) (m : ℕ) where
     unfolding instanceQuestions instance
     endpoints =
         let h = simp (and-iff, or-imp, clear-iff, each-nil, ask-nil, every-iff, not-iff, eqb-iff, ltb-iff) at ok in
+        let starts : (a : ℕ) → a < agents b → (startOf b a < vertices b) × ((c : ℕ) → c < a → startOf b c ≢ startOf b a) = h .1 .1 .1 .1 .1 .1 .1 .0 in
         record {
-          startsInside = λ a l. h .1 .1 .1 .1 .1 .1 .1 .0 a l .0;
-          startsApart = λ a l. h .1 .1 .1 .1 .1 .1 .1 .0 a l .1;
+          startsInside = λ a l. starts a l .0;
+          startsApart = λ a l. starts a l .1;
           goalsInside = λ a l g. h .1 .1 .1 .1 .1 .1 .1 .1 .0 a l g .0;
         }
 

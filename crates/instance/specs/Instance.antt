@@ -16,12 +16,16 @@ use Rattle.instance.specs.declared.Checked.{Checked}
 abbrev pub noGoal : ℕ
 noGoal = 255
 
--- an agent with this goal byte is free, and as a proposition that it has a goal
+-- an agent with this goal byte is free, as a test; it has a goal, as a proposition
 abbrev pub free : ℕ → Bool
 free goal = eqb goal noGoal
 
 abbrev pub HasGoal : ℕ → Type 0
 HasGoal goal = goal ≢ noGoal
+
+-- where it has one, its goal is below n
+abbrev pub GoalBelow : ℕ → ℕ → Type 0
+GoalBelow n goal = HasGoal goal → goal < n
 
 -- the agents that have a goal, of k with these goal bytes, in their order; and how many they are
 abbrev pub withGoal : ℕ → (ℕ → ℕ) → List ℕ
@@ -30,7 +34,8 @@ withGoal k goal = for k λ a. when (not (free (goal a))) (a ∷ [])
 unfoldable pub goalCount : ℕ → (ℕ → ℕ) → ℕ
 goalCount k goal = length (withGoal k goal)
 
--- The sizes n, k, e, the horizon m, and the number g of agents that have a goal; the low and the high end of edge j; the start and the goal of agent a.
+-- The sizes n, k, e, the horizon m, and the number g of agents that have a goal; the low and the high end of edge j; the start and the
+-- goal of agent a.
 pub record Instance : Type 0 where
   pub sizes : Sizes
   pub low : ℕ → ℕ
@@ -74,6 +79,11 @@ module _ (b : List ℕ) where
 
   abbrev pub goalOf : ℕ → ℕ
   goalOf a = getD b (goals + a) 0
+
+  -- each goal there is is a vertex, and unlike the earlier ones there are
+  abbrev pub NewGoals : Type 0
+  NewGoals =
+      (a : ℕ) → a < agents → HasGoal (goalOf a) → (goalOf a < vertices) × ((c : ℕ) → c < a → HasGoal (goalOf c) → goalOf c ≢ goalOf a)
 
   -- the instance that the bytes hold, with the horizon m given beside them
   unfoldable pub instance : ℕ → Instance
@@ -122,7 +132,14 @@ module _ (I : Instance) where
   pub record Endpoints : Type 0 where
     pub startsInside : (a : ℕ) → a < k → start a < n
     pub startsApart : (a : ℕ) → a < k → (b : ℕ) → b < a → start b ≢ start a
-    pub goalsInside : (a : ℕ) → a < k → HasGoal (goal a) → goal a < n
+    pub goalsInside : (a : ℕ) → a < k → GoalBelow n (goal a)
+
+  -- every agent has a goal; none has one
+  abbrev pub AllBound : Type 0
+  AllBound = (a : ℕ) → a < k → HasGoal (goal a)
+
+  abbrev pub AllFree : Type 0
+  AllFree = (a : ℕ) → a < k → goal a ≡ noGoal
 
   -- g is the number of the agents that have a goal
   abbrev pub Counted : Type 0

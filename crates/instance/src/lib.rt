@@ -9,8 +9,8 @@ pub struct Sizes {
     pub g: usize,
 }
 
-// The checked instance. Starts and goals are in arrays for 16 agents, 0 beyond agent k - 1; the goal of a free agent is 255. The neighbours are words, one for each of
-// 64 vertices: bit w of word v is set where w is a neighbour of v.
+// The checked instance. Starts and goals are in arrays for 16 agents, 0 beyond agent k - 1; the goal of a free agent is 255. The
+// neighbours are words, one for each of 64 vertices: bit w of word v is set where w is a neighbour of v.
 pub struct Checked {
     pub sizes: Sizes,
     pub starts: [u8; 16],

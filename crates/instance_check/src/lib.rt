@@ -156,8 +156,8 @@ fn refuse_edge(b: &[u8], e: usize) -> Answer
     refuse(7, 5 + i)
 }
 
-// The first of k bytes, from an offset on, that is no vertex or like an earlier one, or k. Those of goals may also say that there is
-// none.
+// The first of k bytes, from an offset on, that is no vertex or like an earlier one, or k. Where `optional`, as for goals, 255 is passed
+// over.
 fn vertex_fault(b: &[u8], offset: usize, k: usize, optional: bool) -> usize
     requires { ⌜ (offset + k ≤ length (now b)) × (0 < length (now b)) × (k ≡ agents (now b)) × (vertices (now b) ≤ 64) ⌝ }
     ensures { λ r. ⌜ FirstFault (agents (now (b .entry))) (λ a. (optional && free (getD (now (b .entry)) (offset + a) 0)) || newVertex (now (b .entry)) (λ c. getD (now (b .entry)) (offset + c) 0) a) r ⌝ }

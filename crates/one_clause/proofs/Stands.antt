@@ -1,7 +1,7 @@
 -- From a clause's number to its family, to the block in it and to the place in the block.
 use mathlib.Core.Path.{_≡_, refl, sym, _∙_, ap, ap₂, subst}
 use mathlib.Core.Logic.{_≢_, by-cases}
-use mathlib.Core.List.{List, [], _∷_}
+use mathlib.Core.List.{List, []}
 use Prim.Native.Nat.{ℕ, zero, suc, _+_, _*_, _-_, _/_, _%_, _<_}
 use native.Mathlib.Nat.{mul-one, mul-assoc, div-add-mod'}
 use native.Mathlib.Decide.{ℕ-discrete}

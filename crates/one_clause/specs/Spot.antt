@@ -12,7 +12,7 @@ use Rattle.instance.specs.Instance.{HasGoal, goalCount}
 use Rattle.formula.specs.Formula.{Clause, line}
 use Rattle.formula.specs.Counts.{clausesBy}
 
--- How many clauses a family has, by its number, A 0 to G 6, and how many each of its blocks has; in B that of a free agent has none.
+-- How many clauses a family has, by its number, A 0 to G 6, and how many slots each of its blocks has (below).
 module _ (s : Sizes) where
   open Sizes s using (n, k)
 
@@ -25,7 +25,7 @@ module _ (s : Sizes) where
   abbrev pub countEach : ℕ → ℕ
   countEach j = getD (1 ∷ 1 ∷ 1 ∷ pairs n ∷ pairs k ∷ n ∷ (k - 1) * n ∷ []) j 0
 
--- clause number c stands at this place of the family with number j, whose blocks have `each` clauses
+-- clause number c stands at this place of the family with number j, whose blocks have `each` slots
 pub record Stands (s : Sizes) (c j each place : ℕ) : Type 0 where
   pub seven : j < 7
   pub blocks : each ≡ countEach s j

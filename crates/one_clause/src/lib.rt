@@ -20,7 +20,7 @@ ghost use Rattle.formula.specs.Counts.{clausesBy, total, clauseCount};
 ghost use Rattle.calls.specs.Calls.{clauseAnswer, clauseSlice};
 ghost use Rattle.one_clause.specs.Spot.{count, countEach, Stands, Slot, PairAt, lineAt};
 
-// A family's number, A 0 to G 6; how many clauses each of its blocks has; a place in the family.
+// A family's number, A 0 to G 6; how many slots each of its blocks has; a place in the family.
 pub struct Spot(pub usize, pub usize, pub usize);
 
 pub struct Pair {

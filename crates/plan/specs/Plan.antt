@@ -6,6 +6,7 @@ use lib.ListN.{length, getD}
 use lib.Dec.{ltb, eqb}
 use Rattle.lists.specs.Loop.{every, first, sum, unlikeEarlier}
 use Rattle.instance.specs.declared.Sizes.{Sizes}
+use Rattle.instance.specs.Instance.{free}
 
 -- a row: the vertex of each agent at one time
 abbrev pub Row : Type 0
@@ -67,6 +68,10 @@ unfoldable pub occupantLeaves : Sizes → Row → Row → ℕ → Leaving
 occupantLeaves s here next a =
     let b = occupant s here next a in
     cond (keeps here next b) stays (cond (eqb (next b) (here a)) exchanges movesOn)
+
+-- at its goal in this row, or free
+abbrev pub atGoal : (ℕ → ℕ) → Row → ℕ → Bool
+atGoal goal row a = free (goal a) || eqb (row a) (goal a)
 
 -- the number of steps of a plan: they lie between its rows of k bytes
 abbrev pub makespan : ℕ → List ℕ → ℕ

@@ -106,14 +106,14 @@ fn byte_fault(p: &[u8], n: usize) -> usize
     p.len()
 }
 
-// The first agent whose byte of a row is not that of the array, or k. Where the array is that of the goals, free agents are passed over.
+// The first agent whose byte of a row is not that of the array, or k. Where `optional`, as for goals, free agents are passed over.
 fn row_fault(p: &[u8], row: usize, k: usize, wanted: &[u8; 16], optional: bool) -> usize
     requires { ⌜ (row + k ≤ length (now p)) × (k ≤ 16) ⌝ }
     ensures { λ r. ⌜ FirstFault k (λ a. (optional && free (getD (now (wanted .entry)) a 0)) || eqb (getD (now (p .entry)) (row + a) 0) (getD (now (wanted .entry)) a 0)) r ⌝ }
 {
     for a in 0..k {
         let w = wanted[a];
-        if !(optional & goals::is_free(w) | (p[row + a] == w)) {
+        if !((optional & goals::is_free(w)) | (p[row + a] == w)) {
             return a;
         }
     }

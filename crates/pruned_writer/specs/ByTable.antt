@@ -4,7 +4,7 @@ use Prim.Native.Nat.{ℕ, _<_}
 use lib.ListN.{getD}
 use Rattle.lists.specs.Loop.{for}
 use Rattle.instance.specs.declared.Sizes.{Sizes}
-use Rattle.instance.specs.Instance.{HasGoal}
+use Rattle.instance.specs.Instance.{GoalBelow}
 use Rattle.formula.specs.Formula.{Clause}
 use Rattle.formula.specs.Pruned.{blockH, H}
 use Rattle.distances.specs.Table.{startBy, goalBy}
@@ -20,4 +20,4 @@ module _ (s : Sizes) (table : List (List ℕ)) (starts goals : List ℕ) where
 
 -- each agent has a start below n, and a goal below n or none
 abbrev pub Inside : Sizes → List ℕ → List ℕ → Type 0
-Inside s starts goals = (a : ℕ) → a < s .k → (getD starts a 0 < s .n) × (HasGoal (getD goals a 0) → getD goals a 0 < s .n)
+Inside s starts goals = (a : ℕ) → a < s .k → (getD starts a 0 < s .n) × GoalBelow (s .n) (getD goals a 0)

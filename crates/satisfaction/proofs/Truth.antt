@@ -33,7 +33,7 @@ use Rattle.valuation.specs.Places.{Places}
 use Rattle.formula.proofs.Variables.{run-fits, vertices-run}
 use Rattle.valuation.proofs.Entries.{true-no}
 use Rattle.satisfaction.specs.Rows.{Fault, Stop, says, denies, Seen, Read, Lowest}
-use Rattle.satisfaction.proofs.Entries.{right-says, skip-le, read-true, right-at, denied-or-true}
+use Rattle.satisfaction.proofs.Entries.{right-says, skip-le, read-true, right-at}
 use Rattle.satisfaction.proofs.Steps.{keeps-or, Enters}
 use Rattle.satisfaction.proofs.Laws.{blocks-stop, blocks-pass, fault-all, for-stop, singles, pairs-pass, pairs-two}
 

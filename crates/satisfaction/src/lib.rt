@@ -162,8 +162,8 @@ pub fn read_entries(vertices: &mut [u8], entries: &[i32], s: Sizes) -> usize
     base
 }
 
-// Families A and B: the first agent that is not at its vertex of the array at time t, or k. Where the array is that of the goals, free
-// agents are passed over.
+// Families A and B: the first agent that is not at its vertex of the array at time t, or k. Where `optional`, as for goals, free agents
+// are passed over.
 fn unit_fault(entries: &[i32], s: Sizes, t: usize, ends: &[u8; 16], optional: bool) -> usize
     requires { ⌜ Limits s ⌝ }
     requires { ⌜ Valuation (variableCount s) (now entries) ⌝ }

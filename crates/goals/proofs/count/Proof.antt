@@ -6,7 +6,6 @@ use native.Mathlib.Omega.{arith}
 use borrow.Author.Needs.{needs}
 use lib.ListN.{getD}
 use Rattle.instance.specs.Instance.{goalCount}
-use Rattle.instance.proofs.Goals.{goal-count-most}
 use Rattle.goals.proofs.Laws.{next-has, next-free}
 use Rattle.goals.proofs.count.Statement.{statement}
 use Rattle.goals.proofs.count.Tie as tie

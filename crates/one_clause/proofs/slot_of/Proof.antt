@@ -1,8 +1,7 @@
 -- `one_clause::slot_of` meets its contract. Assumes nothing.
-use mathlib.Core.Path.{_≡_, refl, sym, _∙_}
+use mathlib.Core.Path.{refl}
 use Prim.Native.Nat.{_<_}
 use native.Mathlib.Omega.{arith}
-use borrow.Author.Needs.{needs}
 use Rattle.one_clause.specs.Spot.{count}
 use Rattle.one_clause.proofs.slot_of.Statement.{statement}
 use Rattle.one_clause.proofs.slot_of.Tie as tie
