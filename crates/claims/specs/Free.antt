@@ -55,7 +55,7 @@ module _ (b : List ℕ) (m : ℕ) where
     pub lower : (c : ℕ) → c < a → HasGoal (goal c) → planRow sizes p m c ≡ goal c
     pub at : place ≡ m * k + a
 
-  -- where every agent has a goal, all is as if there were no free agents
+  -- where every agent has a goal, B has a clause for each
   pub record Bound : Type 0 where
     pub all : g ≡ k
     pub wholeB : B sizes goal ≡ for k λ a. (X sizes m a (goal a) ∷ []) ∷ []

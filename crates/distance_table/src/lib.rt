@@ -1,13 +1,14 @@
 // The table of distances, filled breadth first from the words of neighbours: from each vertex a round for each distance, whose frontier,
 // the vertices at that distance, is a word.
 ghost use mathlib.Core.Path.{_≡_};
+ghost use mathlib.Core.List.{[]};
 ghost use mathlib.Core.Bool.{_&&_, cond};
 ghost use Prim.Native.Nat.{ℕ, _^_, _≤_, _<_};
 ghost use lib.ListN.{length, getD, replicate};
 ghost use Rattle.lists.specs.Loop.{some};
 ghost use Rattle.bits.specs.Bits.{set?};
 ghost use Rattle.instance.specs.Instance.{GoalBelow, joined};
-ghost use Rattle.distances.specs.Table.{RowOf, TableOf, startRow, goalRow};
+ghost use Rattle.distances.specs.Table.{RowOf, TableOf, goalRow};
 
 // Gives each vertex of the frontier the distance d. The answer is the word of all their neighbours.
 fn spread(row: &mut [u8], near: &[u64; 64], frontier: u64, d: u8) -> u64
@@ -66,16 +67,16 @@ pub fn table_of(near: &[u64; 64], n: usize) -> [[u8; 64]; 64]
     table
 }
 
-// The row of agent a: of its start.
-pub fn start_row(table: &[[u8; 64]], starts: &[u8; 16], a: usize) -> [u8; 64]
-    requires { ⌜ (a < 16) × (getD (now starts) a 0 < length (now table)) ⌝ }
-    ensures { λ r. ⌜ r ≡ startRow (now (table .entry)) (now (starts .entry)) a ⌝ }
+// The row of agent a: of the vertex that it has in an array of starts or goals.
+pub fn row_for(table: &[[u8; 64]], vertices: &[u8; 16], a: usize) -> [u8; 64]
+    requires { ⌜ (a < 16) × (getD (now vertices) a 0 < length (now table)) ⌝ }
+    ensures { λ r. ⌜ r ≡ getD (now (table .entry)) (getD (now (vertices .entry)) a 0) [] ⌝ }
 {
-    let v = numbers::wide(starts[a]);
+    let v = numbers::wide(vertices[a]);
     table[v]
 }
 
-// Of its goal; zeros where it is free.
+// That of its goal; zeros where it is free.
 pub fn goal_row(table: &[[u8; 64]], goals: &[u8; 16], a: usize) -> [u8; 64]
     requires { ⌜ (a < 16) × GoalBelow (length (now table)) (getD (now goals) a 0) ⌝ }
     ensures { λ r. ⌜ r ≡ goalRow (now (table .entry)) (now (goals .entry)) a ⌝ }
@@ -83,5 +84,5 @@ pub fn goal_row(table: &[[u8; 64]], goals: &[u8; 16], a: usize) -> [u8; 64]
     if goals::is_free(goals[a]) {
         return [0u8; 64];
     }
-    start_row(table, goals, a)
+    row_for(table, goals, a)
 }

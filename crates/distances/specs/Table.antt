@@ -19,17 +19,13 @@ RowOf n near v row = (w : ℕ) → w < n → getD row w 0 ≡ distanceIn n (join
 abbrev pub TableOf : ℕ → List ℕ → List (List ℕ) → Type 0
 TableOf n near table = (v : ℕ) → v < n → RowOf n near v (getD table v [])
 
--- the row of agent a, of its vertex in an array of starts
-abbrev pub startRow : List (List ℕ) → List ℕ → ℕ → List ℕ
-startRow table starts a = getD table (getD starts a 0) []
-
--- of its vertex in an array of goals; zeros where the agent is free
+-- the row of the goal of agent a in an array of goals; zeros where the agent is free
 abbrev pub goalRow : List (List ℕ) → List ℕ → ℕ → List ℕ
 goalRow table goals a = cond (free (getD goals a 0)) (replicate 64 0) (getD table (getD goals a 0) [])
 
--- the distance of v from the start of agent a, and from its goal, by the table
-abbrev pub startBy : List (List ℕ) → List ℕ → ℕ → ℕ → ℕ
-startBy table starts a v = getD (startRow table starts a) v 0
+-- the distance of v from the start of agent a in an array of starts, and from its goal
+abbrev pub byTable : List (List ℕ) → List ℕ → ℕ → ℕ → ℕ
+byTable table starts a v = cell table (getD starts a 0) v
 
 abbrev pub goalBy : List (List ℕ) → List ℕ → ℕ → ℕ → ℕ
 goalBy table goals a v = getD (goalRow table goals a) v 0

@@ -33,7 +33,7 @@ fn vertex(x: u8) -> Vertex
     Vertex(x as usize)
 }
 
-// A, of agent a: it is at time t where its byte of a row says.
+// A, and B where there is a goal, of agent a: it is at time t where its byte of a row says.
 fn write_unit(f: &mut [i32], s: Sizes, t: Step, row: &[u8; 16], a: Agent) -> usize
     requires { ⌜ Limits s ⌝ }
     requires { ⌜ (t .0 ≤ s .m) × (a .0 < s .k) × (getD (now row) (a .0) 0 < s .n) × (2 ≤ length (now f)) ⌝ }

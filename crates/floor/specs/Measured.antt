@@ -6,7 +6,7 @@ use Rattle.lists.specs.Loop.{greatest}
 use Rattle.answers.specs.declared.Answer.{Answer}
 use Rattle.answers.specs.Answers.{decide}
 use Rattle.distances.specs.Distance.{toGoal}
-use Rattle.distances.specs.Table.{startBy}
+use Rattle.distances.specs.Table.{byTable}
 use Rattle.calls.specs.Questions.{question30}
 
 -- of k agents, with d a from start to goal; the offset of the first goal is `place`
@@ -15,4 +15,4 @@ measured k d place = decide (question30 k d place ∷ []) (greatest k d)
 
 -- from the start of agent a to its goal, by the table; 0 where it is free
 abbrev pub between : List ℕ → List ℕ → List (List ℕ) → ℕ → ℕ
-between starts goals table a = toGoal (getD goals a 0) (startBy table starts a (getD goals a 0))
+between starts goals table a = toGoal (getD goals a 0) (byTable table starts a (getD goals a 0))

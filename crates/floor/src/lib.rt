@@ -16,7 +16,7 @@ fn distance_of(table: &[[u8; 64]], starts: &[u8; 16], goals: &[u8; 16], a: usize
     if goals::is_free(goal) {
         return 0;
     }
-    let row = distance_table::start_row(table, starts, a);
+    let row = distance_table::row_for(table, starts, a);
     let v = numbers::wide(goal);
     numbers::wide(row[v])
 }

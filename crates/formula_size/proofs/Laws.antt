@@ -15,7 +15,7 @@ use Rattle.instance.specs.Accepted.{Accepted, instanceOf}
 use Rattle.instance.proofs.Accepted.{sizes-same, graph, counted-known, limits-known, ready, shown}
 use Rattle.instance.proofs.Call.{horizon}
 use Rattle.distances.specs.Distance.{unreachable, distance}
-use Rattle.distances.specs.Table.{cell, TableOf, startBy, goalBy}
+use Rattle.distances.specs.Table.{cell, TableOf, byTable, goalBy}
 use Rattle.distances.proofs.Table.{table-distance}
 use Rattle.distances.proofs.Goals.{to-goal-ext, goal-by}
 use Rattle.formula.specs.Formula.{Formula, words}
@@ -45,7 +45,7 @@ module _ (b : List ℕ) (c : Checked) (w : Accepted b c) (table : List (List ℕ
   entry : (v u : ℕ) → v < c .sizes .n → u < c .sizes .n → cell table v u ≡ distance I v u
   entry = table-distance I (c .sizes) (c .near) (shown b c w .graph) table t
 
-  pub from-start : (a : ℕ) → a < c .sizes .k → (v : ℕ) → v < c .sizes .n → startBy table (c .starts) a v ≡ fromStart I a v
+  pub from-start : (a : ℕ) → a < c .sizes .k → (v : ℕ) → v < c .sizes .n → byTable table (c .starts) a v ≡ fromStart I a v
   from-start a l v r = entry _ v (ready b c w .starts-below a l) r ∙ ap (λ (x : ℕ). distance I x v) (shown b c w .starts-at a l)
 
   pub from-goal : (a : ℕ) → a < c .sizes .k → (v : ℕ) → v < c .sizes .n → goalBy table (c .goals) a v ≡ fromGoal I a v
@@ -56,7 +56,7 @@ module _ (b : List ℕ) (c : Checked) (w : Accepted b c) (table : List (List ℕ
 
   table-count : countByTable c table ≡ countH (I .sizes) (fromStart I) (fromGoal I)
   table-count =
-      count-H-ext (c .sizes) (startBy table (c .starts)) (goalBy table (c .goals)) (fromStart I) (fromGoal I) from-start from-goal
+      count-H-ext (c .sizes) (byTable table (c .starts)) (goalBy table (c .goals)) (fromStart I) (fromGoal I) from-start from-goal
       ∙ ap (λ (s : Sizes). countH s (fromStart I) (fromGoal I)) (sizes-same b c w)
 
   short : I .sizes .m < unreachable

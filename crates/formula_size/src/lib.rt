@@ -90,7 +90,7 @@ pub fn count_h(c: Checked, table: &[[u8; 64]]) -> usize
     let k = s.k;
     let mut count: usize = 0;
     for a in 0..k {
-        let from = distance_table::start_row(table, &starts, a);
+        let from = distance_table::row_for(table, &starts, a);
         let to = distance_table::goal_row(table, &goals, a);
         count += count_for(s, &from, &to);
     }

@@ -8,7 +8,7 @@ use Rattle.instance.specs.declared.Checked.{Checked}
 use Rattle.instance.specs.Instance.{Instance}
 use Rattle.instance.specs.Accepted.{Accepted, instanceOf}
 use Rattle.instance.proofs.Accepted.{sizes-same}
-use Rattle.distances.specs.Table.{TableOf, startBy, goalBy}
+use Rattle.distances.specs.Table.{TableOf, byTable, goalBy}
 use Rattle.formula.specs.Formula.{Clause, line, words}
 use Rattle.formula.specs.Blocks.{held, family}
 use Rattle.formula.specs.Pruned.{H, fromStart, fromGoal, familyH, pruned}
@@ -23,7 +23,7 @@ module _ (b : List ℕ) (c : Checked) (w : Accepted b c) (table : List (List ℕ
 
   table-H : byTableH (c .sizes) table (c .starts) (c .goals) ≡ familyH I
   table-H =
-      H-ext (c .sizes) (startBy table (c .starts)) (goalBy table (c .goals)) (fromStart I) (fromGoal I) (from-start b c w table t) (from-goal b c w table t)
+      H-ext (c .sizes) (byTable table (c .starts)) (goalBy table (c .goals)) (fromStart I) (fromGoal I) (from-start b c w table t) (from-goal b c w table t)
       ∙ ap (λ (s : Sizes). H s (fromStart I) (fromGoal I)) (sizes-same b c w)
 
   pub words-held : words (pruned I) ≡ each line (for 7 (family (held c)) ++ byTableH (c .sizes) table (c .starts) (c .goals))

@@ -7,16 +7,16 @@ use Rattle.instance.specs.declared.Sizes.{Sizes}
 use Rattle.instance.specs.Instance.{GoalBelow}
 use Rattle.formula.specs.Formula.{Clause}
 use Rattle.formula.specs.Pruned.{blockH, H}
-use Rattle.distances.specs.Table.{startBy, goalBy}
+use Rattle.distances.specs.Table.{byTable, goalBy}
 
 module _ (s : Sizes) (table : List (List ℕ)) (starts goals : List ℕ) where
   -- H, of time t
   abbrev pub stepByTable : ℕ → List Clause
-  stepByTable t = for (s .k) λ a. blockH s (startBy table starts a) (goalBy table goals a) t a
+  stepByTable t = for (s .k) λ a. blockH s (byTable table starts a) (goalBy table goals a) t a
 
   -- H
   abbrev pub byTableH : List Clause
-  byTableH = H s (startBy table starts) (goalBy table goals)
+  byTableH = H s (byTable table starts) (goalBy table goals)
 
 -- each agent has a start below n, and a goal below n or none
 abbrev pub Inside : Sizes → List ℕ → List ℕ → Type 0

@@ -75,7 +75,7 @@ fn write_step(
     let k = s.k;
     let mut at: usize = 0;
     for a in 0..k {
-        let from = distance_table::start_row(table, starts, a);
+        let from = distance_table::row_for(table, starts, a);
         let to = distance_table::goal_row(table, goals, a);
         at += write_block(&mut f[at..], s, &from, &to, Step(t), Agent(a));
     }

@@ -9,11 +9,11 @@ use Rattle.distance_table.proofs.goal_row.Tie as tie
 returns : tie.Need-returns
 returns c = rw (sym (c .before .is-free .ensures) ∙ c .if1 .taken)
 
-start-row-requires : tie.Need-start-row-requires
-start-row-requires c κs = (c .before .before .before .pre .0, c .before .before .before .pre .1 (told-goal (getD (c .before .before .before .args .goals .now) (c .before .before .before .args .a) 0) (c .before .is-free .ensures) (c .if1 .left)))
+row-for-requires : tie.Need-row-for-requires
+row-for-requires c κs = (c .before .before .before .pre .0, c .before .before .before .pre .1 (told-goal (getD (c .before .before .before .args .goals .now) (c .before .before .before .args .a) 0) (c .before .is-free .ensures) (c .if1 .left)))
 
 returns-2 : tie.Need-returns-2
-returns-2 c = rw (sym (c .before .before .is-free .ensures) ∙ c .before .if1 .left) (c .start-row .ensures)
+returns-2 c = rw (sym (c .before .before .is-free .ensures) ∙ c .before .if1 .left) (c .row-for .ensures)
 
 pub goal-row-spec : {M : Type 1} → statement M
 goal-row-spec =
@@ -22,5 +22,5 @@ goal-row-spec =
     (λ c. search needs)
     (λ c κs. search needs)
     returns
-    start-row-requires
+    row-for-requires
     returns-2)

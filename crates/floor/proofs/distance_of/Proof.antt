@@ -16,7 +16,7 @@ array-read-wide : tie.Need-array-read-wide
 array-read-wide c = omega (arith, c .wide .ensures .0, c .before .before .before .before .before .pre .3 (told-goal (getD (c .before .before .before .before .before .args .goals .now) (c .before .before .before .before .before .args .a) 0) (c .before .before .before .is-free .ensures) (c .before .before .if1 .left)))
 
 returns-2 : tie.Need-returns-2
-returns-2 c = rw (sym (c .before .before .before .before .is-free .ensures) ∙ c .before .before .before .if1 .left) (c .wide2 .ensures .0 ∙ ap₂ (λ (row : List ℕ) (w : ℕ). getD row w 0) (c .before .before .start-row .ensures) (c .before .wide .ensures .0), c .wide2 .ensures .1)
+returns-2 c = rw (sym (c .before .before .before .before .is-free .ensures) ∙ c .before .before .before .if1 .left) (c .wide2 .ensures .0 ∙ ap₂ (λ (row : List ℕ) (w : ℕ). getD row w 0) (c .before .before .row-for .ensures) (c .before .wide .ensures .0), c .wide2 .ensures .1)
 
 pub distance-of-spec : {M : Type 1} → statement M
 distance-of-spec =

@@ -10,12 +10,12 @@ use Rattle.lists.proofs.Slices.{Filling, each-filling, filling-room, filling-ne
 use Rattle.instance.specs.declared.Sizes.{Sizes}
 use Rattle.formula.specs.Formula.{Clause, line}
 use Rattle.formula.specs.Pruned.{blockH}
-use Rattle.distances.specs.Table.{startBy, goalBy}
+use Rattle.distances.specs.Table.{byTable, goalBy}
 use Rattle.pruned_writer.proofs.write_step.Statement.{statement}
 use Rattle.pruned_writer.proofs.write_step.Tie as tie
 
 abbrev block : Sizes → List ℕ → List ℕ → List (List ℕ) → ℕ → ℕ → List Clause
-block s starts goals table t a = blockH s (startBy table starts a) (goalBy table goals a) t a
+block s starts goals table t a = blockH s (byTable table starts a) (goalBy table goals a) t a
 
 abbrev Inv-loop : tie.InvT-loop
 Inv-loop f₀ s starts goals table t k at₀ a₀ f at a = Filling (λ a. each line (block s starts goals table t a)) k f₀ a at f
@@ -26,8 +26,8 @@ abbrev μ-loop : tie.MeasureT-loop
 loop-holds : tie.Need-loop-holds Inv-loop μ-loop
 loop-holds c = each-filling line (block (c .args .s) (c .args .starts .now) (c .args .goals .now) (c .args .table .now) (c .args .t)) (c .pre .1 .1 .1)
 
-start-row-requires : tie.Need-start-row-requires Inv-loop μ-loop
-start-row-requires c κs = (omega (arith, c .before .before .pre .0 .k-most, c .loop-test .taken), omega (arith, c .before .before .pre .1 .0 (c .before .loop .a) (c .loop-test .taken) .0, c .before .before .pre .0 .n-most, c .before .before .pre .1 .1 .0 .1))
+row-for-requires : tie.Need-row-for-requires Inv-loop μ-loop
+row-for-requires c κs = (omega (arith, c .before .before .pre .0 .k-most, c .loop-test .taken), omega (arith, c .before .before .pre .1 .0 (c .before .loop .a) (c .loop-test .taken) .0, c .before .before .pre .0 .n-most, c .before .before .pre .1 .1 .0 .1))
 
 goal-row-requires : tie.Need-goal-row-requires Inv-loop μ-loop
 goal-row-requires c κs = (omega (arith, c .before .before .before .pre .0 .k-most, c .before .loop-test .taken), λ g. omega (arith, c .before .before .before .pre .1 .0 (c .before .before .loop .a) (c .before .loop-test .taken) .1 g, c .before .before .before .pre .0 .n-most, c .before .before .before .pre .1 .1 .0 .1))
@@ -38,8 +38,8 @@ room e h = rw e h
 
 -- the block by the rows that were read
 same : (c : tie.After-goal-row Inv-loop μ-loop)
-    → blockH (c .before .before .before .before .args .s) (λ v. getD (c .before .start-row .result) v 0) (λ v. getD (c .goal-row .result) v 0) (c .before .before .before .before .args .t) (c .before .before .before .loop .a) ≡ block (c .before .before .before .before .args .s) (c .before .before .before .before .args .starts .now) (c .before .before .before .before .args .goals .now) (c .before .before .before .before .args .table .now) (c .before .before .before .before .args .t) (c .before .before .before .loop .a)
-same c = ap₂ (λ (from to : List ℕ). blockH (c .before .before .before .before .args .s) (λ v. getD from v 0) (λ v. getD to v 0) (c .before .before .before .before .args .t) (c .before .before .before .loop .a)) (c .before .start-row .ensures) (c .goal-row .ensures)
+    → blockH (c .before .before .before .before .args .s) (λ v. getD (c .before .row-for .result) v 0) (λ v. getD (c .goal-row .result) v 0) (c .before .before .before .before .args .t) (c .before .before .before .loop .a) ≡ block (c .before .before .before .before .args .s) (c .before .before .before .before .args .starts .now) (c .before .before .before .before .args .goals .now) (c .before .before .before .before .args .table .now) (c .before .before .before .before .args .t) (c .before .before .before .loop .a)
+same c = ap₂ (λ (from to : List ℕ). blockH (c .before .before .before .before .args .s) (λ v. getD from v 0) (λ v. getD to v 0) (c .before .before .before .before .args .t) (c .before .before .before .loop .a)) (c .before .row-for .ensures) (c .goal-row .ensures)
 
 write-block-requires : tie.Need-write-block-requires Inv-loop μ-loop
 write-block-requires c κs =
@@ -63,7 +63,7 @@ write-step-spec =
     Inv-loop
     μ-loop
     loop-holds
-    start-row-requires
+    row-for-requires
     goal-row-requires
     (λ c. search needs)
     (λ c. search needs)
