@@ -12,10 +12,12 @@
  * less than 24 KiB, and the reader, less than 64 KiB. The calls share nothing, so several threads may call at once.
  *
  * An instance is bytes: n vertices, k agents, e edges (two bytes, the low one first); the low ends of all edges, then
- * their high ends, sorted by low end and then by high end; the starts of all agents, then their goals. Vertices, agents
- * and times are numbered from 0. A plan has a row for each time from 0 to the horizon m, a byte for each agent: byte
- * t * k + a is the vertex of agent a at time t. Variable 1 + (a * (m + 1) + t) * n + v says that agent a is at vertex v
- * at time t; there are n * k * (m + 1) of them, an agent's in one stretch, and a valuation has an entry for each, in order.
+ * their high ends, sorted by low end and then by high end; the starts of all agents, then their goals. A goal byte of 255
+ * is no goal: the agent is free and may end anywhere. Any number of agents may be free, and each still has its start.
+ * Vertices, agents and times are numbered from 0. A plan has a row for each time from 0 to the horizon m, a byte for each
+ * agent: byte t * k + a is the vertex of agent a at time t. Variable 1 + (a * (m + 1) + t) * n + v says that agent a is at
+ * vertex v at time t; there are n * k * (m + 1) of them, an agent's in one stretch, and a valuation has an entry for each,
+ * in order.
  *
  * Questions are numbered as in README.md. Words and entries are signed 32-bit numbers.
  */
@@ -45,7 +47,8 @@ typedef struct {
  * how many clauses. Refused: `second` is the place, and `clauses` is 0. */
 runglaet_size runglaet_formula_size(const uint8_t *instance, size_t instance_len, uint64_t horizon);
 
-/* The formula, as words: each clause is its literals and then 0.
+/* The formula, as words: each clause is its literals and then 0. Family B, the goals, has a clause only for agents with a
+ * goal: for each free agent there are one clause and two words less, and all clauses behind B have lower numbers.
  * Asks 1 to 10 and 12. Accepted: the words stand first in `words`, as many as runglaet_formula_size says, and `second` is
  * 0. Refusal 12 gives the words needed. So it accepts exactly where the size call does and `words` has that many places
  * or more. */
@@ -59,10 +62,11 @@ runglaet_answer runglaet_clause(const uint8_t *instance, size_t instance_len, ui
                                 int32_t *words, size_t words_len);
 
 /* The plan check.
- * Asks 1 to 10, 13 and 17 to 22. Where an agent enters a vertex on which another stood, question 20, the number tells
- * what the other one does: 20 it stays, 25 the two exchange vertices, 26 it goes elsewhere. The lowest such agent of the
- * step decides. Accepted: `second` is the plan's cost, the sum over its agents of the time until rest: the least t such
- * that the agent keeps one vertex in all rows t to m. The cost is at most m * k, and so at most 512. */
+ * Asks 1 to 10, 13 and 17 to 22; 22 not of free agents. Where an agent enters a vertex on which another stood, question
+ * 20, the number tells what the other one does: 20 it stays, 25 the two exchange vertices, 26 it goes elsewhere. The
+ * lowest such agent of the step decides. Accepted: `second` is the plan's cost, the sum over its agents, free ones too, of
+ * the time until rest: the least t such that the agent keeps one vertex in all rows t to m. The cost is at most m * k, and
+ * so at most 512. */
 runglaet_answer runglaet_check_plan(const uint8_t *instance, size_t instance_len, uint64_t horizon,
                                     const uint8_t *plan, size_t plan_len);
 
@@ -73,7 +77,7 @@ runglaet_answer runglaet_decode(const uint8_t *instance, size_t instance_len, ui
                                 const int32_t *entries, size_t entries_len, uint8_t *plan, size_t plan_len);
 
 /* From a plan to its valuation.
- * Asks 1 to 10, 13 and 16 to 22, and gives 25 and 26 as the plan check does. Accepted: the valuation's entries stand
+ * Asks 1 to 10, 13 and 16 to 22, and gives 25 and 26, as the plan check does. Accepted: the valuation's entries stand
  * first in `entries`, and `second` is how many they are. */
 runglaet_answer runglaet_encode(const uint8_t *instance, size_t instance_len, uint64_t horizon,
                                 const uint8_t *plan, size_t plan_len, int32_t *entries, size_t entries_len);
@@ -97,8 +101,8 @@ runglaet_answer runglaet_encode(const uint8_t *instance, size_t instance_len, ui
 runglaet_answer runglaet_read_valuation(const uint8_t *instance, size_t instance_len, uint64_t horizon,
                                         const uint8_t *text, size_t text_len, int32_t *entries, size_t entries_len);
 
-/* The floor, how short a plan could be: the greatest distance from an agent's start to its goal, in edges. No plan with a
- * smaller makespan passes the check.
+/* The floor, how short a plan could be: the greatest distance from an agent's start to its goal, in edges. A free agent
+ * counts 0, and never gives 30. No plan with a smaller makespan passes the check.
  * Asks 1 to 9 and 30; no horizon is given. Accepted: `second` is the floor, at most 63; where it is above 32, no horizon
  * that the other calls accept has a plan. Refusal 30, some goal cannot be reached from its start, so no plan passes at any
  * horizon: the offset of the goal of the lowest such agent. */
@@ -106,9 +110,9 @@ runglaet_answer runglaet_floor(const uint8_t *instance, size_t instance_len);
 
 /* The pruned formula: the words of runglaet_write_formula, then family H. For each time t from 0 to m, agent and vertex,
  * in this order, H has a clause of one literal, that the agent is not at the vertex at t, wherever the vertex is further
- * than t edges from the agent's start or further than m - t from its goal. Unreachable counts as further; where both hold
- * there is one clause. The pruned formula has the formula's variables and exactly its satisfying valuations, so
- * runglaet_read_valuation and runglaet_decode serve for both.
+ * than t edges from the agent's start or further than m - t from its goal; for a free agent only the start counts.
+ * Unreachable counts as further; where both hold there is one clause. The pruned formula has the formula's variables and
+ * exactly its satisfying valuations, so runglaet_read_valuation and runglaet_decode serve for both.
  * Size call and writer ask and answer as those of the formula do; the words, at most 7,692,880, and the clauses are those
  * of the pruned formula. Clause numbers, in runglaet_clause and refusal 24, are those of the formula without family H. */
 runglaet_size runglaet_pruned_size(const uint8_t *instance, size_t instance_len, uint64_t horizon);

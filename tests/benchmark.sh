@@ -1,7 +1,7 @@
 #!/usr/bin/env bash
 # The library's times beside those of plain Rust: tests/benchmark.sh [--before LIBRARY] [--write]. With --before, also
-# beside those of an earlier commit's library, in the same run. With --write, what is printed also replaces the table in
-# docs/BENCHMARK.md.
+# beside those of an earlier commit's library, from S-7 on, in the same run. With --write, what is printed also replaces
+# the table in docs/BENCHMARK.md.
 # RUNGLAET_LIB, RUNGLAET_PROGRAM: the library and the formula program, if they are not in target/.
 set -euo pipefail
 usage() {
@@ -42,22 +42,7 @@ if [ -n "$before" ]; then
     mkdir -p "$folder"
     for side in now before; do
         if [ "$side" = now ]; then library=$RUNGLAET_LIB; else library=$before; fi
-        # An earlier library may lack some calls: stand-ins let the program link, and their rows are left out. Where it
-        # lacks a size call, its writer answers the counts too, and is renamed so that a stand-in can call it.
-        lacks=() renamed=()
-        for call in read_valuation floor write_pruned formula_size pruned_size; do
-            if ! nm --defined-only "$library" | grep " T runglaet_$call\$" >/dev/null; then
-                lacks+=("-DLACKS_$call")
-                case $call in
-                *_size) renamed+=(--redefine-sym "runglaet_write_${call%_size}=counting_write_${call%_size}") ;;
-                esac
-            fi
-        done
-        objcopy --set-section-alignment '.text*=4096' "${renamed[@]}" "$library" "$folder/$side.a"
-        if [ ${#lacks[@]} -gt 0 ]; then
-            gcc -std=c11 -O2 -Iinclude "${lacks[@]}" -c tests/interface/absent.c -o "$folder/absent.o"
-            ar rs "$folder/$side.a" "$folder/absent.o"
-        fi
+        objcopy --set-section-alignment '.text*=4096' "$library" "$folder/$side.a"
         RUNGLAET_LIB=$folder/$side.a cargo build --quiet --release --offline --bin benchmark \
             --manifest-path tests/interface/Cargo.toml --target-dir "$folder"
         cp "$folder/release/benchmark" "$folder/$side"

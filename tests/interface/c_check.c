@@ -1,6 +1,6 @@
-/* Each call once or more on the examples of document 01, the plan check's cost, the reader, the floor, the pruned formula
- * and the variables of two agents on examples of their own, and all with null pointers, from C; and the layout of the
- * answers. */
+/* Each call once or more on the examples of document 01, the plan check's cost, the reader, the floor, the pruned formula,
+ * the variables of two agents and agents without a goal on examples of their own, and all with null pointers, from C; and
+ * the layout of the answers. */
 #include "runglaet.h"
 
 #include <stddef.h>
@@ -328,6 +328,85 @@ static void two_agents(void) {
     expect("two agents: 24, place 12", says(runglaet_decode(two, sizeof two, 1, twice, 12, plan, 4), 24, 12));
 }
 
+/* The same with a free agent 0, and agent 1 from 2 to 1; and with both free. */
+static const uint8_t first_free[12] = {3, 2, 2, 0, 0, 1, 1, 2, 0, 2, 255, 1},
+                     both_free[12] = {3, 2, 2, 0, 0, 1, 1, 2, 0, 2, 255, 255};
+
+/* Does every call refuse the instance so? */
+static int unasked(const uint8_t *instance, size_t length, uint32_t number, uint64_t second) {
+    int32_t words[4] = {0};
+    uint8_t bytes[4] = {0};
+    int all = unsized(instance, length, 1, number, second) && says(runglaet_floor(instance, length), number, second);
+    for (int f = 0; f < 2; f++) all &= says(writers[f](instance, length, 1, words, 4), number, second);
+    all &= says(runglaet_clause(instance, length, 1, 0, words, 4), number, second);
+    all &= says(runglaet_check_plan(instance, length, 1, bytes, 4), number, second);
+    all &= says(runglaet_decode(instance, length, 1, words, 4, bytes, 4), number, second);
+    all &= says(runglaet_encode(instance, length, 1, bytes, 4, words, 4), number, second);
+    return all && says(runglaet_read_valuation(instance, length, 1, bytes, 4, words, 4), number, second);
+}
+
+#define UNASKED(what, number, second, ...) \
+    expect("every call, " what, unasked(BYTES(__VA_ARGS__), sizeof BYTES(__VA_ARGS__), number, second))
+
+static void free_agents(void) {
+    /* A has clauses 0 and 1, B has clause 2, C begins at 3. */
+    static const int32_t begins[10] = {1, 0, 9, 0, 11, 0, 1, 2, 3, 0},
+                         family_h[14] = {-2, 0, -3, 0, -7, 0, -8, 0, -6, 0, -10, 0, -12, 0};
+    const size_t length = sizeof first_free;
+    int32_t words[134];
+    expect("a free agent: 120 words, 37 clauses", counts(runglaet_formula_size(first_free, length, 1), 0, 120, 37));
+    expect("a free agent: 134 words with H, 44 clauses", counts(runglaet_pruned_size(first_free, length, 1), 0, 134, 44));
+    expect("a free agent: written", says(runglaet_write_formula(first_free, length, 1, words, 120), 0, 0));
+    expect("a free agent: B has the other one's clause", memcmp(words, begins, sizeof begins) == 0);
+    expect("a free agent: written with H", says(runglaet_write_pruned(first_free, length, 1, words, 134), 0, 0));
+    expect("a free agent: the same formula", memcmp(words, begins, sizeof begins) == 0);
+    expect("a free agent: H by its start alone", memcmp(words + 120, family_h, sizeof family_h) == 0);
+    expect("a free agent: clause 2", says(runglaet_clause(first_free, length, 1, 2, words, 134), 0, 2) && words[0] == 11);
+    expect("a free agent: clause 3", says(runglaet_clause(first_free, length, 1, 3, words, 134), 0, 4) && words[2] == 3);
+    expect("a free agent: clause 37 gets 11", says(runglaet_clause(first_free, length, 1, 37, words, 134), 11, 37));
+    expect("a free agent: floor 1", says(runglaet_floor(first_free, length), 0, 1));
+
+    /* It stays, and moves; its move counts. The other one must be at its goal. */
+    static const uint8_t stays[4] = {0, 2, 0, 1}, away[4] = {0, 2, 1, 2}, moves[6] = {0, 2, 1, 2, 0, 1};
+    static const int32_t valuation[12] = {1, -2, -3, 4, -5, -6, -7, -8, 9, -10, 11, -12},
+                         falsifying[12] = {1, -2, -3, -4, 5, -6, -7, -8, 9, -10, -11, 12};
+    static const char text[] = "s SATISFIABLE\nv 1 -2 -3 4 -5 -6 -7 -8 9 -10 11 -12 0\n";
+    int32_t entries[12];
+    uint8_t plan[4];
+    expect("a free agent: cost 1", says(runglaet_check_plan(first_free, length, 1, stays, 4), 0, 1));
+    expect("a free agent: 22, place 3", says(runglaet_check_plan(first_free, length, 1, away, 4), 22, 3));
+    expect("a free agent: 19, place 3", says(runglaet_check_plan(first_free, length, 1, PLAN(0, 2, 0, 0), 4), 19, 3));
+    expect("a free agent: 26, place 5", says(runglaet_check_plan(first_free, length, 2, moves, 6), 26, 5));
+    expect("a free agent: encoded", says(runglaet_encode(first_free, length, 1, stays, 4, entries, 12), 0, 12));
+    expect("a free agent: the entries", memcmp(entries, valuation, sizeof entries) == 0);
+    expect("a free agent: encoder: 22, place 3", says(runglaet_encode(first_free, length, 1, away, 4, entries, 12), 22, 3));
+    expect("a free agent: decoded", says(runglaet_decode(first_free, length, 1, valuation, 12, plan, 4), 0, 4));
+    expect("a free agent: the plan", memcmp(plan, stays, sizeof plan) == 0);
+    expect("a free agent: 24, place 2", says(runglaet_decode(first_free, length, 1, falsifying, 12, plan, 4), 24, 2));
+    memset(entries, 0, sizeof entries);
+    expect("a free agent: read", says(runglaet_read_valuation(first_free, length, 1, (const uint8_t *)text,
+                                                              sizeof text - 1, entries, 12), 0, 12));
+    expect("a free agent: the entries read", memcmp(entries, valuation, sizeof entries) == 0);
+
+    /* Both are free: no goal is missed, and every time until rest counts. B is empty, and clause 2 is of C. */
+    expect("all free: 118 words, 36 clauses", counts(runglaet_formula_size(both_free, length, 1), 0, 118, 36));
+    expect("all free: clause 2", says(runglaet_clause(both_free, length, 1, 2, words, 134), 0, 4) && words[0] == 1);
+    expect("all free: cost 0", says(runglaet_check_plan(both_free, length, 0, stays, 2), 0, 0));
+    expect("all free: cost 1", says(runglaet_check_plan(both_free, length, 1, away, 4), 0, 1));
+    expect("all free: cost 2", says(runglaet_check_plan(both_free, length, 2, PLAN(0, 2, 1, 2, 0, 2), 6), 0, 2));
+    expect("all free: floor 0", says(runglaet_floor(both_free, length), 0, 0));
+    FLOOR("a free agent with no edge: 0", 0, 0, 2, 1, 0, 0, 0, 255);
+    FLOOR("behind a free agent, no edge: 30, place 7", 30, 7, 2, 2, 0, 0, 0, 1, 255, 0);
+
+    /* Two edges: the starts stand at 8, the goals at 10. */
+    UNASKED("goal 254: 9, place 10", 9, 10, 3, 2, 2, 0, 0, 1, 1, 2, 0, 2, 254, 1);
+    UNASKED("goal 3 behind a free agent: 9, place 11", 9, 11, 3, 2, 2, 0, 0, 1, 1, 2, 0, 2, 255, 3);
+    UNASKED("start 255: 8, place 8", 8, 8, 3, 2, 2, 0, 0, 1, 1, 2, 255, 2, 255, 1);
+    UNASKED("one start for two: 8, place 9", 8, 9, 3, 2, 2, 0, 0, 1, 1, 2, 2, 2, 255, 1);
+    /* No edge: the goals stand at 7. The same one twice, around a free agent. */
+    UNASKED("goal 1 twice: 9, place 9", 9, 9, 3, 3, 0, 0, 0, 1, 2, 1, 255, 1);
+}
+
 int main(void) {
     static const int32_t formula[24] = {1,  0,  4, 0,  1,  2, 0,  3, 4, 0,  -1, -2,
                                         0, -3, -4, 0, -1,  3, 4,  0, -2, 4,  3,  0};
@@ -394,6 +473,7 @@ int main(void) {
     formula_sizes();
     pruned_writer(formula);
     two_agents();
+    free_agents();
     null_pointers();
     printf("c_check: %d answers, %d wrong\n", asked, failures);
     return failures != 0;

@@ -2,7 +2,8 @@
  *
  * The inputs are the largest ones: 64 vertices, all 2016 edges, 16 agents, horizon 32. Each call is made with inputs
  * that it accepts and with some that it refuses late, and its answers are compared with those of documents 01 and 02.
- * For the floor and the pruned formula there are also the longest path, and the same in two parts. */
+ * For the floor and the pruned formula there are also the longest path, and the same in two parts. At last all agents are
+ * free. */
 #define _POSIX_C_SOURCE 200809L
 #include "runglaet.h"
 
@@ -35,6 +36,8 @@ enum {
 };
 
 static uint8_t instance[4 + 2 * E + 2 * K], decoded[PLAN];
+/* Agents without a goal: none, or all. Family B has no clause for them, and at time M family H rules out nothing. */
+static int idle = 0;
 static int32_t words[WORDS + 2 * H], encoded[VARIABLES];
 
 /* The path, and the same without its middle edge. */
@@ -225,8 +228,8 @@ static size_t used(const run *r, unsigned char paint) {
         pthread_create(&thread, &attributes, measure, &m) != 0 || pthread_join(thread, NULL) != 0)
         stop("no thread with a stack of its own");
     pthread_attr_destroy(&attributes);
-    uint64_t clauses = r->which == FORMULA_SIZE  ? CLAUSES
-                       : r->which == PRUNED_SIZE ? CLAUSES + H
+    uint64_t clauses = r->which == FORMULA_SIZE  ? CLAUSES - idle
+                       : r->which == PRUNED_SIZE ? CLAUSES - idle + (idle ? H / 2 : H)
                        : r->which == PATH_SIZE   ? CLAUSES + PATH_H
                                                  : 0;
     if (r->number != 0) clauses = 0;
@@ -262,6 +265,17 @@ static size_t measured(const run *r) {
         stop("a measurement failed");
     close(ends[0]);
     return first;
+}
+
+/* Makes the calls; `most` is the most bytes of any call, of the reader, and of those of the pruned formula. */
+static void measure_all(const run *runs, size_t count, size_t most[3]) {
+    for (size_t i = 0; i < count; i++) {
+        call which = runs[i].which;
+        int pruned = which == PRUNED || which == PATH_PRUNED || which == PRUNED_SIZE || which == PATH_SIZE;
+        size_t bytes = measured(&runs[i]);
+        size_t *counted = &most[which == READER ? 1 : pruned ? 2 : 0];
+        if (bytes > *counted) *counted = bytes;
+    }
 }
 
 int main(void) {
@@ -313,13 +327,31 @@ int main(void) {
         {PATH_PRUNED, "pruned writer, longest path", M, PATH, WORDS, 0, 0},
     };
     size_t most[3] = {0, 0, 0};
-    for (size_t i = 0; i < sizeof runs / sizeof *runs; i++) {
-        call which = runs[i].which;
-        int pruned = which == PRUNED || which == PATH_PRUNED || which == PRUNED_SIZE || which == PATH_SIZE;
-        size_t bytes = measured(&runs[i]);
-        size_t *counted = &most[which == READER ? 1 : pruned ? 2 : 0];
-        if (bytes > *counted) *counted = bytes;
-    }
+    measure_all(runs, sizeof runs / sizeof *runs, most);
+    /* The last goal stands alone, and then none. */
+    static const size_t goals = 4 + 2 * E + K;
+    memset(instance + goals, 255, K - 1);
+    const run last_goal[] = {
+        {CLAUSE, "clause of family B, of the last agent", M, A, WORDS, 0, 2},
+    };
+    measure_all(last_goal, 1, most);
+    instance[goals + K - 1] = 255;
+    idle = K;
+    enum { FREE_WORDS = WORDS - 2 * K };
+    const run free_runs[] = {
+        {FORMULA_SIZE, "formula size, all agents free", M, 0, 0, 0, FREE_WORDS},
+        {WRITER, "writer, all agents free", M, 0, WORDS, 0, 0},
+        {CLAUSE, "clause of family C, all agents free", M, A, WORDS, 0, N + 1},
+        {CHECK, "plan check, all agents free", M, PASSES, PLAN, 0, K},
+        {DECODER, "decoder, all agents free", M, PASSES, PLAN, 0, PLAN},
+        {DECODER, "decoder, family G, all agents free", M, SWAPS, PLAN, 24, SWAPPED - K},
+        {ENCODER, "encoder, all agents free", M, PASSES, VARIABLES, 0, VARIABLES},
+        {READER, "reader, all agents free", M, RIGHT, VARIABLES, 0, VARIABLES},
+        {FLOOR, "floor, all agents free", 0, 0, 0, 0, 0},
+        {PRUNED_SIZE, "pruned size, all agents free", M, 0, 0, 0, FREE_WORDS + H},
+        {PRUNED, "pruned writer, all agents free", M, 0, FREE_WORDS + H, 0, 0},
+    };
+    measure_all(free_runs, sizeof free_runs / sizeof *free_runs, most);
     static const char *const calls[3] = {"", "reader ", "pruned writer and size "};
     static const size_t promised[3] = {PROMISED, READER_PROMISED, PRUNED_PROMISED};
     int failed = 0;

@@ -1,11 +1,10 @@
 //! The library beside an earlier one. Both export the same names, so this program is linked with each of them, and the
-//! two run in turn. For a call that the earlier one has not, absent.c stands in, and its rows are left out; a writer that
-//! answers its counts too is called by way of absent.c, which gives the rest of its answer. Each library gets entries in
-//! its own numbering of the variables, and what it writes is compared in S-7's.
+//! two run in turn. Where an agent of an instance is free and the earlier library, from before S-9, takes no such agents,
+//! it gets the same instance with goals for all, and the clauses of these goals are left out of what is compared.
 
 use crate::{inputs, time, times_within, Input, Table};
 use independent::output::output;
-use independent::plain;
+use independent::NO_GOAL;
 use interface as library;
 use interface::input::Parts;
 use std::fmt::Debug;
@@ -15,12 +14,23 @@ use std::path::Path;
 use std::process::{exit, Command, Stdio};
 use std::time::Duration;
 
+/// The largest instance with every second agent free; the first has a goal.
+const FREED: &str = "freed";
+const FREED_CALLS: [&str; 5] = ["writer", "plan check", "decoder", "encoder", "one clause B"];
+
 /// The most that a call may take of its time with the earlier library. A call that is not here has no target; each
-/// landing sets its own, and S-7 has these.
-const TARGETS: [(&str, &str, f64); 3] = [
+/// landing sets its own, and S-9 has these.
+const TARGETS: [(&str, &str, f64); 10] = [
     ("writer", "largest", 1.0),
+    ("writer", FREED, 1.0),
+    ("plan check", "largest", 1.0),
+    ("plan check", FREED, 1.0),
     ("decoder", "largest", 1.0),
+    ("decoder", FREED, 1.0),
     ("encoder", "largest", 1.0),
+    ("encoder", FREED, 1.0),
+    ("one clause B", "largest", 1.0),
+    ("one clause B", FREED, 1.0),
 ];
 
 /// Each program runs so often for a call, and samples it for so long at least.
@@ -31,81 +41,31 @@ const CALL_TIME: Duration = Duration::from_millis(30);
 pub const ANSWER: &str = "--answer";
 pub const TIME: &str = "--time";
 
-/// The number that absent.c answers, and what a program prints then.
-const ABSENT: u32 = u32::MAX;
-const NO_CALL: &str = "no such call";
-
 /// Prints what is seen of a call.
 type Print = fn(&Row);
 
 /// The calls, in the order of the table.
-const CALLS: [(&str, Print); 12] = [
+const CALLS: [(&str, Print); 13] = [
     ("writer", writer),
     ("instance check", instance_check),
     ("plan check", plan_check),
     ("decoder", decoder),
     ("encoder", encoder),
     ("reader", reader),
+    ("one clause B", clause_b),
     ("one clause D", clause_d),
-    ("one clause F", clause),
+    ("one clause F", clause_f),
     ("floor", floor),
     ("pruned writer", pruned_writer),
     ("formula size", formula_size),
     ("pruned size", pruned_size),
 ];
 
-/// How this program's library numbers the variables of an input: item i is the number in S-7's numbering of its variable
-/// i + 1.
-struct Numbering(Vec<i32>);
-
-impl Numbering {
-    fn of(input: &Input) -> Numbering {
-        // Of two agents on two vertices at m 1, that agent 0 ends at vertex 0. Before S-7 the variables of one time stood
-        // together.
-        let mut clause = [0; 2];
-        library::clause(&[2, 2, 0, 0, 0, 1, 0, 1], 1, 2, &mut clause);
-        let by_time = match clause {
-            [3, 0] => false,
-            [5, 0] => true,
-            _ => panic!("{clause:?}: neither numbering"),
-        };
-        let [n, k] = [0, 1].map(|size| usize::from(input.instance[size]));
-        let number = |i: usize| match by_time {
-            true => plain::variable(n, input.m as usize, i / n / k, i / n % k, i % n),
-            false => i as i32 + 1,
-        };
-        Numbering((0..n * input.plan.len()).map(number).collect())
-    }
-
-    /// Words of the library in S-7's numbering.
-    fn words(&self, words: &[i32]) -> Vec<i32> {
-        let number = |&word: &i32| match word.unsigned_abs() as usize {
-            0 => 0,
-            variable => word.signum() * self.0[variable - 1],
-        };
-        words.iter().map(number).collect()
-    }
-
-    /// A valuation of the library in S-7's numbering.
-    fn entries(&self, entries: &[i32]) -> Vec<i32> {
-        let mut ours = vec![0; entries.len()];
-        for (number, entry) in self.0.iter().zip(self.words(entries)) {
-            ours[*number as usize - 1] = entry;
-        }
-        ours
-    }
-
-    /// A valuation in S-7's numbering as one of the library.
-    fn valuation(&self, ours: &[i32]) -> Vec<i32> {
-        let entry = |(&number, own): (&i32, i32)| ours[number as usize - 1].signum() * own;
-        self.0.iter().zip(1..).map(entry).collect()
-    }
-}
-
-/// The input that a call gets, how the library numbers its variables, and whether the call is timed.
+/// The input that a call gets; the agents that got a goal although they are free, since the library takes no free ones;
+/// and whether the call is timed.
 struct Row {
     input: Input,
-    numbering: Numbering,
+    given: Vec<usize>,
     timed: bool,
 }
 
@@ -115,22 +75,24 @@ impl Row {
         self.print_as(lent, call, |left| left);
     }
 
-    /// The same, of a slice that holds words.
+    /// The same, of a slice that holds the words of a formula, without the clauses of given goals.
     fn print_words<A: Debug>(&self, lent: Vec<i32>, call: impl Fn(&mut [i32]) -> A) {
-        self.print_as(lent, call, |words| self.numbering.words(&words));
+        // A has 2 words for each agent, and so has B.
+        let k = usize::from(self.input.instance[1]);
+        self.print_as(lent, call, |mut words| {
+            for a in self.given.iter().rev() {
+                words.drain(2 * (k + a)..2 * (k + a) + 2);
+            }
+            words
+        });
     }
 
-    /// The same, of a slice that holds entries.
-    fn print_entries<A: Debug>(&self, lent: Vec<i32>, call: impl Fn(&mut [i32]) -> A) {
-        self.print_as(lent, call, |entries| self.numbering.entries(&entries));
-    }
-
-    /// The same, of a slice whose content is put in S-7's numbering by `renumbered`.
+    /// The same, of a slice whose content is compared as `compared` gives it.
     fn print_as<T: Hash, A: Debug>(
         &self,
         mut lent: Vec<T>,
         call: impl Fn(&mut [T]) -> A,
-        renumbered: impl Fn(Vec<T>) -> Vec<T>,
+        compared: impl Fn(Vec<T>) -> Vec<T>,
     ) {
         if self.timed {
             let [best] = times_within(CALL_TIME, |_| {
@@ -140,7 +102,7 @@ impl Row {
         } else {
             let answer = call(&mut lent);
             let mut sum = DefaultHasher::new();
-            renumbered(lent).hash(&mut sum);
+            compared(lent).hash(&mut sum);
             println!("{answer:?}, sum {:016x}", sum.finish());
         }
     }
@@ -149,12 +111,27 @@ impl Row {
 /// What a program that is asked for a call does: it prints a line, or one for each clause.
 pub fn print_call(timed: bool, call: &str, instance: &str) {
     let (_, print) = CALLS.iter().find(|known| known.0 == call).expect("a call");
+    let name = if instance == FREED {
+        "largest"
+    } else {
+        instance
+    };
     let mut inputs = inputs().into_iter();
-    let input = inputs.find(|input| input.name == instance);
-    let input = input.expect("an instance");
+    let input = inputs.find(|input| input.name == name);
+    let mut input = input.expect("an instance");
+    let mut given = Vec::new();
+    if instance == FREED {
+        let mut parts = Parts::of(&input.instance);
+        let freed = (1..parts.k()).step_by(2);
+        freed.clone().for_each(|a| parts.goals[a] = NO_GOAL);
+        match library::floor(&parts.bytes()).number {
+            9 => given = freed.collect(),
+            _ => input.instance = parts.bytes(),
+        }
+    }
     print(&Row {
-        numbering: Numbering::of(&input),
         input,
+        given,
         timed,
     });
 }
@@ -184,7 +161,7 @@ fn plan_check(row: &Row) {
 
 fn decoder(row: &Row) {
     let (instance, m, plan) = (&row.input.instance[..], row.input.m, &row.input.plan[..]);
-    let entries = row.numbering.valuation(&row.input.valuation());
+    let entries = row.input.valuation();
     row.print(vec![200; plan.len()], |plan| {
         library::decode(black_box(instance), m, black_box(&entries), plan)
     });
@@ -192,46 +169,50 @@ fn decoder(row: &Row) {
 
 fn encoder(row: &Row) {
     let (instance, m, plan) = (&row.input.instance[..], row.input.m, &row.input.plan[..]);
-    row.print_entries(vec![0; usize::from(instance[0]) * plan.len()], |entries| {
+    row.print(vec![0; usize::from(instance[0]) * plan.len()], |entries| {
         library::encode(black_box(instance), m, black_box(plan), entries)
     });
 }
 
 fn reader(row: &Row) {
     let (instance, m) = (&row.input.instance[..], row.input.m);
-    let entries = row.numbering.valuation(&row.input.valuation());
+    let entries = row.input.valuation();
     let text = output(&entries, 78);
-    if library::read_valuation(instance, m, &text, &mut []).number == ABSENT {
-        return println!("{NO_CALL}");
-    }
-    row.print_entries(vec![0; entries.len()], |entries| {
+    row.print(vec![0; entries.len()], |entries| {
         library::read_valuation(black_box(instance), m, black_box(&text), entries)
     });
 }
 
+/// The last clause of family B, but for those of given goals.
+fn clause_b(row: &Row) {
+    let parts = Parts::of(&row.input.instance);
+    let place = parts.bound().iter().rposition(|a| !row.given.contains(a));
+    print_clauses(row, &[(parts.k() + place.expect("a goal")) as u64]);
+}
+
 /// The first, the middle and the last pair of the last block of family D, a line for each; one where there is one pair.
 fn clause_d(row: &Row) {
-    let (instance, m) = (&row.input.instance[..], row.input.m);
-    let counts = Parts::of(instance).clause_counts(m as usize);
-    let n = u64::from(instance[0]);
+    let parts = Parts::of(&row.input.instance);
+    let counts = parts.clause_counts(row.input.m as usize);
+    let n = parts.n as u64;
     let pairs = n * (n - 1) / 2;
     let first = counts[..4].iter().sum::<u64>() - pairs;
     let mut numbers = vec![first, first + pairs / 2, first + pairs - 1];
     numbers.dedup();
-    for number in numbers {
-        row.print_words(vec![1; 66], |words| {
-            library::clause(black_box(instance), m, black_box(number), words)
-        });
-    }
+    print_clauses(row, &numbers);
 }
 
 /// The middle and the last clause of family F, a line for each.
-fn clause(row: &Row) {
-    let (instance, m) = (&row.input.instance[..], row.input.m);
-    let counts = Parts::of(instance).clause_counts(m as usize);
+fn clause_f(row: &Row) {
+    let counts = Parts::of(&row.input.instance).clause_counts(row.input.m as usize);
     let first: u64 = counts[..5].iter().sum();
-    for number in [first + counts[5] / 2, first + counts[5] - 1] {
-        row.print_words(vec![1; 66], |words| {
+    print_clauses(row, &[first + counts[5] / 2, first + counts[5] - 1]);
+}
+
+fn print_clauses(row: &Row, numbers: &[u64]) {
+    let (instance, m) = (&row.input.instance[..], row.input.m);
+    for &number in numbers {
+        row.print(vec![1; 66], |words| {
             library::clause(black_box(instance), m, black_box(number), words)
         });
     }
@@ -239,17 +220,11 @@ fn clause(row: &Row) {
 
 fn floor(row: &Row) {
     let instance = &row.input.instance[..];
-    if library::floor(instance).number == ABSENT {
-        return println!("{NO_CALL}");
-    }
     row.print::<u8, _>(Vec::new(), |_| library::floor(black_box(instance)));
 }
 
 fn pruned_writer(row: &Row) {
     let (instance, m) = (&row.input.instance[..], row.input.m);
-    if library::write_pruned(instance, m, &mut []).number == ABSENT {
-        return println!("{NO_CALL}");
-    }
     let needed = independent::pruned_size(instance, m).second;
     row.print_words(vec![1; needed as usize], |words| {
         library::write_pruned(black_box(instance), m, words)
@@ -266,9 +241,6 @@ fn pruned_size(row: &Row) {
 
 fn print_size(row: &Row, call: fn(&[u8], u64) -> library::Size) {
     let (instance, m) = (&row.input.instance[..], row.input.m);
-    if call(instance, m).number == ABSENT {
-        return println!("{NO_CALL}");
-    }
     row.print::<u8, _>(Vec::new(), |_| call(black_box(instance), m));
 }
 
@@ -291,44 +263,35 @@ fn seen(program: &Path, asked: &str, call: &str, instance: &str) -> Vec<String> 
 /// A call and the name of an instance.
 type Names = (&'static str, &'static str);
 
-/// Every call with every instance.
-fn rows() -> impl Iterator<Item = Names> {
-    let names = inputs().map(|input| input.name);
-    CALLS
-        .into_iter()
-        .flat_map(move |(call, _)| names.map(|name| (call, name)))
+/// Every call with every instance, and some with the one in which agents are free.
+fn rows() -> Vec<Names> {
+    let mut rows = Vec::new();
+    for (call, _) in CALLS {
+        rows.extend(inputs().map(|input| (call, input.name)));
+        if FREED_CALLS.contains(&call) {
+            rows.push((call, FREED));
+        }
+    }
+    rows
 }
 
-/// Ends the benchmark if the program with the earlier library gives another answer or leaves other words. Gives the rows
-/// of the calls that the earlier library has.
-pub fn agree(now: &Path, before: &Path) -> Vec<Names> {
-    let mut had = Vec::new();
+/// Ends the benchmark if the program with the earlier library gives another answer or leaves other words.
+pub fn agree(now: &Path, before: &Path) {
     for (call, instance) in rows() {
         let [now, before] = [now, before].map(|program| seen(program, ANSWER, call, instance));
-        if before == [NO_CALL] {
-            continue;
-        }
         if now != before {
             eprintln!("the earlier library does otherwise: {call}, {instance}");
             eprintln!("now {now:?}, before {before:?}");
             exit(1);
         }
-        had.push((call, instance));
     }
-    had
 }
 
-/// The second table, of these rows.
-pub fn compare(now: &Path, before: &Path, had: &[Names]) {
-    let absent = CALLS
-        .iter()
-        .filter(|call| had.iter().all(|row| row.0 != call.0));
-    let absent: String = absent
-        .map(|call| format!("; it has no {}", call.0))
-        .collect();
+/// The second table.
+pub fn compare(now: &Path, before: &Path) {
     println!(
-        "\nThe earlier library gave the same answers and, in one numbering of the variables, the same \
-         words{absent}. The best of {TURNS} turns:\n"
+        "\nThe earlier library gave the same answers and words. In \"{FREED}\", the largest instance, every second \
+         agent is free;\nan earlier library that takes no free agents got all goals. The best of {TURNS} turns:\n"
     );
     println!(
         "{:<14} {:<8} {:>9} {:>9} {:>6} {:>6}",
@@ -336,7 +299,7 @@ pub fn compare(now: &Path, before: &Path, had: &[Names]) {
     );
     let mut table = Table::default();
     let mut targets = 0;
-    for &(call, instance) in had {
+    for (call, instance) in rows() {
         let best = best_times([now, before], call, instance);
         // Of several clauses the one that is dearest now.
         let dearest = best.into_iter().max_by(|x, y| x[0].total_cmp(&y[0]));

@@ -1,4 +1,4 @@
-//! The ten calls of include/runglaet.h, safe to call from Rust.
+//! The ten calls of include/runglaet.h, safe to call from Rust. An agent whose goal byte is 255 is free: it has no goal.
 
 /// The answer of every call but the size calls.
 #[repr(C)]
@@ -130,7 +130,7 @@ pub fn clause(instance: &[u8], horizon: u64, clause_number: u64, words: &mut [i3
     }
 }
 
-/// Checks a plan; the count is its cost, the time until rest summed over the agents.
+/// Checks a plan; the count is its cost, the time until rest summed over the agents, free ones too.
 pub fn check_plan(instance: &[u8], horizon: u64, plan: &[u8]) -> Answer {
     unsafe {
         runglaet_check_plan(
@@ -188,7 +188,8 @@ pub fn read_valuation(instance: &[u8], horizon: u64, text: &[u8], entries: &mut 
     }
 }
 
-/// The least horizon at which a plan could be: the count is the greatest distance from a start to its goal, in edges.
+/// The least horizon at which a plan could be: the count is the greatest distance from a start to its goal, in edges; a
+/// free agent counts 0.
 pub fn floor(instance: &[u8]) -> Answer {
     unsafe { runglaet_floor(instance.as_ptr(), instance.len()) }
 }

@@ -25,8 +25,8 @@ fn give(instance: &Instance, number: u64, words: &mut [i32]) -> Result<usize, An
     match family {
         0 => put(words, &[x(0, index, instance.starts[index].into())]),
         1 => {
-            let goal = instance.goals[index].into();
-            put(words, &[x(instance.m, index, goal)])
+            let (a, goal) = instance.ends().nth(index).unwrap_or((0, 0));
+            put(words, &[x(instance.m, a, goal.into())])
         }
         2 => {
             let (t, a) = (index / k, index % k);

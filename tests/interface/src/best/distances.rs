@@ -1,7 +1,7 @@
 //! Distances in edges: the floor, and what family H rules out.
 
 use super::answer;
-use super::instance::{bit, refuse, Instance};
+use super::instance::{bit, is_free, refuse, Instance};
 use independent::Answer;
 
 /// From every vertex to every vertex.
@@ -40,11 +40,14 @@ fn floor_of(bytes: &[u8], find: impl FnOnce(&Instance) -> Result<usize, Answer>)
     answer(Instance::read(bytes, 0).and_then(|instance| find(&instance)))
 }
 
-/// The greatest of the agents' distances, or the first goal that is unreachable.
+/// The greatest of the distances of agents with a goal, or the first goal that is unreachable.
 #[inline(always)]
 fn greatest(instance: &Instance, distance: impl Fn(usize, usize) -> u8) -> Result<usize, Answer> {
     let mut floor = 0;
     for (a, (&start, &goal)) in instance.starts.iter().zip(instance.goals).enumerate() {
+        if is_free(goal) {
+            continue;
+        }
         let distance = distance(usize::from(start & 63), usize::from(goal & 63));
         if distance == UNREACHABLE {
             return refuse(30, 4 + 2 * instance.low.len() + instance.k + a);
@@ -158,7 +161,7 @@ impl RuledOut {
         let mut words = [0; 33 * 16];
         for (a, (&start, &goal)) in instance.starts.iter().zip(instance.goals).enumerate() {
             let mut from_start = Within::new(start);
-            let mut from_goal = Within::new(goal);
+            let mut from_goal = Within::of_goal(goal);
             for t in 0..=m {
                 words[t * k + a] |= all & !from_start.seen;
                 words[(m - t) * k + a] |= all & !from_goal.seen;
@@ -204,7 +207,11 @@ pub fn count_by_table(instance: &Instance) -> usize {
     let times = instance.m as u8 + 1;
     let ends = instance.starts.iter().zip(instance.goals);
     let counts = ends.map(|(&start, &goal)| {
-        let [from_start, from_goal] = [start, goal].map(|v| &table[usize::from(v & 63)]);
+        let from_start = &table[usize::from(start & 63)];
+        let from_goal = match is_free(goal) {
+            true => &[0; 64],
+            false => &table[usize::from(goal & 63)],
+        };
         let distances = from_start.iter().zip(from_goal);
         let ruled_out = distances.map(|(x, y)| x.saturating_add(*y).min(times));
         ruled_out.map(u32::from).sum::<u32>() as usize
@@ -222,8 +229,8 @@ pub fn count_by_search(instance: &Instance) -> usize {
     let (mut from_start, mut from_goal) = ([0; 64], [0; 64]);
     let mut open = 0;
     for (&start, &goal) in instance.starts.iter().zip(instance.goals) {
-        let x = rounds(&near, start, m, all, &mut from_start);
-        let y = rounds(&near, goal, m, all, &mut from_goal);
+        let x = rounds(&near, Within::new(start), m, all, &mut from_start);
+        let y = rounds(&near, Within::of_goal(goal), m, all, &mut from_goal);
         let count = |t: usize| {
             let seen = from_start[t.min(x) & 63] & from_goal[(m - t).min(y) & 63];
             seen.count_ones() as usize
@@ -242,11 +249,10 @@ pub fn count_by_search(instance: &Instance) -> usize {
 
 /// Keeps what a search has seen after each of m rounds, up to the last in which something was new, and gives its number.
 #[inline(always)]
-fn rounds(near: &[u64; 64], from: u8, m: usize, all: u64, seen: &mut [u64; 64]) -> usize {
-    let mut within = Within::new(from);
+fn rounds(near: &[u64; 64], mut within: Within, m: usize, all: u64, seen: &mut [u64; 64]) -> usize {
     seen[0] = within.seen;
     let mut round = 0;
-    while round < m && within.seen != all {
+    while round < m && within.seen & all != all {
         within.next(near);
         if within.last == 0 {
             break;
@@ -268,6 +274,17 @@ impl Within {
         Within {
             seen: bit(from),
             last: bit(from),
+        }
+    }
+
+    /// From a goal; without one every vertex is near enough.
+    fn of_goal(goal: u8) -> Within {
+        match is_free(goal) {
+            true => Within {
+                seen: u64::MAX,
+                last: 0,
+            },
+            false => Within::new(goal),
         }
     }
 

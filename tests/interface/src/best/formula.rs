@@ -119,10 +119,10 @@ fn write_with_h(instance: &Instance, words: &mut [i32], fill: Fill) -> Result<()
 #[inline(always)]
 fn lengths(instance: &Instance) -> [usize; 7] {
     let (n, k, m) = (instance.n, instance.k, instance.m);
-    let [.., d, e, f, g] = instance.clause_counts();
+    let [a, b, _, d, e, f, g] = instance.clause_counts();
     [
-        2 * k,
-        2 * k,
+        2 * a,
+        2 * b,
         instance.rows() * (n + 1),
         3 * d,
         3 * e,
@@ -145,8 +145,7 @@ fn parts(words: &mut [i32], lengths: [usize; 7]) -> [&mut [i32]; 7] {
 fn fill(instance: &Instance, parts: [&mut [i32]; 7]) {
     let (n, k, m) = (instance.n, instance.k, instance.m);
     let [a, b, c, d, e, f, g] = parts;
-    write_ends(instance, 0, instance.starts, a);
-    write_ends(instance, m, instance.goals, b);
+    write_ends(instance, a, b);
     // C, D and F have a block for each time and agent, E and G for each time.
     write_blocks(instance, c, m + 1, k, |block| write_c(n, block));
     write_blocks(instance, d, m + 1, k, |block| write_d(n, block));
@@ -155,10 +154,15 @@ fn fill(instance: &Instance, parts: [&mut [i32]; 7]) {
     write_blocks(instance, g, m, 1, |block| write_g(instance, block));
 }
 
-/// Families A and B: the agents' vertices at time t.
-pub fn write_ends(instance: &Instance, t: usize, vertices: &[u8], part: &mut [i32]) {
-    for (a, (clause, &v)) in part.chunks_exact_mut(2).zip(vertices).enumerate() {
-        clause.copy_from_slice(&[(1 + instance.before(t, a)) as i32 + i32::from(v), 0]);
+/// Families A and B: where the agents begin, and where those that have a goal end.
+pub fn write_ends(instance: &Instance, a: &mut [i32], b: &mut [i32]) {
+    let starts = instance.starts.iter().copied().enumerate();
+    let clause = |t, (a, v): (usize, u8)| [(1 + instance.before(t, a)) as i32 + i32::from(v), 0];
+    for (place, start) in a.as_chunks_mut().0.iter_mut().zip(starts) {
+        *place = clause(0, start);
+    }
+    for (place, end) in b.as_chunks_mut().0.iter_mut().zip(instance.ends()) {
+        *place = clause(instance.m, end);
     }
 }
 

@@ -44,10 +44,10 @@ impl<'a> Instance<'a> {
         if !edges_hold(low, high, n) {
             return refuse_edge(low, high, n);
         }
-        if let Some(a) = first_fault(starts, n) {
+        if let Some(a) = first_fault(starts, n, |_| false) {
             return refuse(8, 4 + 2 * e + a);
         }
-        if let Some(a) = first_fault(goals, n) {
+        if let Some(a) = first_fault(goals, n, is_free) {
             return refuse(9, 4 + 2 * e + agents + a);
         }
         if horizon > 32 {
@@ -74,12 +74,18 @@ impl<'a> Instance<'a> {
         (a * (self.m + 1) + t) * self.n
     }
 
+    /// The agents that have a goal, with it.
+    pub fn ends(&self) -> impl Iterator<Item = (usize, u8)> + use<'a> {
+        let goals = self.goals.iter().copied().enumerate();
+        goals.filter(|end| !is_free(end.1))
+    }
+
     /// Clause counts of the families A to G.
     pub fn clause_counts(&self) -> [usize; 7] {
         let (n, k, m) = (self.n, self.k, self.m);
         [
             k,
-            k,
+            self.ends().count(),
             (m + 1) * k,
             (m + 1) * k * (n * (n - 1) / 2),
             (m + 1) * n * (k * (k - 1) / 2),
@@ -191,12 +197,19 @@ fn refuse_edge<T>(low: &[u8], high: &[u8], n: u8) -> Result<T, Answer> {
     }
 }
 
-/// The first agent whose vertex is no vertex or an earlier agent's.
-fn first_fault(vertices: &[u8], n: u8) -> Option<usize> {
+/// Is an agent with this goal byte free?
+pub fn is_free(goal: u8) -> bool {
+    goal == 255
+}
+
+/// The first agent whose vertex is no vertex or an earlier agent's; those of some bytes are not asked.
+#[inline(always)]
+fn first_fault(vertices: &[u8], n: u8, skipped: impl Fn(u8) -> bool) -> Option<usize> {
     let mut seen = 0u64;
     vertices.iter().position(|&v| {
-        let bit = 1 << (v & 63);
-        let fault = v >= n || seen & bit != 0;
+        let asked = !skipped(v);
+        let bit = u64::from(asked) << (v & 63);
+        let fault = asked & (v >= n) || seen & bit != 0;
         seen |= bit;
         fault
     })

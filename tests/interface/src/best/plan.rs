@@ -1,7 +1,7 @@
 //! The plan check.
 
 use super::answer;
-use super::instance::{refuse, Instance};
+use super::instance::{is_free, refuse, Instance};
 use independent::Answer;
 use std::hint::black_box;
 
@@ -126,6 +126,8 @@ fn cost<const K: usize>(plan: &[u8]) -> usize {
     times.into_iter().map(usize::from).sum()
 }
 
+/// The first agent that is not at its vertex; one that is free has none.
 fn first_difference(row: &[u8], vertices: &[u8]) -> Option<usize> {
-    row.iter().zip(vertices).position(|(v, w)| v != w)
+    let mut ends = row.iter().zip(vertices);
+    ends.position(|(&v, &w)| v != w && !is_free(w))
 }

@@ -8,8 +8,7 @@ use super::instance::Instance;
 
 pub fn fill(instance: &Instance, parts: [&mut [i32]; 7]) {
     let [a, b, c, d, e, f, g] = parts;
-    write_ends(instance, 0, instance.starts, a);
-    write_ends(instance, instance.m, instance.goals, b);
+    write_ends(instance, a, b);
     write_c(instance, c);
     write_d(instance, d);
     write_e(instance, e);

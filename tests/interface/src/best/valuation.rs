@@ -66,16 +66,14 @@ fn read_places(instance: &Instance, entries: &[i32], places: &mut [u8]) -> bool 
 /// The lowest clause without a true literal, under a valuation. Where each time and agent has a single vertex, these
 /// are the places, and C and D hold.
 fn first_false(instance: &Instance, entries: &[i32], single: bool, places: &[u8]) -> Option<usize> {
-    let k = instance.k;
-    let first_absent = |t: usize, vertices: &[u8]| {
-        let entry = |a: usize| entries[instance.before(t, a) + usize::from(vertices[a])];
-        (0..k).find(|&a| entry(a) < 0)
-    };
-    if let Some(a) = first_absent(0, instance.starts) {
+    let absent =
+        |t: usize, (a, v): (usize, u8)| entries[instance.before(t, a) + usize::from(v)] < 0;
+    let mut starts = instance.starts.iter().copied().enumerate();
+    if let Some(a) = starts.position(|start| absent(0, start)) {
         return Some(a);
     }
-    if let Some(a) = first_absent(instance.m, instance.goals) {
-        return Some(k + a);
+    if let Some(place) = instance.ends().position(|end| absent(instance.m, end)) {
+        return Some(instance.k + place);
     }
     if single {
         first_false_step(instance, places)
@@ -90,7 +88,7 @@ fn first_false_row(instance: &Instance, entries: &[i32]) -> Option<usize> {
     let (n, k) = (instance.n, instance.k);
     let row = |row: usize| &entries[instance.before(row / k, row % k)..][..n];
     let rows = || (0..instance.rows()).map(row);
-    let from = 2 * k;
+    let from = k + instance.ends().count();
     if let Some(row) = rows().position(|row| row.iter().all(|&entry| entry < 0)) {
         return Some(from + row);
     }

@@ -198,6 +198,7 @@ fn inputs() -> [Input; 3] {
     let mut g = Generator::new(7);
     let (grid, grid_plan) = grid_walk(&mut g, 4, 4, 8);
     let (largest, largest_plan) = g.walk(64, 16, 100, 32);
+    let largest = with_goals(&largest, &largest_plan);
     [
         Input {
             name: "pair",
@@ -218,6 +219,13 @@ fn inputs() -> [Input; 3] {
             plan: largest_plan,
         },
     ]
+}
+
+/// The instance with a goal for every agent: where the plan takes it.
+fn with_goals(instance: &[u8], plan: &[u8]) -> Vec<u8> {
+    let mut parts = Parts::of(instance);
+    parts.goals = plan[plan.len() - parts.k()..].to_vec();
+    parts.bytes()
 }
 
 /// Maps of 64 vertices for the floor, each with 16 agents: their starts are the first vertices and their goals the last,
@@ -341,6 +349,7 @@ fn waiting(input: &Input) -> Input {
     let [n, k] = [0, 1].map(|size| usize::from(input.instance[size]));
     let m = input.m as usize;
     let (instance, plan) = Generator::new(7).waiting_walk(n, k, 100, m);
+    let instance = with_goals(&instance, &plan);
     let steps = plan.iter().zip(&plan[k..]);
     let moves = steps.filter(|(v, w)| v != w).count();
     let cost = plain::cost(&instance, input.m, &plan);
@@ -618,10 +627,9 @@ fn main() {
         eprintln!("usage: benchmark PROGRAM BEST_TEXT FORMULA_TEXT [NOW BEFORE]");
         std::process::exit(2);
     };
-    let rows = match &beside[..] {
-        [now, before] => before::agree(now, before),
-        _ => Vec::new(),
-    };
+    if let [now, before] = &beside[..] {
+        before::agree(now, before);
+    }
     let compared = compare_calls(CASES);
     compare_program(&programs[1], PROGRAM_CASES);
     println!(
@@ -677,6 +685,6 @@ fn main() {
         missed => println!("\ntargets missed: {missed}"),
     }
     if let [now, before] = &beside[..] {
-        before::compare(now, before, &rows);
+        before::compare(now, before);
     }
 }

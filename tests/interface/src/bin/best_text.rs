@@ -99,13 +99,14 @@ fn print_clauses(instance: &Instance, printer: &mut Printer) -> io::Result<()> {
     // Row t·k + a is agent a at time t.
     let of_row = |row: usize| (row / k, row % k);
 
-    for (t, vertices) in [(0, instance.starts), (m, instance.goals)] {
-        for (a, &v) in vertices.iter().enumerate() {
-            printer.gather(|lines| {
-                lines.put(x(t, a)[usize::from(v)]);
-                lines.put(END);
-            })?;
-        }
+    let starts = instance.starts.iter().copied().enumerate();
+    let starts = starts.map(|(a, v)| (0, a, v));
+    let ends = instance.ends().map(|(a, v)| (m, a, v));
+    for (t, a, v) in starts.chain(ends) {
+        printer.gather(|lines| {
+            lines.put(x(t, a)[usize::from(v)]);
+            lines.put(END);
+        })?;
     }
     for (t, a) in (0..rows).map(of_row) {
         printer.gather(|lines| {

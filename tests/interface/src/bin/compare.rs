@@ -1,21 +1,24 @@
 //! Compares the library with the independent program, through the C interface.
 //!
 //! compare [SEED [COUNT [FIRST]]]: texts, plans, maps and sizes with known answers, every pair of a block, two faults of a
-//! valuation at once, every small instance, the largest one and COUNT random cases; with FIRST only COUNT random cases
-//! from that one on.
+//! valuation at once, instances with free agents beside the same ones with goals, every small instance, the largest one
+//! and COUNT random cases; with FIRST only COUNT random cases from that one on.
 
 #![forbid(unsafe_code)]
 
+use independent::calls;
 use independent::costs::{self, Told};
 use independent::floors;
+use independent::free;
 use independent::output::{damaged, output, padded, some_output, some_text, worked, WORKED};
 use independent::plain;
-use independent::questions::{ASKED, NUMBERS};
-use independent::sample::Generator;
+use independent::questions::{Handed, Item, ASKED, NUMBERS};
 use independent::sample::{all_edges, grid_edges, instance_bytes, largest_instance, path_edges};
+use independent::sample::{refused_twice, Generator};
 use independent::sizes;
-use independent::{Answer, Size, LONGEST_TEXT};
+use independent::{is_free, Answer, Size, LONGEST_TEXT, NO_GOAL};
 use interface::input::*;
+use std::collections::BTreeMap;
 use std::fmt::Debug;
 use std::hint::black_box;
 use std::time::Instant;
@@ -42,6 +45,10 @@ const FLOOR: usize = 6;
 const PRUNED: usize = 7;
 const SIZE: usize = 8;
 const PRUNED_SIZE: usize = 9;
+
+/// The part whose answers must tell programs that are wrong about free agents.
+const FREE: &str = "free";
+const FREE_CASES: usize = 1000;
 
 type Writer<A> = fn(&[u8], u64, &mut [i32]) -> A;
 
@@ -110,17 +117,28 @@ impl From<Size> for Said {
 /// What lent slices hold before a call; no call writes such a value.
 trait Pattern: Copy + PartialEq + Debug {
     fn pattern(index: usize) -> Self;
+
+    /// What `calls` lends: words, and a plan's bytes. This slice is the one or the other.
+    fn lent(slice: &[Self]) -> (Vec<i32>, Vec<u8>);
 }
 
 impl Pattern for i32 {
     fn pattern(index: usize) -> i32 {
         0x5A00_0000 + (index & 0xFF_FFFF) as i32
     }
+
+    fn lent(slice: &[i32]) -> (Vec<i32>, Vec<u8>) {
+        (slice.to_vec(), Vec::new())
+    }
 }
 
 impl Pattern for u8 {
     fn pattern(index: usize) -> u8 {
         0x80 | (index as u8).wrapping_mul(37)
+    }
+
+    fn lent(slice: &[u8]) -> (Vec<i32>, Vec<u8>) {
+        (Vec::new(), slice.to_vec())
     }
 }
 
@@ -177,6 +195,8 @@ struct Run {
     told_floors: floors::Told,
     /// What sizes and writers' answers tell from wrong ones.
     told_sizes: sizes::Told,
+    /// What answers tell from those of programs that are wrong about free agents.
+    told_free: free::Told,
     /// Accepted plans and valuations that came back as they were.
     round_trips: u64,
 }
@@ -266,7 +286,37 @@ impl Run {
         }
         self.hits[asked.call][number] += 1;
         left.truncate(lent.end);
-        (answer, left.split_off(lent.start))
+        let left = left.split_off(lent.start);
+        if self.part == FREE {
+            self.tell_free(asked, answer, &left);
+        }
+        (answer, left)
+    }
+
+    /// What an answer and the slice left tell from programs that are wrong about free agents.
+    fn tell_free<T: Pattern>(&mut self, asked: &Asked, answer: Said, left: &[T]) {
+        let handed = Handed {
+            instance: asked.instance,
+            horizon: asked.horizon,
+            clause: asked.clause,
+            plan: asked.plan.unwrap_or(&[]),
+            entries: asked.entries.unwrap_or(&[]),
+            text: asked.text.unwrap_or(&[]),
+            lent: left.len(),
+            pruned: matches!(asked.call, PRUNED | PRUNED_SIZE),
+        };
+        let before: Vec<T> = (self.before..).map(T::pattern).take(left.len()).collect();
+        let again = |instance: &[u8]| {
+            let (words, plan) = T::lent(&before);
+            calls::say(asked.call, instance, &handed, words, plan)
+        };
+        let (words, plan) = T::lent(left);
+        let said = calls::Said {
+            answer: answer.size(),
+            words,
+            plan,
+        };
+        self.told_free.add(asked.call, &handed, &said, again);
     }
 
     /// Both size calls: they refuse alike, or the pruned formula is longer by clauses of two words.
@@ -842,6 +892,317 @@ impl Run {
         }
     }
 
+    /// Instances with free agents: with known answers, refused ones, and drawn ones beside the same with goals. Gives how
+    /// many plans passed because agents were free.
+    fn free(&mut self, g: &mut Generator) -> usize {
+        self.part = FREE;
+        self.case = 0;
+        for worked in free::worked() {
+            self.next_case();
+            self.floor(&worked.instance);
+            self.formula(&worked.instance, worked.m, true);
+            self.pruned(&worked.instance, worked.m);
+            for plan in worked.plans {
+                self.next_case();
+                self.worked_plan(&worked.instance, worked.m, plan);
+            }
+        }
+        for (instance, m, [first, _]) in refused_twice() {
+            self.next_case();
+            self.refused(&instance, m, first);
+        }
+        let mut passed = 0;
+        for _ in 0..FREE_CASES {
+            self.next_case();
+            passed += self.freed_pair(g);
+        }
+        assert!(passed > 0, "no plan passes because agents are free");
+        passed
+    }
+
+    fn next_case(&mut self) {
+        self.case += 1;
+        self.before = 1 + self.case as usize % 16;
+    }
+
+    /// A plan with the plan check's answer, and the decoder's for its valuation; encoder and reader too.
+    fn worked_plan(
+        &mut self,
+        instance: &[u8],
+        m: u64,
+        &(plan, checked, decoded): &(&[u8], Item, Item),
+    ) {
+        let [n, k] = [0, 1].map(|size| usize::from(instance[size]));
+        let says = |(number, second): Item| Said::new(number, second, 0);
+        let count = n * plan.len();
+        let encoded = match checked {
+            (0, _) => (0, count as u64),
+            refused => refused,
+        };
+        let right = valuation(n, k, plan);
+        assert_eq!(self.check(instance, m, plan), says(checked));
+        let (answer, entries) = self.encode(instance, m, plan, count);
+        assert_eq!(answer, says(encoded));
+        assert!(encoded.0 != 0 || entries == right);
+        let (answer, bytes) = self.decode(instance, m, &right, plan.len());
+        assert_eq!(answer, says(decoded));
+        assert!(decoded.0 != 0 || bytes == plan);
+        let (answer, entries) = self.read(instance, m, &output(&right, 78), count);
+        assert_eq!(answer, says((0, count as u64)));
+        assert!(entries == right);
+    }
+
+    /// An instance that every call refuses so, by a question before the tenth.
+    fn refused(&mut self, instance: &[u8], m: u64, (number, place): Item) {
+        let expected = Said::new(number, place, 0);
+        let mut answers = self.sizes(instance, m).to_vec();
+        answers.extend([
+            self.write(WRITER, instance, m, 4).0,
+            self.write(PRUNED, instance, m, 4).0,
+            self.clause(instance, m, 0, 4).0,
+            self.check(instance, m, &[0]),
+            self.decode(instance, m, &[1], 4).0,
+            self.encode(instance, m, &[0], 4).0,
+            self.read(instance, m, b"s UNKNOWN", 4).0,
+            self.floor(instance),
+        ]);
+        assert!(answers.iter().all(|&answer| answer == expected));
+    }
+
+    /// An instance with goals for all agents, where a plan takes them, and the same with some agents free. What must hold
+    /// of the two needs no second program. Gives how many plans passed for the second alone.
+    fn freed_pair(&mut self, g: &mut Generator) -> usize {
+        let most = [6, 6, 6, 6, 20][g.below(5)];
+        let n = 1 + g.below(most);
+        let most = [4, 16][g.below(2)];
+        let k = 1 + g.below(n.min(most));
+        let m = g.below(4);
+        let percent = [0, 40, 60, 80, 100][g.below(5)];
+        let (instance, plan) = match g.below(2) {
+            0 => g.walk(n, k, percent, m),
+            _ => g.waiting_walk(n, k, percent, m),
+        };
+        let mut all = Parts::of(&instance);
+        all.goals = plan[m * k..].to_vec();
+        let mut some = all.clone();
+        while some.free().is_empty() {
+            g.free_some(&mut some.goals);
+        }
+        let pair = Freed {
+            m: m as u64,
+            all: all.bytes(),
+            some: some.bytes(),
+            parts: some,
+        };
+        self.freed_formula(g, &pair);
+        self.freed_family_h(&pair);
+        self.freed_plan(&pair, &plan, true);
+        self.freed_entries(&pair, &valuation(n, k, &plan), true);
+        let mut passed = usize::from(self.other_goals(g, &pair, &plan));
+        for _ in 0..4 {
+            let damaged = some_plan(g, &all, m, &plan);
+            passed += usize::from(self.freed_plan(&pair, &damaged, false));
+            self.freed_entries(&pair, &some_entries(g, &all, m, &plan), false);
+        }
+        let damaged = [0; 4].map(|_| some_plan(g, &all, m, &plan));
+        self.all_free(&all, m as u64, &plan, &damaged);
+        passed
+    }
+
+    /// The clauses of B for agents that are free now are gone, the other ones have moved up, and both sizes say so.
+    fn freed_formula(&mut self, g: &mut Generator, pair: &Freed) {
+        let (m, k, free) = (pair.m, pair.parts.k(), pair.parts.free().len());
+        let asked = |call: usize| Asked {
+            call,
+            instance: &pair.some,
+            horizon: m,
+            ..Asked::default()
+        };
+        let [size, _] = self.sizes(&pair.all, m);
+        let [cut, _] = self.sizes(&pair.some, m);
+        let less = Said::new(0, size.second - 2 * free as u64, size.clauses - free as u64);
+        if cut != less {
+            self.fail(&asked(SIZE), &format!("{cut:?} beside {size:?}"));
+        }
+        let (_, all) = self.write(WRITER, &pair.all, m, size.second as usize);
+        let (_, some) = self.write(WRITER, &pair.some, m, cut.second as usize);
+        // A has 2 words for each agent, and so had B.
+        let mut expected = all[..2 * k].to_vec();
+        for a in pair.parts.bound() {
+            expected.extend(&all[2 * (k + a)..][..2]);
+        }
+        expected.extend(&all[4 * k..]);
+        if some != expected {
+            self.fail(&asked(WRITER), "not the words without those clauses");
+        }
+        // Every clause, or of a long formula the first ones and some others.
+        let first = size.clauses.min(200);
+        let others = match size.clauses - first {
+            0 => 0,
+            _ => 20,
+        };
+        let others = (0..others).map(|_| g.below(size.clauses as usize) as u64);
+        for number in (0..first).chain(others) {
+            let (answer, words) = self.clause(&pair.all, m, number, 66);
+            let Some(to) = pair.moved(number) else {
+                continue;
+            };
+            let same = self.clause(&pair.some, m, to, 66) == (answer, words);
+            if answer.number != 0 || !same {
+                self.fail(&asked(CLAUSE), &format!("not clause {number} at {to}"));
+            }
+        }
+        let (beyond, _) = self.clause(&pair.some, m, cut.clauses, 66);
+        if beyond != Said::new(11, cut.clauses, 0) {
+            self.fail(&asked(CLAUSE), &format!("{beyond:?} beside {cut:?}"));
+        }
+    }
+
+    /// Family H is the same of agents with a goal, and of a free one what its steps from the start cannot reach.
+    fn freed_family_h(&mut self, pair: &Freed) {
+        let n = pair.parts.n;
+        let [all, some] = [&pair.all, &pair.some].map(|instance| self.family_h(instance, pair.m));
+        for a in 0..pair.parts.k() {
+            let of = |h: &[i32]| -> Vec<(usize, usize)> {
+                let all = h.iter();
+                let all = all.map(|x| plain::time_agent_vertex(n, pair.m as usize, -x));
+                let own = all.filter(|x| x.1 == a);
+                own.map(|(t, _, v)| (t, v)).collect()
+            };
+            let expected = match pair.parts.is_free(a) {
+                true => out_of_reach(&pair.parts, a, pair.m as usize),
+                false => of(&all),
+            };
+            if of(&some) != expected {
+                let asked = Asked {
+                    call: PRUNED,
+                    instance: &pair.some,
+                    horizon: pair.m,
+                    ..Asked::default()
+                };
+                self.fail(&asked, &format!("family H of agent {a} is {:?}", of(&some)));
+            }
+        }
+    }
+
+    /// The literals of family H.
+    fn family_h(&mut self, instance: &[u8], m: u64) -> Vec<i32> {
+        let [first, needed] = self.sizes(instance, m).map(|size| size.second as usize);
+        let (_, words) = self.write(PRUNED, instance, m, needed);
+        words[first..].iter().step_by(2).copied().collect()
+    }
+
+    /// A plan gets the same answer, and leads to the same entries and back, unless one that is free now is not where its
+    /// goal was: then it passes, or an agent behind it is at fault. True where it passes for the second alone.
+    fn freed_plan(&mut self, pair: &Freed, plan: &[u8], passes: bool) -> bool {
+        let (m, k) = (pair.m, pair.parts.k());
+        let count = pair.parts.n * k * (m as usize + 1);
+        let all = self.check(&pair.all, m, plan);
+        let some = self.check(&pair.some, m, plan);
+        let is_free = |place: u64| pair.parts.is_free(place as usize % k);
+        let right = match all.number {
+            22 if is_free(all.second) => match some.number {
+                22 => some.second > all.second && !is_free(some.second),
+                number => number == 0,
+            },
+            _ => some == all && (!passes || all.number == 0),
+        };
+        let asked = Asked {
+            call: CHECK,
+            instance: &pair.some,
+            horizon: m,
+            plan: Some(plan),
+            ..Asked::default()
+        };
+        if !right {
+            self.fail(&asked, &format!("{some:?}, with all goals {all:?}"));
+        }
+        self.plan(&pair.some, m, plan, count);
+        if all.number == 0 {
+            let encoded = self.encode(&pair.all, m, plan, count);
+            if self.encode(&pair.some, m, plan, count) != encoded {
+                let asked = Asked {
+                    call: ENCODER,
+                    ..asked
+                };
+                self.fail(&asked, "other entries than with all goals");
+            }
+        }
+        all.number != 0 && some.number == 0
+    }
+
+    /// Entries get the same answer and lead to the same plan, but that 24 names a clause where it is now; where it is gone,
+    /// a later one or none is at fault.
+    fn freed_entries(&mut self, pair: &Freed, entries: &[i32], satisfy: bool) {
+        let rows = pair.parts.k() * (pair.m as usize + 1);
+        let (all, plan) = self.decode(&pair.all, pair.m, entries, rows);
+        let (some, other) = self.decode(&pair.some, pair.m, entries, rows);
+        let right = match all.number {
+            24 => match pair.moved(all.second) {
+                Some(to) => some == Said::new(24, to, 0),
+                None => {
+                    let later = some.number == 24 && some.second >= pair.before(all.second);
+                    some.number == 0 || later
+                }
+            },
+            _ => (&some, &other) == (&all, &plan) && (!satisfy || all.number == 0),
+        };
+        if !right {
+            let asked = Asked {
+                call: DECODER,
+                instance: &pair.some,
+                horizon: pair.m,
+                entries: Some(entries),
+                ..Asked::default()
+            };
+            self.fail(&asked, &format!("{some:?}, with all goals {all:?}"));
+        }
+    }
+
+    /// The plan where those that are free now have other goals: 22 names the first that is not at its own. True if there
+    /// is one; with free agents the plan passes.
+    fn other_goals(&mut self, g: &mut Generator, pair: &Freed, plan: &[u8]) -> bool {
+        let mut parts = pair.parts.clone();
+        let goals = parts.goals.clone();
+        let mut open: Vec<u8> = (0..parts.n as u8).filter(|v| !goals.contains(v)).collect();
+        g.shuffle(&mut open);
+        for (a, v) in parts.free().into_iter().zip(open) {
+            parts.goals[a] = v;
+        }
+        let last = plan.len() - parts.k();
+        let away = (0..parts.k()).find(|&a| plan[last + a] != parts.goals[a]);
+        let answer = self.check(&parts.bytes(), pair.m, plan);
+        match away {
+            Some(a) => assert_eq!(answer, Said::new(22, (last + a) as u64, 0)),
+            None => assert_eq!(answer.number, 0),
+        }
+        self.plan(&parts.bytes(), pair.m, plan, parts.n * plan.len());
+        away.is_some()
+    }
+
+    /// All agents are free: the floor is 0, B is empty, no plan gets 22, and one that passes does so too, at the same cost,
+    /// where the goals are those that it leads to.
+    fn all_free(&mut self, parts: &Parts, m: u64, plan: &[u8], damaged: &[Vec<u8>]) {
+        let none = freed(parts, |_| true).bytes();
+        let (n, k) = (parts.n, parts.k());
+        assert_eq!(self.floor(&none), Said::new(0, 0, 0));
+        let (answer, words) = self.clause(&none, m, k as u64, n + 1);
+        assert_eq!(answer, Said::new(0, n as u64 + 1, 0));
+        assert!(words[..n].iter().eq(&(1..=n as i32).collect::<Vec<_>>()));
+        self.pruned(&none, m);
+        assert_eq!(self.check(&none, m, plan).number, 0);
+        for plan in damaged {
+            let checked = self.check(&none, m, plan);
+            assert_ne!(checked.number, 22);
+            self.plan(&none, m, plan, n * k * (m as usize + 1));
+            if checked.number == 0 {
+                let mut reached = parts.clone();
+                reached.goals = plan[plan.len() - k..].to_vec();
+                assert_eq!(self.check(&reached.bytes(), m, plan), checked);
+            }
+        }
+    }
+
     /// The formula in an exact slice and every clause in its own, with `short` also in slices too short; the clauses
     /// must make the formula.
     fn formula(&mut self, instance: &[u8], m: u64, short: bool) {
@@ -879,7 +1240,7 @@ impl Run {
         self.clause(instance, m, u64::MAX, 66);
     }
 
-    /// All graphs of up to 4 vertices, up to 2 agents, m up to 2.
+    /// All graphs of up to 4 vertices, up to 2 agents, free ones too, m up to 2.
     fn small(&mut self) {
         self.part = "small";
         self.case = 0;
@@ -892,11 +1253,11 @@ impl Run {
                     .map(|j| possible[j])
                     .collect();
                 for k in 1..=n.min(2) {
-                    for starts in rows(n, k).iter().filter(|row| k == 1 || row[0] != row[1]) {
-                        for goals in rows(n, k).iter().filter(|row| k == 1 || row[0] != row[1]) {
+                    for starts in rows(n, k).iter().filter(|row| differ(row)) {
+                        for goals in goal_rows(n, k) {
                             self.case += 1;
                             self.before = 1 + self.case as usize % 16;
-                            self.small_instance(n, &edges, starts, goals);
+                            self.small_instance(n, &edges, starts, &goals);
                         }
                     }
                 }
@@ -929,7 +1290,8 @@ impl Run {
             for plan in &plans {
                 self.plan(&instance, horizon, plan, count);
                 // Only families E to G can be at fault.
-                if plan[m * k..] == *goals {
+                let ends = plan[m * k..].iter().zip(goals);
+                if ends.clone().all(|(v, &goal)| is_free(goal) || *v == goal) {
                     let entries = valuation(n, k, plan);
                     self.entries(&instance, horizon, &entries, k * (m + 1));
                 }
@@ -954,19 +1316,25 @@ impl Run {
         self.write(PRUNED, &instance, 33, 4);
     }
 
-    /// n 64, k 16, 2016 edges, m 32.
+    /// n 64, k 16, 2016 edges, m 32; as drawn, with all goals, with every second agent free, and with all.
     fn largest(&mut self, g: &mut Generator) {
         self.part = "largest";
         self.case = 0;
         self.before = 3;
         let m = 32;
         let (instance, plan) = g.walk(64, 16, 100, m);
-        for instance in [&instance, &largest_instance()] {
+        let all = Parts::of(&largest_instance());
+        let half = freed(&all, |a| a % 2 == 1).bytes();
+        let none = freed(&all, |_| true).bytes();
+        for instance in [&instance, &all.bytes(), &half, &none] {
             self.case += 1;
+            let free = Parts::of(instance).free().len() as u64;
             let sizes = self.sizes(instance, 32);
-            // At times 0 and 32 each agent can be at one vertex only.
-            let formula = Said::new(0, 7_625_296, 1_842_736);
-            let pruned = Said::new(0, 7_625_296 + 4_032, 1_842_736 + 2_016);
+            let (words, clauses) = (7_625_296 - 2 * free, 1_842_736 - free);
+            let formula = Said::new(0, words, clauses);
+            // At time 0 each agent can be at one vertex only, at time 32 each that has a goal.
+            let h = 16 * 63 + (16 - free) * 63;
+            let pruned = Said::new(0, words + 2 * h, clauses + h);
             assert_eq!(sizes, [formula, pruned]);
             let [needed, pruned] = sizes.map(|size| size.second as usize);
             self.write(WRITER, instance, 32, needed - 1);
@@ -977,7 +1345,8 @@ impl Run {
             let mut ends = Vec::new();
             let mut from = 0;
             for count in Parts::of(instance).clause_counts(m) {
-                ends.extend([from, from + 1, from + count - 1]);
+                // Family B may be empty.
+                ends.extend([from, from + 1, (from + count).saturating_sub(1)]);
                 from += count;
             }
             ends.extend([from, from + 1, u64::MAX]);
@@ -1002,11 +1371,20 @@ impl Run {
         self.plan(&instance, 32, &plan, count);
         self.plan(&instance, 32, &plan, count - 1);
         self.plan(&instance, 32, &plan, count + 7);
-        for _ in 0..60 {
-            let damaged = some_plan(g, &parts, m, &plan);
-            self.plan(&instance, 32, &damaged, count);
-            let entries = some_entries(g, &parts, m, &plan);
-            self.entries(&instance, 32, &entries, 16 * 33 + g.below(3));
+        // Goals as drawn, where the plan ends, there but for every second agent, and none.
+        let mut ends = parts.clone();
+        ends.goals = plan[plan.len() - 16..].to_vec();
+        let half = freed(&ends, |a| a % 2 == 0);
+        let none = freed(&ends, |_| true);
+        for parts in [parts, ends, half, none] {
+            let instance = parts.bytes();
+            self.plan(&instance, 32, &plan, count);
+            for _ in 0..30 {
+                let damaged = some_plan(g, &parts, m, &plan);
+                self.plan(&instance, 32, &damaged, count);
+                let entries = some_entries(g, &parts, m, &plan);
+                self.entries(&instance, 32, &entries, 16 * 33 + g.below(3));
+            }
         }
         self.longest(g, &instance, &valuation(64, 16, &plan));
     }
@@ -1254,9 +1632,70 @@ impl Run {
             println!("{answers:>8}  {name}");
             complete &= answers > 0;
         }
+        println!("\n{:>8}  tell a program wrong about free agents", "answers");
+        let mut told: BTreeMap<&str, Vec<(usize, u64)>> = BTreeMap::new();
+        for (name, call, answers) in self.told_free.times() {
+            told.entry(name).or_default().push((call, answers));
+        }
+        for (name, calls) in told {
+            let answers: u64 = calls.iter().map(|call| call.1).sum();
+            println!("{answers:>8}  {name}");
+            let never = calls.iter().filter(|call| call.1 == 0);
+            let never: Vec<&str> = never.map(|call| NAMES[call.0]).collect();
+            if !never.is_empty() {
+                println!("{:>8}  by {}", "NEVER", never.join(", "));
+                complete = false;
+            }
+        }
         println!("\nround trips: {}", self.round_trips);
         complete
     }
+}
+
+/// An instance with goals for all agents, and the same with some agents free, which the parts are of.
+struct Freed {
+    m: u64,
+    all: Vec<u8>,
+    some: Vec<u8>,
+    parts: Parts,
+}
+
+impl Freed {
+    /// Where this clause of the instance with all goals is in the other; none where it is gone.
+    fn moved(&self, number: u64) -> Option<u64> {
+        let k = self.parts.k() as u64;
+        let gone = (k..2 * k).contains(&number) && self.parts.is_free((number - k) as usize);
+        (!gone).then(|| self.before(number))
+    }
+
+    /// How many clauses of the other instance stand before this one of the instance with all goals.
+    fn before(&self, number: u64) -> u64 {
+        let k = self.parts.k() as u64;
+        let free = self.parts.free().into_iter();
+        number - free.filter(|&a| k + (a as u64) < number).count() as u64
+    }
+}
+
+/// The times and vertices at which the agent cannot be: as many steps from its start do not lead there.
+fn out_of_reach(parts: &Parts, a: usize, m: usize) -> Vec<(usize, usize)> {
+    let mut reached = vec![parts.starts[a]];
+    let mut out = Vec::new();
+    for t in 0..=m {
+        let others = (0..parts.n).filter(|&v| !reached.contains(&(v as u8)));
+        out.extend(others.map(|v| (t, v)));
+        let near = |&v: &u8| reached.iter().any(|&w| v == w || parts.has_edge(v, w));
+        reached = (0..parts.n as u8).filter(near).collect();
+    }
+    out
+}
+
+/// The same instance, in which these agents have no goal.
+fn freed(parts: &Parts, chosen: impl Fn(usize) -> bool) -> Parts {
+    let mut parts = parts.clone();
+    for a in (0..parts.k()).filter(|&a| chosen(a)) {
+        parts.goals[a] = NO_GOAL;
+    }
+    parts
 }
 
 /// The plan, if a valuation can name it; else one in which all agents stay.
@@ -1291,6 +1730,19 @@ fn rows(n: usize, k: usize) -> Vec<Vec<u8>> {
             .flat_map(|v| (0..n).map(move |w| vec![v, w]))
             .collect()
     }
+}
+
+/// All goals of `k` agents, 1 or 2: vertices below `n` that differ, and none.
+fn goal_rows(n: usize, k: usize) -> Vec<Vec<u8>> {
+    let goal = |v: u8| if usize::from(v) < n { v } else { NO_GOAL };
+    let all = rows(n + 1, k).into_iter();
+    let goals = all.map(|row| row.into_iter().map(goal).collect());
+    goals.filter(|row: &Vec<u8>| differ(row)).collect()
+}
+
+/// Are these vertices, of 1 or 2 agents, all different? Those without one are.
+fn differ(row: &[u8]) -> bool {
+    row.len() == 1 || is_free(row[0]) || row[0] != row[1]
 }
 
 /// n, k and m; most are small.
@@ -1350,6 +1802,7 @@ fn main() {
         told: Told::default(),
         told_floors: floors::Told::default(),
         told_sizes: sizes::Told::default(),
+        told_free: free::Told::default(),
         round_trips: 0,
     };
     println!("seed {seed}, {count} random cases");
@@ -1367,6 +1820,12 @@ fn main() {
         );
         run.two_faults();
         println!("two faults: {} ({:.1?})", run.case, clock.elapsed());
+        let passed = run.free(&mut Generator::new(mix(seed, u64::MAX - 2)));
+        println!(
+            "free agents: {}, {passed} plans pass by them alone ({:.1?})",
+            run.case,
+            clock.elapsed()
+        );
         run.small();
         println!("small instances: {} ({:.1?})", run.case, clock.elapsed());
         run.largest(&mut Generator::new(mix(seed, u64::MAX - 1)));
