@@ -48,7 +48,7 @@ typedef struct {
 runglaet_size runglaet_formula_size(const uint8_t *instance, size_t instance_len, uint64_t horizon);
 
 /* The formula, as words: each clause is its literals and then 0. Family B, the goals, has a clause only for agents with a
- * goal: for each free agent there are one clause and two words less, and all clauses behind B have lower numbers.
+ * goal: for each free agent there are one clause and two words fewer, and all clauses behind B have lower numbers.
  * Asks 1 to 10 and 12. Accepted: the words stand first in `words`, as many as runglaet_formula_size says, and `second` is
  * 0. Refusal 12 gives the words needed. So it accepts exactly where the size call does and `words` has that many places
  * or more. */

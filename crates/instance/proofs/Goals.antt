@@ -28,10 +28,6 @@ not-free x h = not-iff (free x) .1 (λ t. h (eqb-iff x noGoal .0 t))
 pub told-goal : (x : ℕ) {r : Bool} → r ≡ free x → r ≡ false → HasGoal x
 told-goal x e t z = fails e t (eqb-iff x noGoal .1 z)
 
--- a vertex of a map is a goal
-pub vertex-goal : (x n : ℕ) → x < n → n ≤ 64 → HasGoal x
-vertex-goal x n l h e = omega arith
-
 -- a byte x that is passed over where it may be free and is, and tested else; r is what the test of freedom answered
 module _ (optional : Bool) (x : ℕ) {r : Bool} (e : r ≡ free x) where
   abbrev over : Bool
