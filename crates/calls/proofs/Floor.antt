@@ -1,5 +1,5 @@
 -- The floor call: it asks what an instance with horizon 0 is asked, then 30; what its answers say of every plan.
-use mathlib.Core.Path.{_≡_, sym, _∙_, ap}
+use mathlib.Core.Path.{_≡_, refl, sym, _∙_, ap}
 use mathlib.Core.Logic.{⊎-elim}
 use mathlib.Core.List.{List, [], _∷_, _++_}
 use mathlib.Core.Bool.{true}
@@ -11,7 +11,7 @@ use Rattle.lists.proofs.Tests.{and-iff, not-iff, eqb-iff, ltb-iff}
 use Rattle.lists.proofs.Loops.{all-append}
 use Rattle.lists.proofs.Blocks.{place-lt}
 use Rattle.answers.specs.declared.Answer.{Answer}
-use Rattle.answers.specs.Answers.{ask, refuse, decide, clear}
+use Rattle.answers.specs.Answers.{ask, accept, refuse, decide, clear}
 use Rattle.answers.specs.Fault.{FirstFault}
 use Rattle.answers.proofs.Laws.{numbered, each-all, each-nil, clear-iff, ask-all, decide-iff, decide-count, decide-after, decide-each, decide-past, decide-skip}
 use Rattle.instance.specs.Instance.{instance, agents, goals, adjacent, Endpoints}
@@ -49,6 +49,15 @@ module _ (b : List ℕ) where
       let (x, y) = all-append clear (bytesQuestions b) (goalQuestion b ∷ []) .0 (decide-iff (floorQuestions b) _ numbered-floor .0 e) in
       (x, each-nil (agents b) (λ a. reachable (startToGoal (instance b 0) a)) _ .0 (clear-iff (goalQuestion b) .0 (and-iff (clear (goalQuestion b)) true .0 y .0)))
 
+  -- where 1 to 9 are answered yes and every goal can be reached, the floor is accepted
+  pub floor-accepts : T (all clear (bytesQuestions b)) → ((a : ℕ) → a < agents b → T (reachable (startToGoal (instance b 0) a)))
+      → floorAnswer b ≡ accept (floor (instance b 0))
+  unfolding floorAnswer
+  floor-accepts ok h =
+      let thirty : goalQuestion b ≡ [] = each-nil (agents b) (λ a. reachable (startToGoal (instance b 0) a)) _ .1 h in
+      let yes : T (all clear (floorQuestions b)) = all-append clear (bytesQuestions b) (goalQuestion b ∷ []) .1 (ok, and-iff (clear (goalQuestion b)) true .1 (clear-iff (goalQuestion b) .1 thirty, tt)) in
+      decide-count (floorQuestions b) _ yes
+
   -- where 1 to 9 are answered yes, so are 1 to 10 at horizon 0
   pub bytes-clear : T (all clear (bytesQuestions b)) → T (all clear (instanceQuestions b 0))
   unfolding instanceQuestions ask
@@ -72,11 +81,9 @@ module _ (b : List ℕ) where
     pub floor-below : (p : List ℕ) → Passes (instance b m) p → (floorAnswer b .number ≡ 0) × (floorAnswer b .second ≤ m)
     unfolding floorAnswer floor instance
     floor-below p w =
-        let thirty : goalQuestion b ≡ [] = each-nil (agents b) (λ a. reachable (startToGoal (instance b 0) a)) _ .1 (λ a l.
+        let e : floorAnswer b ≡ accept (floor (instance b 0)) = floor-accepts ok (λ a l.
         not-iff (eqb (startToGoal (instance b 0) a) unreachable) .1 (λ t. let e = eqb-iff (startToGoal (instance b 0) a) unreachable .0 t in let (x, y) = steps-known p w a l in omega arith)) in
-        let yes : T (all clear (floorQuestions b)) = all-append clear (bytesQuestions b) (goalQuestion b ∷ []) .1 (ok, and-iff (clear (goalQuestion b)) true .1 (clear-iff (goalQuestion b) .1 thirty, tt)) in
-        let e : floorAnswer b .number ≡ 0 = decide-iff (floorQuestions b) _ numbered-floor .1 yes in
-        (e, rw (floor-count e) (floor-most (instance b 0) m (λ a l. steps-known p w a l .0)))
+        rw e (refl, floor-most (instance b 0) m (λ a l. steps-known p w a l .0))
 
   -- ---- where 30 is answered, 1 to 9 were answered yes
   pub past-bytes : floorAnswer b .number ≡ 30 → T (all clear (bytesQuestions b))

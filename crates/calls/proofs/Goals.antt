@@ -58,7 +58,7 @@ module _ (I : Instance) (p : List ℕ) where
   unfolding front
   others-front =
       simp (and-iff, for-all, each-all)
-      ((λ i l f. tt), ((λ a l f. tt), (λ t l. ((λ a r f. tt), ((λ a r f. other-occupied _), ((λ a r f. tt), tt))))))
+      ((λ i l f. tt), ((λ a l f. tt), (λ t l. ((λ a r f. search other-occupied), ((λ a r f. search other-occupied), ((λ a r f. search other-occupied), tt))))))
 
   off-plan : (c : ℕ) → decide (planQuestions I p) c .number ≡ 22 → OffAt (decide (planQuestions I p) c)
   unfolding planQuestions front
@@ -75,18 +75,18 @@ module _ (b : List ℕ) (m : ℕ) (p : List ℕ) where
   abbrev J : Instance
   J = instance b m
 
+  -- whatever is asked between the instance and the plan
+  off-behind : (qs : List Question) (c : ℕ) → Others qs → decide (instanceQuestions b m ++ (qs ++ planQuestions J p)) c .number ≡ 22
+      → OffAt J p (decide (instanceQuestions b m ++ (qs ++ planQuestions J p)) c)
+  off-behind qs c h e =
+      let q = behind (instanceQuestions b m) (qs ++ planQuestions J p) c (others-instance b m) e in
+      let q′ = q ∙ behind qs (planQuestions J p) c h (sym (ap (λ (r : Answer). r .number) q) ∙ e) in
+      subst (OffAt J p) (sym q′) (off-plan J p c (sym (ap (λ (r : Answer). r .number) q′) ∙ e))
+
   pub off-check : checkAnswer b m p .number ≡ 22 → OffAt J p (checkAnswer b m p)
   unfolding checkAnswer
-  off-check e =
-      let rest = question13 J p ∷ planQuestions J p in
-      let q = behind (instanceQuestions b m) rest _ (others-instance b m) e in
-      let q′ = q ∙ behind (question13 J p ∷ []) (planQuestions J p) _ (simp (and-iff, ask-all) ((λ f. tt), tt)) (sym (ap (λ (r : Answer). r .number) q) ∙ e) in
-      subst (OffAt J p) (sym q′) (off-plan J p _ (sym (ap (λ (r : Answer). r .number) q′) ∙ e))
+  off-check e = off-behind (question13 J p ∷ []) _ (simp (and-iff, ask-all) ((λ f. tt), tt)) e
 
   pub off-encode : (room : ℕ) → encodeAnswer b m p room .number ≡ 22 → OffAt J p (encodeAnswer b m p room)
   unfolding encodeAnswer
-  off-encode room e =
-      let rest = question13 J p ∷ question16 (formula J) room ∷ planQuestions J p in
-      let q = behind (instanceQuestions b m) rest _ (others-instance b m) e in
-      let q′ = q ∙ behind (question13 J p ∷ question16 (formula J) room ∷ []) (planQuestions J p) _ (simp (and-iff, ask-all) ((λ f. tt), ((λ f. tt), tt))) (sym (ap (λ (r : Answer). r .number) q) ∙ e) in
-      subst (OffAt J p) (sym q′) (off-plan J p _ (sym (ap (λ (r : Answer). r .number) q′) ∙ e))
+  off-encode room e = off-behind (question13 J p ∷ question16 (formula J) room ∷ []) _ (simp (and-iff, ask-all) ((λ f. tt), ((λ f. tt), tt))) e

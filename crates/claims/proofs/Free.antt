@@ -9,21 +9,19 @@ use native.Mathlib.Omega.{arith}
 use lib.ListN.{length, getD, length-append}
 use lib.Seq.{getD-append-add}
 use borrow.Author.Tests.{eq-eqb}
-use lib.Dec.{T}
-use Rattle.lists.specs.Loop.{for, each, all, sum}
-use Rattle.lists.proofs.Tests.{or-iff, or-imp, and-iff, eqb-iff}
-use Rattle.lists.proofs.Loops.{for-ext, for-split, for-nil, all-append, each-for, each-when}
+use Rattle.lists.specs.Loop.{for, each, sum}
+use Rattle.lists.proofs.Tests.{or-iff, or-imp, eqb-iff}
+use Rattle.lists.proofs.Loops.{for-ext, for-split, for-nil, each-for, each-when}
 use Rattle.lists.proofs.Blocks.{for1-length}
 use Rattle.lists.proofs.Sums.{ind, sum-ext, sum-add, sum-const, when-count, for-at}
 use Rattle.answers.specs.declared.Answer.{Answer}
-use Rattle.answers.specs.Answers.{accept, clear}
-use Rattle.answers.proofs.Laws.{clear-iff, each-nil, decide-count}
+use Rattle.answers.specs.Answers.{accept}
 use Rattle.instance.specs.declared.Sizes.{Sizes}
 use Rattle.instance.specs.Instance.{Instance, noGoal, free, HasGoal, withGoal, goalCount, AllBound, AllFree, instance, agents, goalOf}
-use Rattle.instance.specs.Questions.{bytesQuestions, instanceAnswer}
+use Rattle.instance.specs.Questions.{instanceAnswer}
 use Rattle.instance.proofs.Goals.{goal-count, goal-count-below}
 use Rattle.instance.proofs.Instance.{instance-iff, goals-new, goals-counted}
-use Rattle.distances.specs.Distance.{reachable, startToGoal, floor}
+use Rattle.distances.specs.Distance.{startToGoal, floor}
 use Rattle.distances.proofs.Within.{floor-most}
 use Rattle.distances.proofs.Goals.{to-goal-free}
 use Rattle.formula.specs.Variables.{X}
@@ -34,7 +32,8 @@ use Rattle.formula.proofs.Blocks.{clauses-families}
 use Rattle.formula.proofs.Counts.{count-A, count-B}
 use Rattle.formula.proofs.Places.{goal-block, goal-getD}
 use Rattle.plan.specs.Plan.{planRow}
-use Rattle.calls.specs.Calls.{goalQuestion, floorQuestions, checkAnswer, encodeAnswer, floorAnswer}
+use Rattle.calls.specs.Calls.{checkAnswer, encodeAnswer, floorAnswer}
+use Rattle.calls.proofs.Floor.{floor-accepts}
 use Rattle.calls.proofs.Goals.{OffAt, off-check, off-encode}
 use Rattle.claims.specs.Free.{freeAgents, InFormula, OffGoal, Bound, Idle, Claim}
 use Rattle.claims.proofs.Distances.{bytes-ok}
@@ -126,12 +125,10 @@ module _ (b : List ℕ) (m : ℕ) where
     nothing a l = to-goal-free (goalOf b a) _ (eqb-iff (goalOf b a) noGoal .1 (none a l))
 
     floor-none : instanceAnswer b 0 .number ≡ 0 → floorAnswer b ≡ accept 0
-    unfolding floorAnswer instance
+    unfolding instance
     floor-none e =
-        let clear30 : goalQuestion b ≡ [] = each-nil (agents b) (λ a. reachable (startToGoal (instance b 0) a)) _ .1 (λ a l. rw (nothing a l) tt) in
-        let yes : T (all clear (floorQuestions b)) = all-append clear (bytesQuestions b) (goalQuestion b ∷ []) .1 (bytes-ok b 0 (instance-iff b 0 .0 e), and-iff (clear (goalQuestion b)) true .1 (clear-iff (goalQuestion b) .1 clear30, tt)) in
         let zero : floor (instance b 0) ≡ 0 = omega (arith, floor-most (instance b 0) 0 (λ a l. omega (arith, nothing a l))) in
-        decide-count (floorQuestions b) _ yes ∙ ap accept zero
+        floor-accepts b (bytes-ok b 0 (instance-iff b 0 .0 e)) (λ a l. rw (nothing a l) tt) ∙ ap accept zero
 
     idle : Idle b m
     unfolding B instance

@@ -3,13 +3,14 @@ use mathlib.Core.Path.{_≡_, refl, sym, _∙_, ap, subst}
 use mathlib.Core.Logic.{_↔_, by-cases}
 use mathlib.Core.List.{List, []}
 use mathlib.Core.Bool.{Bool, true, false, cond}
-use Prim.Native.Nat.{ℕ, zero, suc}
+use Prim.Native.Nat.{ℕ}
 use native.Mathlib.Decide.{ℕ-discrete}
 use native.Mathlib.Omega.{arith}
 use borrow.Author.Tests.{eq-eqb, ne-eqb}
 use lib.ListN.{getD, replicate}
 use lib.Dec.{T}
 use Rattle.lists.proofs.Tests.{eqb-iff, ltb-iff}
+use Rattle.lists.proofs.Slices.{getD-alike}
 use Rattle.instance.specs.Instance.{noGoal, free, HasGoal}
 use Rattle.distances.specs.Distance.{further, toGoal}
 use Rattle.distances.specs.Table.{cell, goalBy}
@@ -44,14 +45,9 @@ to-goal-ext goal other d e z h =
     ∙ ap (λ (x : ℕ). toGoal x e) z
 
 -- the row of a free agent has zeros
-alike : (n v x : ℕ) → getD (replicate n x) v x ≡ x
-alike zero v x = refl
-alike (suc n) zero x = refl
-alike (suc n) (suc v) x = alike n v x
-
 pub goal-by : (table : List (List ℕ)) (goals : List ℕ) (a v : ℕ) → goalBy table goals a v ≡ toGoal (getD goals a 0) (cell table (getD goals a 0) v)
 goal-by table goals a v = go (free (getD goals a 0))
   where
     go : (b : Bool) → getD (cond b (replicate 64 0) (getD table (getD goals a 0) [])) v 0 ≡ cond b 0 (cell table (getD goals a 0) v)
-    go true = alike 64 v 0
+    go true = getD-alike 64 v 0
     go false = refl

@@ -25,21 +25,21 @@ use Rattle.formula.proofs.Blocks.{family-flat}
 module _ (s : Sizes) (goal : ℕ → ℕ) where
   open Sizes s using (k, m)
 
-  abbrev atGoal : ℕ → List Clause
-  atGoal a = blockB s goal a
+  abbrev goalBlock : ℕ → List Clause
+  goalBlock a = blockB s goal a
 
-  pub goals-before : (a : ℕ) → length (for a atGoal) ≡ goalCount a goal
+  pub goals-before : (a : ℕ) → length (for a goalBlock) ≡ goalCount a goal
   goals-before a = goals-once goal a (λ i. X s m i (goal i) ∷ [])
 
-  pub goal-block : (a : ℕ) → HasGoal (goal a) → atGoal a ≡ (X s m a (goal a) ∷ []) ∷ []
+  pub goal-block : (a : ℕ) → HasGoal (goal a) → goalBlock a ≡ (X s m a (goal a) ∷ []) ∷ []
   goal-block a h = rw (ne-eqb (goal a) noGoal h)
 
   pub goal-getD : (a : ℕ) → a < k → HasGoal (goal a) → getD (B s goal) (goalCount a goal) [] ≡ X s m a (goal a) ∷ []
   unfolding B
   goal-getD a l h =
-      let one : 0 < length (atGoal a) = rw (goal-block a h) (omega arith) in
-      let e : goalCount a goal ≡ sum a (λ i. length (atGoal i)) + 0 = omega (arith, goals-before a, for-sum a atGoal) in
-      ap (λ (x : ℕ). getD (for k atGoal) x []) e ∙ for-at k atGoal [] a 0 l one ∙ ap (λ (c : List Clause). getD c 0 []) (goal-block a h)
+      let one : 0 < length (goalBlock a) = rw (goal-block a h) (omega arith) in
+      let e : goalCount a goal ≡ sum a (λ i. length (goalBlock i)) + 0 = omega (arith, goals-before a, for-sum a goalBlock) in
+      ap (λ (x : ℕ). getD (for k goalBlock) x []) e ∙ for-at k goalBlock [] a 0 l one ∙ ap (λ (c : List Clause). getD c 0 []) (goal-block a h)
 
 -- D and E: the pair v < w stands behind the pairs that begin below v
 module _ (n : ℕ) (¬x : ℕ → Literal) where

@@ -3,7 +3,7 @@ use mathlib.Core.Path.{_≡_, refl, sym, _∙_, ap}
 use mathlib.Core.Logic.{_≢_, by-cases}
 use mathlib.Core.List.{List, [], _∷_, _++_}
 use mathlib.Core.Bool.{Bool, true, false, not, _&&_, _||_, and-true, and-false}
-use Prim.Native.Nat.{ℕ, zero, suc, _+_, _-_, _*_, _≤_, _<_}
+use Prim.Native.Nat.{ℕ, suc, _+_, _-_, _*_, _≤_, _<_}
 use native.Mathlib.Decide.{ℕ-discrete, decLt}
 use native.Mathlib.Numerals.{add-one}
 use native.Mathlib.Omega.{arith}
@@ -14,7 +14,7 @@ use lib.Dec.{T, ltb, eqb}
 use Rattle.lists.specs.Loop.{all, every}
 use Rattle.lists.specs.Slice.{filled}
 use Rattle.lists.proofs.Tests.{and-iff, eqb-iff, leb-iff, every-iff}
-use Rattle.lists.proofs.Slices.{filled-set}
+use Rattle.lists.proofs.Slices.{getD-alike, filled-set}
 use Rattle.answers.specs.declared.Answer.{Answer}
 use Rattle.answers.specs.Answers.{Question, refuse, accept, decide, clear, ask, askEach}
 use Rattle.answers.specs.Fault.{FirstFault}
@@ -43,13 +43,8 @@ filled-more b l row from i er hs hl =
 abbrev pub Seen : (ℕ → ℕ) → ℕ → List Bool → Type 0
 Seen f a seen = (v : ℕ) → v < 64 → not (getD seen v false) ≡ every a (λ c. not (eqb (f c) v))
 
-unmarked : (n v : ℕ) → getD (replicate n false) v false ≡ false
-unmarked zero v = refl
-unmarked (suc n) zero = refl
-unmarked (suc n) (suc v) = unmarked n v
-
 pub seen-none : (f : ℕ → ℕ) → Seen f 0 (replicate 64 false)
-seen-none f v l = rw (unmarked 64 v)
+seen-none f v l = rw (getD-alike 64 v false)
 
 module _ (f : ℕ → ℕ) (a x : ℕ) (seen : List Bool) (e : x ≡ f a) (h : Seen f a seen) where
   pub seen-more : x < length seen → Seen f (a + 1) (set seen x true)

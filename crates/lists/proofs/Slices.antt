@@ -7,7 +7,7 @@ use native.Mathlib.Nat.{zero-add, le-refl, eq-or-lt-of-le, le-of-suc-le-suc}
 use native.Mathlib.Numerals.{add-one}
 use native.Mathlib.Omega.{arith}
 use borrow.Rule.Slice.PartMut.{putMid}
-use lib.ListN.{length, take, drop, set, length-set, length-append, length-take, length-drop, drop-of-length-le, take-append-drop}
+use lib.ListN.{length, getD, replicate, take, drop, set, length-set, length-append, length-take, length-drop, drop-of-length-le, take-append-drop}
 use lib.Seq.{drop-cons, set-at, take-at, drop-at, drop-drop, take-all, sets, sets-eq, take-append-seam, drop-append-seam}
 use lib.Arith.{le-zero}
 use Rattle.lists.specs.Loop.{for, each}
@@ -18,6 +18,12 @@ module _ {A : Type 0} where
   pub filled-nil : (s : List A) → filled [] s ≡ s
   unfolding filled
   filled-nil s = refl
+
+  -- a slice that holds one value throughout, and beyond its end by default
+  pub getD-alike : (n i : ℕ) (x : A) → getD (replicate n x) i x ≡ x
+  getD-alike zero i x = refl
+  getD-alike (suc n) zero x = refl
+  getD-alike (suc n) (suc i) x = getD-alike n i x
 
   -- what fits changes no length
   pub filled-length : (out s : List A) → length out ≤ length s → length (filled out s) ≡ length s

@@ -2,5 +2,6 @@ pub mod Laws
 pub mod Entries
 pub mod Bounds
 pub mod Truth
+pub mod Units
 pub mod Steps
 pub mod Families

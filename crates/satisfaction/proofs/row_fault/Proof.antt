@@ -12,7 +12,7 @@ use Rattle.satisfaction.specs.Rows.{row}
 use Rattle.formula.proofs.Blocks.{last}
 use Rattle.satisfaction.proofs.Bounds.{Products, products}
 use Rattle.satisfaction.proofs.Families.{size-A, size-B, size-C, size-D, size-E, size-F, size-G, places, inside, apart}
-use Rattle.satisfaction.proofs.Truth.{units, goal-units}
+use Rattle.satisfaction.proofs.Units.{units, goal-units}
 use Rattle.satisfaction.proofs.row_fault.Statement.{statement}
 use Rattle.satisfaction.proofs.row_fault.Tie as tie
 
