@@ -1,5 +1,5 @@
 #!/usr/bin/env python3
-"""Cases for the instance check, with answers worked out by hand from document 01's table of questions.
+"""Cases for the instance check, with answers worked out by hand from document 01's table of questions and document 02's question 31.
 
 Writes the input and the expected output of the test program crates/instance_runs.
 """
@@ -19,8 +19,8 @@ PATH = [(0, 1), (1, 2)]
 ALL_64 = [(v, w) for v in range(64) for w in range(v + 1, 64)]
 FULL = instance(64, 16, ALL_64, range(16), range(48, 64))
 
-# (horizon, instance bytes, number, place); an accepted instance answers 0 0
-CASES = [
+# under rule 1: (horizon, instance bytes, number, place); an accepted instance answers 0 0
+FIRST = [
     # accepted
     (1, PAIR, 0, 0),
     (0, instance(1, 1, [], [0], [0]), 0, 0),
@@ -96,15 +96,37 @@ CASES = [
     (LARGEST, FULL, 10, 0),
 ]
 
+# (horizon, rule, instance bytes, number, place)
+CASES = [(horizon, 1, data, number, place) for horizon, data, number, place in FIRST] + [
+    # rule 2 is a rule
+    (1, 2, PAIR, 0, 0),
+    (0, 2, instance(1, 1, [], [0], [0]), 0, 0),
+    (32, 2, FULL, 0, 0),
+    # 31: every other number is none, all 64 bits of it
+    (1, 0, PAIR, 31, 0),
+    (1, 3, PAIR, 31, 0),
+    (32, 3, FULL, 31, 0),
+    (1, 255, PAIR, 31, 0),
+    (1, 2**8 + 1, PAIR, 31, 0),
+    (1, 2**32 + 2, PAIR, 31, 0),
+    (1, LARGEST, PAIR, 31, 0),
+    # it is asked behind 10, and so behind 1 to 9
+    (33, 0, PAIR, 10, 0),
+    (33, 2, PAIR, 10, 0),
+    (LARGEST, LARGEST, FULL, 10, 0),
+    (1, 0, instance(3, 2, PATH, [0, 1], [2, 2]), 9, 11),
+    (1, 3, b"", 1, 0),
+]
+
 
 def main():
     here = os.path.dirname(os.path.abspath(__file__))
     crate = os.path.join(here, "..", "..", "crates", "instance_runs")
     with open(os.path.join(crate, "stdin"), "wb") as out:
-        for horizon, data, _, _ in CASES:
-            out.write(horizon.to_bytes(8, "little") + len(data).to_bytes(2, "little") + data)
+        for horizon, rule, data, _, _ in CASES:
+            out.write(horizon.to_bytes(8, "little") + rule.to_bytes(8, "little") + len(data).to_bytes(2, "little") + data)
     with open(os.path.join(crate, "stdout"), "w") as out:
-        for _, _, number, place in CASES:
+        for _, _, _, number, place in CASES:
             out.write(f"{number} {place}\n")
 
 

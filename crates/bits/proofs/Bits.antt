@@ -3,13 +3,13 @@ use mathlib.Core.Path.{_≡_, refl, sym, _∙_, ap, ap₂, subst}
 use mathlib.Core.Logic.{_≢_, ⊎-elim, by-cases}
 use mathlib.Core.List.{[], _∷_}
 use mathlib.Core.Bool.{Bool, true, false, not, cond, _&&_, _||_}
-use Prim.Native.Nat.{ℕ, zero, suc, _+_, _-_, _*_, _/_, _%_, _^_, _≤_, _<_, max}
+use Prim.Native.Nat.{ℕ, zero, suc, _+_, _-_, _*_, _/_, _%_, _^_, _≤_, _<_, min, max}
 use native.Mathlib.Nat.{add-zero, add-suc, add-comm, one-mul, zero-mul, div-self, div-eq-of-lt, div-one, pow-suc, mul-div-cancel-left, mod-eq-of-lt, eq-or-lt-of-le, le-of-suc-le-suc, not-suc-le-zero}
-use native.Mathlib.Numerals.{one-add}
+use native.Mathlib.Numerals.{one-add, add-one}
 use native.Mathlib.Decide.{decLt, ℕ-discrete}
 use native.Mathlib.Omega.{arith}
 use borrow.Author.Tests.{eqb-false, eq-eqb, ne-eqb, le-leb, lt-leb, lt-ltb, le-ltb}
-use lib.Bits.{bitOr, bitXor, or-shr, or-step, or-shifted, xor-shr, xor-step, xor-lt, differ}
+use lib.Bits.{bitAnd, bitOr, bitXor, and-shr, and-step, or-shr, or-step, or-shifted, xor-shr, xor-step, xor-lt, differ}
 use lib.Count.{ones, ones-cat}
 use lib.Dec.{leb, ltb, eqb}
 use lib.ListN.{length}
@@ -258,3 +258,19 @@ pub set-without : (x y w : ℕ) → set? (bitXor (bitOr x y) y) w ≡ set? x w &
 set-without x y w =
     rw (bit-xor, bit-or)
     (two-bits (λ a b. eqb (differ (max a b) b) 1 ≡ eqb a 1 && not (eqb b 1)) refl refl refl refl (bit x w) (bit y w) (bit-most x w) (bit-most y w))
+
+-- ---- the bits above one
+bit-and : (a b w : ℕ) → bit (bitAnd a b) w ≡ min (bit a w) (bit b w)
+unfolding bit
+bit-and a b w = rw (and-shr, and-step) (omega arith)
+
+set-and : (a b w : ℕ) → set? (bitAnd a b) w ≡ set? a w && set? b w
+set-and a b w =
+    rw bit-and (two-bits (λ a b. eqb (min a b) 1 ≡ eqb a 1 && eqb b 1) refl refl refl refl (bit a w) (bit b w) (bit-most a w) (bit-most b w))
+
+pub set-above : (x u w : ℕ) → x < 2 ^ 64 → set? (bitAnd (word 64 (leb (u + 1))) x) w ≡ ltb u w && set? x w
+set-above x u w h =
+    set-and (word 64 (leb (u + 1))) x w
+    ∙ by-cases (decLt w 64)
+    (λ l. rw (word-set 64 (leb (u + 1)) w l, add-one) refl)
+    (λ l. rw (bit-beyond x 64 w h (omega arith), and-false, and-false) refl)

@@ -2,21 +2,19 @@
 use mathlib.Core.Path.{_≡_, refl, sym, _∙_, ap, subst}
 use mathlib.Core.Logic.{by-cases}
 use mathlib.Core.Bool.{true, false}
-use mathlib.Core.List.{List, [], _∷_, _++_, append-nil}
+use mathlib.Core.List.{List, [], _++_, append-nil}
 use Prim.Native.Nat.{ℕ, zero, suc, _+_, _-_, _*_, _/_, _%_, _^_, _≤_, _<_}
 use native.Mathlib.Nat.{pow-suc, not-suc-le-zero}
 use native.Mathlib.Decide.{decLt}
 use native.Mathlib.Omega.{arith}
 use lib.Bits.{bitAnd, and-step, and-self, and-le-l}
 use lib.Count.{trailingZeros, under}
-use lib.Dec.{eqb}
-use lib.ListN.{set}
 use lib.Pow.{pow-mono}
-use Rattle.lists.specs.Loop.{for, when}
+use Rattle.lists.specs.Loop.{for}
 use Rattle.lists.proofs.Loops.{for-split, for-nil}
-use Rattle.lists.proofs.Slices.{Filling, filling-set}
+use Rattle.lists.proofs.Slices.{Filling}
 use Rattle.bits.specs.Bits.{bit, set?, Others}
-use Rattle.bits.proofs.Bits.{bit-beyond, bit-half, bit-first}
+use Rattle.bits.proofs.Bits.{bit-beyond, bit-half, bit-first, bit-zero}
 
 -- ---- the lowest bit
 pub tz-below : (d x u : ℕ) → u < trailingZeros d x → bit x u ≡ 0
@@ -85,7 +83,7 @@ clear-beyond (suc d) x u p h l = go (x % 2) refl u l (λ u q. clear-beyond d (x 
     go (suc r) e zero l more = absurd (not-suc-le-zero l)
     go (suc r) e (suc u) l more = ap (λ (y : ℕ). bit y (suc u)) (clear-odd x (omega arith)) ∙ bit-double _ u ∙ sym (bit-half x u)
 
--- ---- slices filled by the literals of the bits
+-- ---- turns that write nothing may be left out
 module _ {A : Type 0} (g : ℕ → List A) where
   pub skip-for : (i d : ℕ) → ((u : ℕ) → i ≤ u → u < i + d → g u ≡ []) → for (i + d) g ≡ for i g
   skip-for i d f =
@@ -114,54 +112,49 @@ pub record Left (x rest from : ℕ) : Type 0 where
 pub left-all : (x : ℕ) → x < 2 ^ 64 → Left x x 0
 left-all x h = record { fits = h; below = λ u l. absurd (not-suc-le-zero l); above = λ u l. refl }
 
-module _ {A : Type 0} (n x : ℕ) (f : ℕ → A) where
-  abbrev pub literal : ℕ → List A
-  literal w = when (set? x w) (f w ∷ [])
+module _ (n x : ℕ) (h : x < 2 ^ n) (rest from : ℕ) (e : Left x rest from) (p : 0 < rest) where
+  abbrev low : ℕ
+  low = trailingZeros 64 rest
 
-  module _ (h : x < 2 ^ n) (rest from : ℕ) (e : Left x rest from) (p : 0 < rest) where
-    abbrev low : ℕ
-    low = trailingZeros 64 rest
+  pub low-past : from ≤ trailingZeros 64 rest
+  low-past =
+      by-cases (decLt low from)
+      (λ l. absurd (let z : ⊥ = omega (arith, tz-set 64 rest p (e .fits), e .below low l) in z))
+      (λ l. omega arith)
 
-    pub low-past : from ≤ trailingZeros 64 rest
-    low-past =
-        by-cases (decLt low from)
-        (λ l. absurd (let z : ⊥ = omega (arith, tz-set 64 rest p (e .fits), e .below low l) in z))
-        (λ l. omega arith)
+  pub low-set : bit x (trailingZeros 64 rest) ≡ 1
+  low-set = sym (e .above low low-past) ∙ tz-set 64 rest p (e .fits)
 
-    pub low-set : bit x (trailingZeros 64 rest) ≡ 1
-    low-set = sym (e .above low low-past) ∙ tz-set 64 rest p (e .fits)
+  pub low-below : trailingZeros 64 rest < n
+  low-below = by-cases (decLt low n) (λ l. l) (λ l. absurd (let z : ⊥ = omega (arith, low-set, bit-beyond x n low h (omega arith)) in z))
 
-    pub low-below : trailingZeros 64 rest < n
-    low-below = by-cases (decLt low n) (λ l. l) (λ l. absurd (let z : ⊥ = omega (arith, low-set, bit-beyond x n low h (omega arith)) in z))
+  pub low-first : (u : ℕ) → from ≤ u → u < trailingZeros 64 rest → bit x u ≡ 0
+  low-first u a l = sym (e .above u a) ∙ tz-below 64 rest u l
 
-    pub low-first : (u : ℕ) → from ≤ u → u < trailingZeros 64 rest → bit x u ≡ 0
-    low-first u a l = sym (e .above u a) ∙ tz-below 64 rest u l
+  pub left-next : Left x (bitAnd rest (rest - 1)) (trailingZeros 64 rest + 1)
+  left-next =
+      record {
+        fits = omega (arith, and-le-l rest (rest - 1), e .fits);
+        below = λ u l. clear-upto 64 rest u p (e .fits) (omega arith);
+        above = λ u l. clear-beyond 64 rest u p (e .fits) (omega arith) ∙ e .above u (omega (arith, low-past));
+      }
 
-    none : (u : ℕ) → from ≤ u → u < from + (low - from) → literal u ≡ []
-    none u a l = ap (λ (b : ℕ). when (eqb b 1) (f u ∷ [])) (low-first u a (omega (arith, low-past)))
+-- a loop whose turn u writes g u, which is nothing where bit u is not set
+module _ {A : Type 0} {g : ℕ → List A} (n x : ℕ) (unset : (u : ℕ) → bit x u ≡ 0 → g u ≡ [])
+    {rest from at : ℕ} {s l : List A} (w : Filling g n s from at l) (e : Left x rest from) where
+  filling-to : (i : ℕ) → from ≤ i → i ≤ n → ((u : ℕ) → from ≤ u → u < i → bit x u ≡ 0) → Filling g n s i at l
+  filling-to i a b f =
+      let k : from + (i - from) ≡ i = omega arith in
+      subst (λ (j : ℕ). Filling g n s j at l) k (filling-skip g (i - from) w (omega arith) (λ u c d. unset u (f u c (omega arith))))
 
-    pub near-next : {at : ℕ} {s l : List A} → Filling literal n s from at l → Filling literal n s (trailingZeros 64 rest + 1) (at + 1) (set l at (f (trailingZeros 64 rest)))
-    near-next {at} {s} {l} w =
-        let k : from + (low - from) ≡ low = omega (arith, low-past) in
-        filling-set
-        (subst (λ (i : ℕ). Filling literal n s i at l) k (filling-skip literal (low - from) w (omega (arith, low-below, low-past)) none)) low-below
-        (f low) (ap (λ (b : ℕ). when (eqb b 1) (f low ∷ [])) low-set)
-
-    pub left-next : Left x (bitAnd rest (rest - 1)) (trailingZeros 64 rest + 1)
-    left-next =
-        record {
-          fits = omega (arith, and-le-l rest (rest - 1), e .fits);
-          below = λ u l. clear-upto 64 rest u p (e .fits) (omega arith);
-          above = λ u l. clear-beyond 64 rest u p (e .fits) (omega arith) ∙ e .above u (omega (arith, low-past));
-        }
+  -- the next turn is that of the lowest bit left
+  pub filling-low : x < 2 ^ n → 0 < rest → Filling g n s (trailingZeros 64 rest) at l
+  filling-low h p =
+      filling-to (trailingZeros 64 rest) (low-past n x h rest from e p) (omega (arith, low-below n x h rest from e p)) (low-first n x h rest from e p)
 
   -- nothing is left
-  pub near-end : {rest from at : ℕ} {s l : List A} → Filling literal n s from at l → Left x rest from → rest ≡ 0 → Filling literal n s n at l
-  near-end {rest} {from} {at} {s} {l} w e q =
-      let k : from + (n - from) ≡ n = omega (arith, w .within) in
-      subst (λ (i : ℕ). Filling literal n s i at l) k
-      (filling-skip literal (n - from) w (omega arith) (λ u a b.
-      ap (λ (b : ℕ). when (eqb b 1) (f u ∷ [])) (sym (e .above u a) ∙ ap (λ (r : ℕ). bit r u) q ∙ bit-beyond 0 0 u (omega arith) (omega arith))))
+  pub filling-end : rest ≡ 0 → Filling g n s n at l
+  filling-end q = filling-to n (w .within) (omega arith) (λ u a b. sym (e .above u a) ∙ ap (λ (r : ℕ). bit r u) q ∙ bit-zero u)
 
 -- ---- one turn over the bits that are not set: `gaps` has those of the other bits y of x from `from` on
 module _ {n x y : ℕ} (o : Others n x y) where
@@ -174,15 +167,15 @@ module _ {n x y : ℕ} (o : Others n x y) where
 
   module _ {gaps from : ℕ} (e : Left y gaps from) (p : 0 < gaps) where
     pub gap-past : from ≤ trailingZeros 64 gaps
-    gap-past = low-past n y (λ u. u) (o .fits) gaps from e p
+    gap-past = low-past n y (o .fits) gaps from e p
 
     pub gap-below : trailingZeros 64 gaps < n
-    gap-below = low-below n y (λ u. u) (o .fits) gaps from e p
+    gap-below = low-below n y (o .fits) gaps from e p
 
     pub gap-unset : set? x (trailingZeros 64 gaps) ≡ false
     gap-unset =
-        let q : bit x (trailingZeros 64 gaps) ≡ 0 = omega (arith, o .exchanged (trailingZeros 64 gaps) gap-below, low-set n y (λ u. u) (o .fits) gaps from e p) in
+        let q : bit x (trailingZeros 64 gaps) ≡ 0 = omega (arith, o .exchanged (trailingZeros 64 gaps) gap-below, low-set n y (o .fits) gaps from e p) in
         rw q
 
     pub gaps-next : Left y (bitAnd gaps (gaps - 1)) (trailingZeros 64 gaps + 1)
-    gaps-next = left-next n y (λ u. u) (o .fits) gaps from e p
+    gaps-next = left-next n y (o .fits) gaps from e p

@@ -3,7 +3,7 @@ ghost use mathlib.Core.Path.{_≡_};
 ghost use mathlib.Core.Bool.{not, _&&_};
 ghost use Prim.Native.Nat.{ℕ, _+_, _^_, _≤_, _<_};
 ghost use lib.Bits.{bitOr};
-ghost use lib.Dec.{leb};
+ghost use lib.Dec.{leb, ltb};
 ghost use Rattle.bits.specs.Bits.{set?, word, Others};
 
 // Is bit w set?
@@ -54,4 +54,12 @@ pub fn without(x: u64, y: u64) -> u64
     ensures { λ r. ⌜ ((w : ℕ) → set? r w ≡ set? x w && not (set? y w)) ⌝ }
 {
     (x | y) ^ y
+}
+
+// The bits of x above bit u.
+pub fn above(x: u64, u: usize) -> u64
+    requires { ⌜ u < 64 ⌝ }
+    ensures { λ r. ⌜ (r ≤ x) × ((w : ℕ) → set? r w ≡ ltb u w && set? x w) ⌝ }
+{
+    bits_from(u + 1, 64) & x
 }

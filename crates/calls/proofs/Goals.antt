@@ -17,9 +17,10 @@ use Rattle.instance.specs.declared.Sizes.{Sizes}
 use Rattle.instance.specs.Instance.{Instance, instance}
 use Rattle.instance.specs.Questions.{instanceQuestions}
 use Rattle.formula.specs.Formula.{formula}
-use Rattle.plan.specs.Plan.{planRow, planIndex, atGoal, Leaving, stays, exchanges, movesOn}
-use Rattle.calls.specs.Questions.{occupiedNumber, question13, question16, question17, question18}
+use Rattle.plan.specs.Plan.{planRow, planIndex, atGoal}
+use Rattle.calls.specs.Questions.{question13, question16, question17, question18}
 use Rattle.calls.specs.Calls.{stepQuestions, planQuestions, checkAnswer, encodeAnswer}
+use Rattle.calls.proofs.Occupied.{number-other}
 
 abbrev is22 : Answer → Bool
 is22 r = eqb (r .number) 22
@@ -28,17 +29,11 @@ is22 r = eqb (r .number) 22
 abbrev Others : List Question → Type 0
 Others qs = T (all (all (λ r. not (is22 r))) qs)
 
-other-occupied : (w : Leaving) → T (not (eqb (occupiedNumber w) 22))
-unfolding occupiedNumber
-other-occupied stays = tt
-other-occupied exchanges = tt
-other-occupied movesOn = tt
-
-others-instance : (b : List ℕ) (m : ℕ) → Others (instanceQuestions b m)
+others-instance : (b : List ℕ) (m rule : ℕ) → Others (instanceQuestions b m rule)
 unfolding instanceQuestions
-others-instance b m =
+others-instance b m rule =
     simp (and-iff, each-all, ask-all)
-    ((λ f. tt), ((λ f. tt), ((λ f. tt), ((λ f. tt), ((λ f. tt), ((λ j l f. tt), ((λ j l f. tt), ((λ a l f. tt), ((λ a l f. tt), ((λ f. tt), tt))))))))))
+    ((λ f. tt), ((λ f. tt), ((λ f. tt), ((λ f. tt), ((λ f. tt), ((λ j l f. tt), ((λ j l f. tt), ((λ a l f. tt), ((λ a l f. tt), ((λ f. tt), ((λ f. tt), tt)))))))))))
 
 behind : (qs rs : List Question) (c : ℕ) → Others qs → decide (qs ++ rs) c .number ≡ 22 → decide (qs ++ rs) c ≡ decide rs c
 behind qs rs c h e = decide-behind is22 qs rs c h (eqb-iff _ 22 .1 e) .1
@@ -58,7 +53,7 @@ module _ (I : Instance) (p : List ℕ) where
   unfolding front
   others-front =
       simp (and-iff, for-all, each-all)
-      ((λ i l f. tt), ((λ a l f. tt), (λ t l. ((λ a r f. search other-occupied), ((λ a r f. search other-occupied), ((λ a r f. search other-occupied), tt))))))
+      ((λ i l f. tt), ((λ a l f. tt), (λ t l. ((λ a r f. tt), ((λ a r f. number-other _ _ _ _), ((λ a r f. tt), tt))))))
 
   off-plan : (c : ℕ) → decide (planQuestions I p) c .number ≡ 22 → OffAt (decide (planQuestions I p) c)
   unfolding planQuestions front
@@ -71,22 +66,22 @@ module _ (I : Instance) (p : List ℕ) where
       (λ (a, l, f, r). (a, l, f, ap (λ (r : Answer). r .second) (q ∙ r)))
       (decide-each k (atGoal goal (planRow sizes p m)) (λ a. refuse 22 (planIndex sizes m a)) [] c)
 
-module _ (b : List ℕ) (m : ℕ) (p : List ℕ) where
+module _ (b : List ℕ) (m rule : ℕ) (p : List ℕ) where
   abbrev J : Instance
-  J = instance b m
+  J = instance b m rule
 
   -- whatever is asked between the instance and the plan
-  off-behind : (qs : List Question) (c : ℕ) → Others qs → decide (instanceQuestions b m ++ (qs ++ planQuestions J p)) c .number ≡ 22
-      → OffAt J p (decide (instanceQuestions b m ++ (qs ++ planQuestions J p)) c)
+  off-behind : (qs : List Question) (c : ℕ) → Others qs → decide (instanceQuestions b m rule ++ (qs ++ planQuestions J p)) c .number ≡ 22
+      → OffAt J p (decide (instanceQuestions b m rule ++ (qs ++ planQuestions J p)) c)
   off-behind qs c h e =
-      let q = behind (instanceQuestions b m) (qs ++ planQuestions J p) c (others-instance b m) e in
+      let q = behind (instanceQuestions b m rule) (qs ++ planQuestions J p) c (others-instance b m rule) e in
       let q′ = q ∙ behind qs (planQuestions J p) c h (sym (ap (λ (r : Answer). r .number) q) ∙ e) in
       subst (OffAt J p) (sym q′) (off-plan J p c (sym (ap (λ (r : Answer). r .number) q′) ∙ e))
 
-  pub off-check : checkAnswer b m p .number ≡ 22 → OffAt J p (checkAnswer b m p)
+  pub off-check : checkAnswer b m rule p .number ≡ 22 → OffAt J p (checkAnswer b m rule p)
   unfolding checkAnswer
   off-check e = off-behind (question13 J p ∷ []) _ (simp (and-iff, ask-all) ((λ f. tt), tt)) e
 
-  pub off-encode : (room : ℕ) → encodeAnswer b m p room .number ≡ 22 → OffAt J p (encodeAnswer b m p room)
+  pub off-encode : (room : ℕ) → encodeAnswer b m rule p room .number ≡ 22 → OffAt J p (encodeAnswer b m rule p room)
   unfolding encodeAnswer
   off-encode room e = off-behind (question13 J p ∷ question16 (formula J) room ∷ []) _ (simp (and-iff, ask-all) ((λ f. tt), ((λ f. tt), tt))) e

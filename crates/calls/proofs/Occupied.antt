@@ -1,10 +1,11 @@
--- Question 20 has three numbers. Where the questions of a step answer one of them, it is that of the lowest agent that enters an
--- occupied vertex; and where condition 1 holds for all agents and some agent enters an occupied vertex, one of them is answered.
+-- Question 20 has three numbers. Where the questions of a step answer one of them, it is that of the lowest agent that fails condition 2;
+-- and where condition 1 holds for all agents and some agent fails condition 2, one of them is answered.
 use mathlib.Core.Path.{_≡_, sym, _∙_, subst}
-use mathlib.Core.Logic.{⊎-elim}
+use mathlib.Core.Logic.{_≢_, ⊎-elim}
 use mathlib.Core.List.{List, [], _∷_, _++_}
-use mathlib.Core.Bool.{Bool, not, _||_}
+use mathlib.Core.Bool.{Bool, true, false, not, _||_, cond}
 use Prim.Native.Nat.{ℕ, suc, _<_}
+use borrow.Author.Tests.{eq-eqb, ne-eqb}
 use lib.Dec.{T, ltb, eqb}
 use Rattle.lists.specs.Loop.{all}
 use Rattle.lists.proofs.Tests.{and-iff}
@@ -13,9 +14,9 @@ use Rattle.answers.specs.Answers.{Question, refuse, decide, clear}
 use Rattle.answers.specs.Fault.{FirstFault}
 use Rattle.answers.proofs.Laws.{each-all, decide-each, decide-behind, decide-count}
 use Rattle.instance.specs.declared.Sizes.{Sizes}
-use Rattle.instance.specs.Instance.{Instance, adjacent}
+use Rattle.instance.specs.Instance.{Instance, following, adjacent}
 use Rattle.plan.specs.Plan.{Row, planRow, planIndex, condition1, condition2, Leaving, stays, exchanges, movesOn, occupantLeaves}
-use Rattle.calls.specs.Questions.{occupiedNumber, question20, question21}
+use Rattle.calls.specs.Questions.{occupiedNumber, secondNumber, question20, question21}
 use Rattle.calls.specs.Calls.{stepQuestions}
 
 -- a number of question 20
@@ -34,18 +35,36 @@ pub past : (qs rs : List Question) (c : ℕ) → Others qs → Occupied (decide 
     → T (all clear qs) × (decide (qs ++ rs) c ≡ decide rs c)
 past qs rs c h o = decide-behind (λ r. occupied? (r .number)) qs rs c h o
 
-pub number-occupied : (w : Leaving) → T (occupied? (occupiedNumber w))
+-- what holds of 20, 25 and 26 holds of every number that question 20 answers
+number-is : (test : ℕ → Bool) → T (test 20) → T (test 25) → T (test 26) → (f : Bool) (w : Leaving) → T (test (cond f 25 (occupiedNumber w)))
 unfolding occupiedNumber
-number-occupied stays = tt
-number-occupied exchanges = tt
-number-occupied movesOn = tt
+number-is test x y z true w = y
+number-is test x y z false stays = x
+number-is test x y z false exchanges = y
+number-is test x y z false movesOn = z
 
--- none of question 20's numbers is 0
-pub numbered-occupied : (w : Leaving) → T (ltb 0 (occupiedNumber w))
-unfolding occupiedNumber
-numbered-occupied stays = tt
-numbered-occupied exchanges = tt
-numbered-occupied movesOn = tt
+module _ (s : Sizes) (here next : Row) (a : ℕ) where
+  pub number-occupied : T (occupied? (secondNumber s here next a))
+  unfolding secondNumber
+  number-occupied = number-is occupied? tt tt tt (following s) (occupantLeaves s here next a)
+
+  -- none of them is 22, and none 0
+  pub number-other : T (not (eqb (secondNumber s here next a) 22))
+  unfolding secondNumber
+  number-other = number-is (λ x. not (eqb x 22)) tt tt tt (following s) (occupantLeaves s here next a)
+
+  pub numbered-occupied : T (ltb 0 (secondNumber s here next a))
+  unfolding secondNumber
+  numbered-occupied = number-is (ltb 0) tt tt tt (following s) (occupantLeaves s here next a)
+
+  -- under rule 1 they say what the occupant does, under rule 2 there is 25 alone
+  pub number-leaves : s .rule ≢ 2 → secondNumber s here next a ≡ occupiedNumber (occupantLeaves s here next a)
+  unfolding secondNumber
+  number-leaves one = rw (ne-eqb (s .rule) 2 one)
+
+  pub number-exchange : s .rule ≡ 2 → secondNumber s here next a ≡ 25
+  unfolding secondNumber
+  number-exchange two = rw (eq-eqb (s .rule) 2 two)
 
 module _ (I : Instance) (p : List ℕ) where
   open Instance I using (sizes)
@@ -61,7 +80,7 @@ module _ (I : Instance) (p : List ℕ) where
       (λ w.
       ⊎-elim
       (λ u. absurd (fails (u .0 a r)))
-      (λ u. subst Occupied (sym (w .1 ∙ u .3)) (number-occupied _))
+      (λ u. subst Occupied (sym (w .1 ∙ u .3)) (number-occupied _ _ _ _))
       (decide-each k (condition2 sizes (P t) (P (suc t))) _ (question21 I p t ∷ []) 0))
       (λ w. absurd (w .2 .here (w .1) (crosses (w .0) (w .1))))
       (decide-each k (condition1 (adjacent I) (P t) (P (suc t))) _ (question20 I p t ∷ question21 I p t ∷ []) 0)
@@ -73,7 +92,7 @@ module _ (I : Instance) (p : List ℕ) where
     -- condition 1 holds for all agents of the step, and a is the lowest that fails condition 2
     pub crosses : (c : ℕ) → c < k → T (condition1 (adjacent I) (P t) (P (suc t)) c)
     pub lowest : FirstFault k (condition2 sizes (P t) (P (suc t))) a
-    pub given : answer ≡ refuse (occupiedNumber (occupantLeaves sizes (P t) (P (suc t)) a)) (planIndex sizes (suc t) a)
+    pub given : answer ≡ refuse (secondNumber sizes (P t) (P (suc t)) a) (planIndex sizes (suc t) a)
 
   pub in-step : (t : ℕ) → Occupied (decide (stepQuestions I p t) 0) → InStep t (decide (stepQuestions I p t) 0)
   in-step t o =

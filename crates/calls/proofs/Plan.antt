@@ -18,7 +18,7 @@ use Rattle.formula.proofs.Limits.{agent-steps}
 use Rattle.plan.specs.Plan.{Row, condition1, condition2, condition3, planRow, cost}
 use Rattle.plan.specs.Passing.{ValidStep, Passes}
 use Rattle.plan.proofs.Rest.{cost-most}
-use Rattle.plan.proofs.Steps.{apart-any, crosses-iff}
+use Rattle.plan.proofs.Steps.{apart-any, crosses-iff, second-iff}
 use Rattle.calls.specs.Questions.{question13, question17, question18, question22}
 use Rattle.instance.specs.Questions.{instanceQuestions}
 use Rattle.instance.proofs.Instance.{numbered-instance, limits}
@@ -35,7 +35,7 @@ module _ (I : Instance) (p : List ℕ) where
   pub numbered-step : (t : ℕ) → T (all numbered (stepQuestions I p t))
   numbered-step t =
       simp (and-iff, each-all)
-      ((λ a l f. tt), ((λ a l f. numbered-occupied _), ((λ a l f. tt), tt)))
+      ((λ a l f. tt), ((λ a l f. numbered-occupied _ _ _ _), ((λ a l f. tt), tt)))
 
   pub numbered-plan : T (all numbered (question13 I p ∷ planQuestions I p))
   unfolding planQuestions
@@ -47,7 +47,7 @@ module _ (I : Instance) (p : List ℕ) where
           (
             (λ a l f. tt),
             (
-              (λ t l. ((λ a r f. tt), ((λ a r f. numbered-occupied _), ((λ a r f. tt), tt)))),
+              (λ t l. ((λ a r f. tt), ((λ a r f. numbered-occupied _ _ _ _), ((λ a r f. tt), tt)))),
               ((λ a l f. tt), tt),
             ),
           ),
@@ -58,28 +58,28 @@ module _ (I : Instance) (p : List ℕ) where
   abbrev StepTests : ℕ → Type 0
   StepTests t =
       ((a : ℕ) → a < k → P t a ≢ P (suc t) a → T (adjacent I (P t a) (P (suc t) a)))
-      × (((a : ℕ) → a < k → P t a ≢ P (suc t) a → (b : ℕ) → b < k → P t b ≢ P (suc t) a)
+      × (((a : ℕ) → a < k → T (condition2 sizes (P t) (P (suc t)) a))
       × (((a : ℕ) → a < k → (b : ℕ) → b < a → P (suc t) b ≢ P (suc t) a) × Unit {0}))
 
   tests-iff : (t : ℕ) → StepTests t ↔ ValidStep I (P t) (P (suc t))
   tests-iff t = (
     (λ h. record {
       crosses = λ a r. crosses-iff I (P t a) (P (suc t) a) .0 (h .0 a r);
-      vacant = h .1 .0;
+      second = second-iff I (P t) (P (suc t)) .0 (h .1 .0);
       apart = apart-any k (P (suc t)) (λ a b o r. h .1 .1 .0 b r a o);
     }),
     (λ h. (
       (λ a r. crosses-iff I (P t a) (P (suc t) a) .1 (h .crosses a r)),
-      (h .vacant, ((λ a r b q. h .apart b a (omega arith) r (omega arith)), tt)),
+      (second-iff I (P t) (P (suc t)) .1 (h .second), ((λ a r b q. h .apart b a (omega arith) r (omega arith)), tt)),
     )),
   )
 
   pub clear-step : (t : ℕ) → T (all clear (stepQuestions I p t)) ↔ ValidStep I (P t) (P (suc t))
-  unfolding condition1 condition2 condition3
+  unfolding condition1 condition3
   clear-step t = simp (and-iff, clear-iff, each-nil, or-imp, not-iff, eqb-iff, every-iff) (tests-iff t)
 
   pub clear-plan : T (all clear (question13 I p ∷ planQuestions I p)) ↔ Passes I p
-  unfolding planQuestions condition1 condition2 condition3
+  unfolding planQuestions condition1 condition3
   clear-plan =
       simp (and-iff, all-append clear (for m (stepQuestions I p)), for-all, clear-iff, each-nil, ask-nil, or-imp, not-iff, eqb-iff, ltb-iff, every-iff) (
         (λ h. record {
@@ -148,30 +148,30 @@ module _ (I : Instance) (p : List ℕ) where
       subst Occupied (e ∙ sym (decide-after early (steps ++ goals) c first ∙ e′)) o
 
 -- of a plan that the check accepts the count is the cost, which is at most m·k and at most 512
-pub record CountsCost (b : List ℕ) (m : ℕ) (p : List ℕ) : Type 0 where
-  pub count : checkAnswer b m p .second ≡ cost (instance b m .sizes) p
-  pub most : checkAnswer b m p .second ≤ m * instance b m .sizes .k
-  pub most512 : checkAnswer b m p .second ≤ 512
+pub record CountsCost (b : List ℕ) (m rule : ℕ) (p : List ℕ) : Type 0 where
+  pub count : checkAnswer b m rule p .second ≡ cost (instance b m rule .sizes) p
+  pub most : checkAnswer b m rule p .second ≤ m * instance b m rule .sizes .k
+  pub most512 : checkAnswer b m rule p .second ≤ 512
 
-pub check-counts : (b : List ℕ) (m : ℕ) (p : List ℕ) → checkAnswer b m p .number ≡ 0 → CountsCost b m p
+pub check-counts : (b : List ℕ) (m rule : ℕ) (p : List ℕ) → checkAnswer b m rule p .number ≡ 0 → CountsCost b m rule p
 unfolding checkAnswer instance
-check-counts b m p e =
-    let s = instance b m .sizes in
-    let qs = checkQuestions b m p in
-    let known : T (all numbered qs) = all-append numbered (instanceQuestions b m) _ .1 (numbered-instance b m, numbered-plan (instance b m) p) in
+check-counts b m rule p e =
+    let s = instance b m rule .sizes in
+    let qs = checkQuestions b m rule p in
+    let known : T (all numbered qs) = all-append numbered (instanceQuestions b m rule) _ .1 (numbered-instance b m rule, numbered-plan (instance b m rule) p) in
     let yes : T (all clear qs) = decide-iff qs _ known .0 e in
-    let ok = all-append clear (instanceQuestions b m) _ .0 yes .0 in
-    let c : checkAnswer b m p .second ≡ cost s p = ap (λ (a : Answer). a .second) (decide-count qs _ yes) in
+    let ok = all-append clear (instanceQuestions b m rule) _ .0 yes .0 in
+    let c : checkAnswer b m rule p .second ≡ cost s p = ap (λ (a : Answer). a .second) (decide-count qs _ yes) in
     record {
       count = c;
       most = rw c (cost-most s p);
-      most512 = rw c (omega (arith, cost-most s p, agent-steps s (limits b m ok)));
+      most512 = rw c (omega (arith, cost-most s p, agent-steps s (limits b m rule ok)));
     }
 
 -- the plan check passes a plan exactly when it leads from the starts to the goals and every step obeys the three conditions
-pub check-iff : (b : List ℕ) (m : ℕ) → T (all clear (instanceQuestions b m)) → (p : List ℕ)
-    → (checkAnswer b m p .number ≡ 0) ↔ Passes (instance b m) p
+pub check-iff : (b : List ℕ) (m rule : ℕ) → T (all clear (instanceQuestions b m rule)) → (p : List ℕ)
+    → (checkAnswer b m rule p .number ≡ 0) ↔ Passes (instance b m rule) p
 unfolding checkAnswer
-check-iff b m ok p =
-    rw (decide-after (instanceQuestions b m) _ _ ok)
-    (Iff·trans (decide-iff (question13 (instance b m) p ∷ planQuestions (instance b m) p) _ (numbered-plan (instance b m) p)) (clear-plan (instance b m) p))
+check-iff b m rule ok p =
+    rw (decide-after (instanceQuestions b m rule) _ _ ok)
+    (Iff·trans (decide-iff (question13 (instance b m rule) p ∷ planQuestions (instance b m rule) p) _ (numbered-plan (instance b m rule) p)) (clear-plan (instance b m rule) p))

@@ -34,26 +34,26 @@ module _ (needed room : ℕ) where
       (λ l. omega arith)
 
 -- the answers, by that of the instance check
-module _ (f : Instance → Formula) (b : List ℕ) (m : ℕ) where
+module _ (f : Instance → Formula) (b : List ℕ) (m rule : ℕ) where
   abbrev asked : Formula
-  asked = f (instance b m)
+  asked = f (instance b m rule)
 
-  pub size-refused : instanceAnswer b m .number ≢ 0 → withClauses (instanceAnswer b m) 0 ≡ sizeAnswer f b m
+  pub size-refused : instanceAnswer b m rule .number ≢ 0 → withClauses (instanceAnswer b m rule) 0 ≡ sizeAnswer f b m rule
   unfolding sizeAnswer instanceAnswer
   size-refused d =
-      no-clauses (instanceAnswer b m) (length (asked .clauses)) d
-      ∙ ap (λ (a : Answer). withClauses a (length (asked .clauses))) (count-free (sizeQuestions b m) 0 (length (words asked)) d)
+      no-clauses (instanceAnswer b m rule) (length (asked .clauses)) d
+      ∙ ap (λ (a : Answer). withClauses a (length (asked .clauses))) (count-free (sizeQuestions b m rule) 0 (length (words asked)) d)
 
-  pub size-accepted : instanceAnswer b m .number ≡ 0 → withClauses (accept (length (words asked))) (length (asked .clauses)) ≡ sizeAnswer f b m
+  pub size-accepted : instanceAnswer b m rule .number ≡ 0 → withClauses (accept (length (words asked))) (length (asked .clauses)) ≡ sizeAnswer f b m rule
   unfolding sizeAnswer
   size-accepted e =
       ap (λ (a : Answer). withClauses a (length (asked .clauses)))
-      (sym (decide-count (sizeQuestions b m) (length (words asked)) (instance-iff b m .0 e)))
+      (sym (decide-count (sizeQuestions b m rule) (length (words asked)) (instance-iff b m rule .0 e)))
 
-  pub write-refused : instanceAnswer b m .number ≢ 0 → (room : ℕ) → instanceAnswer b m ≡ writeAnswer f b m room
+  pub write-refused : instanceAnswer b m rule .number ≢ 0 → (room : ℕ) → instanceAnswer b m rule ≡ writeAnswer f b m rule room
   unfolding writeAnswer
-  write-refused d room = first-refused b m _ refl (writeRest asked room) 0 d
+  write-refused d room = first-refused b m rule _ refl (writeRest asked room) 0 d
 
-  pub write-passed : instanceAnswer b m .number ≡ 0 → (room : ℕ) → decide (writeRest asked room) 0 ≡ writeAnswer f b m room
+  pub write-passed : instanceAnswer b m rule .number ≡ 0 → (room : ℕ) → decide (writeRest asked room) 0 ≡ writeAnswer f b m rule room
   unfolding writeAnswer
-  write-passed e room = first-passed b m _ refl (writeRest asked room) 0 e
+  write-passed e room = first-passed b m rule _ refl (writeRest asked room) 0 e

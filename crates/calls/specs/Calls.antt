@@ -1,5 +1,6 @@
 -- For each call: the questions it asks, its answer, and what it leaves in the lent slice.
--- b are the instance bytes and m is the horizon given; the floor is given none. A room is the length of a lent slice.
+-- b are the instance bytes, m is the horizon and rule the movement rule given; the floor is given neither. A room is the length of a lent
+-- slice.
 use mathlib.Core.List.{List, [], _∷_, _++_}
 use Prim.Native.Nat.{ℕ}
 use lib.ListN.{length, getD}
@@ -29,7 +30,7 @@ planQuestions I p = question17 I p ∷ question18 I p ∷ for (I .sizes .m) (ste
 unfoldable pub textQuestions : ℕ → List ℕ → List Question
 textQuestions N text = questions27 N text ++ question28 N text ∷ question29 N text ∷ []
 
--- What each call asks of an accepted instance, after 1 to 10.
+-- What each call asks of an accepted instance, after 1 to 10 and 31.
 
 -- a writer of the formula f: 12
 abbrev pub writeRest : Formula → ℕ → List Question
@@ -62,21 +63,21 @@ module _ (I : Instance) where
   readRest text room = question16 (formula I) room ∷ textQuestions (formula I .variables) text
 
 -- ---- the size and the writer of one formula for each instance, f: the base formula or the pruned one
--- the size call: 1 to 10
-abbrev pub sizeQuestions : List ℕ → ℕ → List Question
-sizeQuestions b m = instanceQuestions b m
+-- the size call: 1 to 10, 31
+abbrev pub sizeQuestions : List ℕ → ℕ → ℕ → List Question
+sizeQuestions b m rule = instanceQuestions b m rule
 
-module _ (f : Instance → Formula) (b : List ℕ) (m : ℕ) where
+module _ (f : Instance → Formula) (b : List ℕ) (m rule : ℕ) where
   abbrev asked : Formula
-  asked = f (instance b m)
+  asked = f (instance b m rule)
 
   -- words, and the clauses beside them
   unfoldable pub sizeAnswer : Size
-  sizeAnswer = withClauses (decide (sizeQuestions b m) (length (words asked))) (length (asked .clauses))
+  sizeAnswer = withClauses (decide (sizeQuestions b m rule) (length (words asked))) (length (asked .clauses))
 
   -- the writer: what the size call asks, then 12. The second number of an acceptance is 0.
   abbrev pub writeQuestions : ℕ → List Question
-  writeQuestions room = sizeQuestions b m ++ writeRest asked room
+  writeQuestions room = sizeQuestions b m rule ++ writeRest asked room
 
   unfoldable pub writeAnswer : ℕ → Answer
   writeAnswer room = decide (writeQuestions room) 0
@@ -84,17 +85,17 @@ module _ (f : Instance → Formula) (b : List ℕ) (m : ℕ) where
   unfoldable pub writeSlice : List ℤ → List ℤ
   writeSlice s = lent (writeAnswer (length s)) (words asked) s
 
-module _ (b : List ℕ) (m : ℕ) where
+module _ (b : List ℕ) (m rule : ℕ) where
   abbrev I : Instance
-  I = instance b m
+  I = instance b m rule
 
   -- the base formula
   abbrev base : Formula
   base = formula I
 
-  -- ---- one clause: 1 to 12
+  -- ---- one clause: 1 to 10, 31, 11, 12
   abbrev pub clauseQuestions : ℕ → ℕ → List Question
-  clauseQuestions c room = instanceQuestions b m ++ clauseRest I c room
+  clauseQuestions c room = instanceQuestions b m rule ++ clauseRest I c room
 
   unfoldable pub clauseAnswer : ℕ → ℕ → Answer
   clauseAnswer c room = decide (clauseQuestions c room) (length (clauseWords I c))
@@ -102,16 +103,16 @@ module _ (b : List ℕ) (m : ℕ) where
   unfoldable pub clauseSlice : ℕ → List ℤ → List ℤ
   clauseSlice c s = lent (clauseAnswer c (length s)) (clauseWords I c) s
 
-  -- ---- the plan check: 1 to 10, 13, 17 to 22
+  -- ---- the plan check: 1 to 10, 31, 13, 17 to 22
   abbrev pub checkQuestions : List ℕ → List Question
-  checkQuestions p = instanceQuestions b m ++ checkRest I p
+  checkQuestions p = instanceQuestions b m rule ++ checkRest I p
 
   unfoldable pub checkAnswer : List ℕ → Answer
   checkAnswer p = decide (checkQuestions p) (cost (I .sizes) p)
 
-  -- ---- the decoder: 1 to 10, 14, 15, 23, 24
+  -- ---- the decoder: 1 to 10, 31, 14, 15, 23, 24
   abbrev pub decodeQuestions : List ℤ → ℕ → List Question
-  decodeQuestions entries room = instanceQuestions b m ++ decodeRest I entries room
+  decodeQuestions entries room = instanceQuestions b m rule ++ decodeRest I entries room
 
   unfoldable pub decodeAnswer : List ℤ → ℕ → Answer
   decodeAnswer entries room = decide (decodeQuestions entries room) (planBytes (I .sizes))
@@ -119,9 +120,9 @@ module _ (b : List ℕ) (m : ℕ) where
   unfoldable pub decodeSlice : List ℤ → List ℕ → List ℕ
   decodeSlice entries s = lent (decodeAnswer entries (length s)) (namedPlan (I .sizes) entries) s
 
-  -- ---- the encoder: 1 to 10, 13, 16 to 22
+  -- ---- the encoder: 1 to 10, 31, 13, 16 to 22
   abbrev pub encodeQuestions : List ℕ → ℕ → List Question
-  encodeQuestions p room = instanceQuestions b m ++ encodeRest I p room
+  encodeQuestions p room = instanceQuestions b m rule ++ encodeRest I p room
 
   unfoldable pub encodeAnswer : List ℕ → ℕ → Answer
   encodeAnswer p room = decide (encodeQuestions p room) (base .variables)
@@ -129,9 +130,9 @@ module _ (b : List ℕ) (m : ℕ) where
   unfoldable pub encodeSlice : List ℕ → List ℤ → List ℤ
   encodeSlice p s = lent (encodeAnswer p (length s)) (planValuation (I .sizes) p) s
 
-  -- ---- the reader: 1 to 10, 16, 27 to 29
+  -- ---- the reader: 1 to 10, 31, 16, 27 to 29
   abbrev pub readQuestions : List ℕ → ℕ → List Question
-  readQuestions text room = instanceQuestions b m ++ readRest I text room
+  readQuestions text room = instanceQuestions b m rule ++ readRest I text room
 
   unfoldable pub readAnswer : List ℕ → ℕ → Answer
   readAnswer text room = decide (readQuestions text room) (base .variables)
@@ -139,13 +140,13 @@ module _ (b : List ℕ) (m : ℕ) where
   unfoldable pub readSlice : List ℕ → List ℤ → List ℤ
   readSlice text s = lent (readAnswer text (length s)) (inOrder (base .variables) (given text)) s
 
--- ---- the floor: 1 to 9, 30. An instance has a horizon: 0 stands for it here, and any other would do.
+-- ---- the floor: 1 to 9, 30. An instance has a horizon and a rule: 0 and 1 stand for them here, and any others would do.
 module _ (b : List ℕ) where
   abbrev pub goalQuestion : Question
-  goalQuestion = question30 (agents b) (startToGoal (instance b 0)) (goals b)
+  goalQuestion = question30 (agents b) (startToGoal (instance b 0 1)) (goals b)
 
   abbrev pub floorQuestions : List Question
   floorQuestions = bytesQuestions b ++ goalQuestion ∷ []
 
   unfoldable pub floorAnswer : Answer
-  floorAnswer = decide floorQuestions (floor (instance b 0))
+  floorAnswer = decide floorQuestions (floor (instance b 0 1))

@@ -1,5 +1,6 @@
--- The questions asked after 1 to 10: under each number, what is asked and the place that a no names.
+-- The questions asked after 1 to 10 and 31: under each number, what is asked and the place that a no names.
 use mathlib.Core.List.{List, [], _∷_}
+use mathlib.Core.Bool.{cond}
 use Prim.Native.Nat.{ℕ, suc, _+_}
 use lib.ListN.{length, getD}
 use lib.Dec.{leb, ltb, eqb}
@@ -7,10 +8,10 @@ use lib.IntN.{ℤ}
 use Rattle.lists.specs.Loop.{any}
 use Rattle.answers.specs.Answers.{Question, ask, askEach, refuse}
 use Rattle.instance.specs.declared.Sizes.{Sizes}
-use Rattle.instance.specs.Instance.{Instance, adjacent}
+use Rattle.instance.specs.Instance.{Instance, following, adjacent}
 use Rattle.distances.specs.Distance.{reachable}
 use Rattle.formula.specs.Formula.{Formula}
-use Rattle.plan.specs.Plan.{planBytes, planIndex, planRow, condition1, condition2, condition3, atGoal, Leaving, stays, exchanges, movesOn, occupantLeaves}
+use Rattle.plan.specs.Plan.{Row, planBytes, planIndex, planRow, condition1, condition2, condition3, atGoal, Leaving, stays, exchanges, movesOn, occupantLeaves}
 use Rattle.valuation.specs.Valuation.{rightEntry, satisfied?}
 use Rattle.solver_text.specs.Text.{lines}
 use Rattle.solver_text.specs.Form.{textMost, rightLine, offset, complete?, satisfiable?, statusPlace, given, times}
@@ -39,11 +40,15 @@ question15 I room = ask (leb (planBytes (I .sizes)) room) (refuse 15 (planBytes 
 abbrev pub question16 : Formula → ℕ → Question
 question16 f room = ask (leb (f .variables) room) (refuse 16 (f .variables))
 
--- the number of question 20's refusal says what the occupant of the vertex entered does
+-- under rule 1 the number of question 20's refusal says what the occupant of the vertex entered does
 unfoldable pub occupiedNumber : Leaving → ℕ
 occupiedNumber stays = 20
 occupiedNumber exchanges = 25
 occupiedNumber movesOn = 26
+
+-- under rule 2 it is that of an exchange
+unfoldable pub secondNumber : Sizes → Row → Row → ℕ → ℕ
+secondNumber s here next a = cond (following s) 25 (occupiedNumber (occupantLeaves s here next a))
 
 -- of an accepted instance with its horizon, and of the bytes p of a plan
 module _ (I : Instance) (p : List ℕ) where
@@ -62,11 +67,11 @@ module _ (I : Instance) (p : List ℕ) where
   abbrev pub question19 : ℕ → Question
   question19 t = askEach k (condition1 (adjacent I) (planRow sizes p t) (planRow sizes p (suc t))) λ a. refuse 19 (planIndex sizes (suc t) a)
 
-  -- Condition 2? The lowest agent that entered an occupied vertex decides between 20, 25 and 26.
+  -- Condition 2? The lowest agent that fails it decides between 20, 25 and 26.
   abbrev pub question20 : ℕ → Question
   question20 t =
       askEach k (condition2 sizes (planRow sizes p t) (planRow sizes p (suc t)))
-      λ a. refuse (occupiedNumber (occupantLeaves sizes (planRow sizes p t) (planRow sizes p (suc t)) a)) (planIndex sizes (suc t) a)
+      λ a. refuse (secondNumber sizes (planRow sizes p t) (planRow sizes p (suc t)) a) (planIndex sizes (suc t) a)
 
   -- Condition 3?
   abbrev pub question21 : ℕ → Question

@@ -16,7 +16,7 @@ use Rattle.answers.specs.declared.Answer.{Answer}
 use Rattle.answers.specs.Answers.{ask, clear}
 use Rattle.answers.proofs.Laws.{clear-iff, clear-second, numbered-second, decide-iff, decide-after, lent-take, ask-nil, ask-all}
 use Rattle.instance.specs.declared.Sizes.{Sizes}
-use Rattle.instance.specs.Instance.{Instance, instance, Endpoints}
+use Rattle.instance.specs.Instance.{Instance, instance, Edges, Endpoints}
 use Rattle.formula.specs.Variables.{X, variableCount}
 use Rattle.formula.specs.Formula.{clauses, Formula, formula}
 use Rattle.plan.specs.Plan.{planRow}
@@ -30,7 +30,7 @@ use Rattle.valuation.proofs.Entries.{true-yes, named-places, named-size, named-
 use Rattle.calls.specs.Questions.{question13, question14, question15, question16, question23, question24}
 use Rattle.instance.specs.Questions.{instanceQuestions}
 use Rattle.calls.specs.Calls.{planQuestions, decodeAnswer, decodeSlice, encodeAnswer, encodeSlice}
-use Rattle.instance.proofs.Instance.{instance-iff, endpoints}
+use Rattle.instance.proofs.Instance.{instance-iff, endpoints, edges-known}
 use Rattle.calls.proofs.Plan.{numbered-plan, clear-plan, check-iff}
 use Rattle.calls.proofs.Valuation.{true-iff, satisfies-mem, numbered-valuation, clear-valuation}
 use Rattle.claims.proofs.Formula.{plan-steps}
@@ -76,14 +76,14 @@ module _ (I : Instance) where
         let (c, d) = sat-CD I (true? es) h in
         places-cong sizes (true? es) (named sizes es) (planRow sizes (namedPlan sizes es)) (named-places I es w c d) (λ t a x y. sym (named-at sizes es t a x y))
 
-    pub named-passes : Endpoints I → Passes I (namedPlan sizes es)
-    named-passes s =
+    pub named-passes : Endpoints I → Edges I → Passes I (namedPlan sizes es)
+    named-passes s g =
         record {
           size = named-size sizes es;
           inside = λ i l.
               let (t, a, x, y, e) = place-split (suc m) (k) i l in
               rw e (named-at-places .inside t a x y);
-          leads = satisfies-iff I s (planRow sizes (namedPlan sizes es)) (true? es) named-at-places .0 h;
+          leads = satisfies-iff I s g (planRow sizes (namedPlan sizes es)) (true? es) named-at-places .0 h;
         }
 
   -- two satisfying valuations that name one plan are equal
@@ -108,50 +108,50 @@ module _ (I : Instance) where
     pub written-names : Places sizes (true? (planValuation sizes p)) (planRow sizes p)
     written-names = written-places sizes p (inside-at p w)
 
-    pub written-sat : Endpoints I → Sat (true? (planValuation sizes p)) (clauses I)
-    written-sat s = satisfies-iff I s (planRow sizes p) (true? (planValuation sizes p)) written-names .1 (w .leads)
+    pub written-sat : Endpoints I → Edges I → Sat (true? (planValuation sizes p)) (clauses I)
+    written-sat s g = satisfies-iff I s g (planRow sizes p) (true? (planValuation sizes p)) written-names .1 (w .leads)
 
-    pub round-trip : Endpoints I → namedPlan sizes (planValuation sizes p) ≡ p
-    round-trip s =
+    pub round-trip : Endpoints I → Edges I → namedPlan sizes (planValuation sizes p) ≡ p
+    round-trip s g =
         let v = written-valuation sizes p in
-        let h = written-sat s in
+        let h = written-sat s g in
         plan-ext (namedPlan sizes (planValuation sizes p)) p (named-size sizes (planValuation sizes p)) (w .size)
         (places-unique sizes _ _ _ (named-at-places (planValuation sizes p) v h) written-names)
 
-module _ (b : List ℕ) (m : ℕ) (ok : T (all clear (instanceQuestions b m))) where
+module _ (b : List ℕ) (m rule : ℕ) (ok : T (all clear (instanceQuestions b m rule))) where
   abbrev I : Instance
-  I = instance b m
+  I = instance b m rule
 
   abbrev F : Formula
   F = formula I
 
   -- ---- acceptance
-  pub encode-iff : (p : List ℕ) (s : ℕ) → N b m ≤ s → Accepts (encodeAnswer b m p s) ↔ Passes I p
+  pub encode-iff : (p : List ℕ) (s : ℕ) → N b m rule ≤ s → Accepts (encodeAnswer b m rule p s) ↔ Passes I p
   unfolding encodeAnswer
   encode-iff p s l =
-      rw (decide-after (instanceQuestions b m) _ _ ok)
-      (Iff·trans (decide-iff (question13 I p ∷ question16 F s ∷ planQuestions I p) _ (numbered-second (question13 I p) (question16 F s) (planQuestions I p) (ask-all _ (leb (N b m) s) _ .1 (λ f. tt)) (numbered-plan I p)))
-      (Iff·trans (clear-second (question13 I p) (question16 F s) (planQuestions I p) (fits (N b m) s _ l))
+      rw (decide-after (instanceQuestions b m rule) _ _ ok)
+      (Iff·trans (decide-iff (question13 I p ∷ question16 F s ∷ planQuestions I p) _ (numbered-second (question13 I p) (question16 F s) (planQuestions I p) (ask-all _ (leb (N b m rule) s) _ .1 (λ f. tt)) (numbered-plan I p)))
+      (Iff·trans (clear-second (question13 I p) (question16 F s) (planQuestions I p) (fits (N b m rule) s _ l))
       (clear-plan I p)))
 
-  pub decode-iff : (es : List ℤ) (s : ℕ) → bytes b m ≤ s → Accepts (decodeAnswer b m es s) ↔ (Valuation (N b m) es × Sat (true? es) (clauses I))
+  pub decode-iff : (es : List ℤ) (s : ℕ) → bytes b m rule ≤ s → Accepts (decodeAnswer b m rule es s) ↔ (Valuation (N b m rule) es × Sat (true? es) (clauses I))
   unfolding decodeAnswer
   decode-iff es s l =
-      rw (decide-after (instanceQuestions b m) _ _ ok)
-      (Iff·trans (decide-iff (question14 F es ∷ question15 I s ∷ question23 F es ∷ question24 F es ∷ []) _ (numbered-second (question14 F es) (question15 I s) ((question23 F es ∷ question24 F es ∷ [])) (ask-all _ (leb (bytes b m) s) _ .1 (λ f. tt)) (numbered-valuation F es)))
-      (Iff·trans (clear-second (question14 F es) (question15 I s) ((question23 F es ∷ question24 F es ∷ [])) (fits (bytes b m) s _ l))
+      rw (decide-after (instanceQuestions b m rule) _ _ ok)
+      (Iff·trans (decide-iff (question14 F es ∷ question15 I s ∷ question23 F es ∷ question24 F es ∷ []) _ (numbered-second (question14 F es) (question15 I s) ((question23 F es ∷ question24 F es ∷ [])) (ask-all _ (leb (bytes b m rule) s) _ .1 (λ f. tt)) (numbered-valuation F es)))
+      (Iff·trans (clear-second (question14 F es) (question15 I s) ((question23 F es ∷ question24 F es ∷ [])) (fits (bytes b m rule) s _ l))
       (clear-valuation F es)))
 
   -- ---- slices
-  handed : (es : List ℤ) (s : List ℕ) → Accepts (decodeAnswer b m es (length s)) → handedBack b m es s ≡ namedPlan (I .sizes) es
+  handed : (es : List ℤ) (s : List ℕ) → Accepts (decodeAnswer b m rule es (length s)) → handedBack b m rule es s ≡ namedPlan (I .sizes) es
   unfolding decodeSlice
-  handed es s e = rw (← (named-size (I .sizes) es)) (lent-take (decodeAnswer b m es (length s)) (namedPlan (I .sizes) es) s e)
+  handed es s e = rw (← (named-size (I .sizes) es)) (lent-take (decodeAnswer b m rule es (length s)) (namedPlan (I .sizes) es) s e)
 
-  wrote : (p : List ℕ) (z : List ℤ) → Accepts (encodeAnswer b m p (length z)) → written b m p z ≡ planValuation (I .sizes) p
+  wrote : (p : List ℕ) (z : List ℤ) → Accepts (encodeAnswer b m rule p (length z)) → written b m rule p z ≡ planValuation (I .sizes) p
   unfolding encodeSlice
-  wrote p z e = rw (← (written-size (I .sizes) p)) (lent-take (encodeAnswer b m p (length z)) (planValuation (I .sizes) p) z e)
+  wrote p z e = rw (← (written-size (I .sizes) p)) (lent-take (encodeAnswer b m rule p (length z)) (planValuation (I .sizes) p) z e)
 
-  pub correspondence-at : Correspondence b m
+  pub correspondence-at : Correspondence b m rule
   correspondence-at =
       record {
         decoder = λ es s l. Iff·trans (decode-iff es (length s) l) ((λ (w, h). (w, satisfies-mem F es .0 h)), (λ (w, h). (w, satisfies-mem F es .1 h)));
@@ -159,7 +159,7 @@ module _ (b : List ℕ) (m : ℕ) (ok : T (all clear (instanceQuestions b m))) w
             let (w, h) = decode-iff es (length s) l .0 e in
             rw (handed es s e) (
               names I es (namedPlan (I .sizes) es) (named-size (I .sizes) es) (named-at-places I es w h),
-              check-iff b m ok (namedPlan (I .sizes) es) .1 (named-passes I es w h (endpoints b m ok)),
+              check-iff b m rule ok (namedPlan (I .sizes) es) .1 (named-passes I es w h (endpoints b m rule ok) (edges-known b m rule ok)),
             );
         injective = λ es fs s s′ l l′ e e′ q.
             let (w, h) = decode-iff es (length s) l .0 e in
@@ -167,26 +167,26 @@ module _ (b : List ℕ) (m : ℕ) (ok : T (all clear (instanceQuestions b m))) w
             let np : namedPlan (I .sizes) fs ≡ namedPlan (I .sizes) es = sym (sym (handed es s e) ∙ q ∙ handed fs s′ e′) in
             same-valuation I es fs w w′ (planRow (I .sizes) (namedPlan (I .sizes) es)) (named-at-places I es w h)
             (subst (λ (p : List ℕ). Places (I .sizes) (true? fs) (planRow (I .sizes) p)) np (named-at-places I fs w′ h′));
-        encoder = λ p z l. Iff·trans (encode-iff p (length z) l) (Iff·symm (check-iff b m ok p));
+        encoder = λ p z l. Iff·trans (encode-iff p (length z) l) (Iff·symm (check-iff b m rule ok p));
         encoded = λ p z l e.
             let w = encode-iff p (length z) l .0 e in
             rw (wrote p z e) (
               written-valuation (I .sizes) p,
-              satisfies-mem F (planValuation (I .sizes) p) .0 (written-sat I p w (endpoints b m ok)),
+              satisfies-mem F (planValuation (I .sizes) p) .0 (written-sat I p w (endpoints b m rule ok) (edges-known b m rule ok)),
               names I (planValuation (I .sizes) p) p (w .size) (written-names I p w),
               (λ s l′.
-                  let a = decode-iff (planValuation (I .sizes) p) (length s) l′ .1 (written-valuation (I .sizes) p, written-sat I p w (endpoints b m ok)) in
-                  (a, handed (planValuation (I .sizes) p) s a ∙ round-trip I p w (endpoints b m ok))),
+                  let a = decode-iff (planValuation (I .sizes) p) (length s) l′ .1 (written-valuation (I .sizes) p, written-sat I p w (endpoints b m rule ok) (edges-known b m rule ok)) in
+                  (a, handed (planValuation (I .sizes) p) s a ∙ round-trip I p w (endpoints b m rule ok) (edges-known b m rule ok))),
             );
         satisfiable = (
           (λ (es, w, h).
-              let x = named-passes I es w (satisfies-mem F es .1 h) (endpoints b m ok) in
-              (namedPlan (I .sizes) es, plan-steps b m ok (namedPlan (I .sizes) es) x, check-iff b m ok (namedPlan (I .sizes) es) .1 x)),
+              let x = named-passes I es w (satisfies-mem F es .1 h) (endpoints b m rule ok) (edges-known b m rule ok) in
+              (namedPlan (I .sizes) es, plan-steps b m rule ok (namedPlan (I .sizes) es) x, check-iff b m rule ok (namedPlan (I .sizes) es) .1 x)),
           (λ (p, q, e).
-              let w = check-iff b m ok p .0 e in
-              (planValuation (I .sizes) p, written-valuation (I .sizes) p, satisfies-mem F (planValuation (I .sizes) p) .0 (written-sat I p w (endpoints b m ok)))),
+              let w = check-iff b m rule ok p .0 e in
+              (planValuation (I .sizes) p, written-valuation (I .sizes) p, satisfies-mem F (planValuation (I .sizes) p) .0 (written-sat I p w (endpoints b m rule ok) (edges-known b m rule ok)))),
         );
       }
 
 pub correspondence : Claim
-correspondence b m e = correspondence-at b m (instance-iff b m .0 e)
+correspondence b m rule e = correspondence-at b m rule (instance-iff b m rule .0 e)

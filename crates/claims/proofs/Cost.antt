@@ -10,10 +10,10 @@ use Rattle.calls.specs.Calls.{checkAnswer}
 use Rattle.calls.proofs.Plan.{check-counts}
 use Rattle.claims.specs.Cost.{Counted, Claim}
 
-counted : (b : List ℕ) (m : ℕ) (p : List ℕ) → checkAnswer b m p .number ≡ 0 → Counted b m p
+counted : (b : List ℕ) (m rule : ℕ) (p : List ℕ) → checkAnswer b m rule p .number ≡ 0 → Counted b m rule p
 unfolding instance cost
-counted b m p e =
-    let w = check-counts b m p e in
+counted b m rule p e =
+    let w = check-counts b m rule p e in
     record {
       total = w .count;
       most = w .most;

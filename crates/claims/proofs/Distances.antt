@@ -13,7 +13,7 @@ use Rattle.lists.proofs.Sums.{greatest-le, greatest-one}
 use Rattle.answers.specs.Answers.{clear}
 use Rattle.answers.proofs.Laws.{decide-iff}
 use Rattle.instance.specs.Instance.{Instance, noGoal, HasGoal, instance, agents, startOf, goalOf, adjacent, neighbourWords}
-use Rattle.instance.specs.Questions.{question10, bytesQuestions, instanceQuestions}
+use Rattle.instance.specs.Questions.{question10, question31, bytesQuestions, instanceQuestions}
 use Rattle.instance.proofs.Goals.{goal-or-none}
 use Rattle.instance.proofs.Instance.{instance-iff, goals-counted, edges-known, endpoints, limits}
 use Rattle.instance.proofs.Neighbours.{joined-adjacent}
@@ -35,91 +35,91 @@ use Rattle.claims.proofs.Refusals.{numbered-check}
 use Rattle.claims.proofs.Size.{size-call}
 use Rattle.claims.specs.Distances.{Distances, Pruned, Greatest, FirstUnreachable, Claim}
 
-module _ (b : List ℕ) (m : ℕ) (ok : T (all clear (instanceQuestions b m))) where
+module _ (b : List ℕ) (m rule : ℕ) (ok : T (all clear (instanceQuestions b m rule))) where
   abbrev I : Instance
-  I = instance b m
+  I = instance b m rule
 
   few : I .sizes .n ≤ unreachable
-  few = omega (arith, limits b m ok .n-most)
+  few = omega (arith, limits b m rule ok .n-most)
 
-  distances : Distances b m
+  distances : Distances b m rule
   distances =
       record {
-        shortest = shortest I (edges-known b m ok) few;
-        mark = mark-iff I (edges-known b m ok) few;
-        back = distance-back I (edges-known b m ok) few;
+        shortest = shortest I (edges-known b m rule ok) few;
+        mark = mark-iff I (edges-known b m rule ok) few;
+        back = distance-back I (edges-known b m rule ok) few;
         most = λ v w i j f. below-is (I .sizes .n) (adjacent I) (I .sizes .n) v w f .0;
         table =
             table-distance I (I .sizes) (neighbourWords I)
-            (record { sizes = refl; words = joined-adjacent I (edges-known b m ok) (limits b m ok .n-most) });
+            (record { sizes = refl; words = joined-adjacent I (edges-known b m rule ok) (limits b m rule ok .n-most) });
       }
 
-  prunes : Pruned b m
+  prunes : Pruned b m rule
   prunes =
-      let h = limits b m ok .m-most in
+      let h = limits b m rule ok .m-most in
       record {
         far = λ t a v l r i.
-            let ends = endpoints b m ok in
-            let x = further-walk I (edges-known b m ok) few (I .start a) v t (ends .startsInside a r) i in
-            let y : (g : HasGoal (I .goal a)) → T (further (m - t) (distance I (I .goal a) v)) ↔ Further I (m - t) (I .goal a) v = λ g. further-walk I (edges-known b m ok) few (I .goal a) v (m - t) (ends .goalsInside a r g) i in
+            let ends = endpoints b m rule ok in
+            let x = further-walk I (edges-known b m rule ok) few (I .start a) v t (ends .startsInside a r) i in
+            let y : (g : HasGoal (I .goal a)) → T (further (m - t) (distance I (I .goal a) v)) ↔ Further I (m - t) (I .goal a) v = λ g. further-walk I (edges-known b m rule ok) few (I .goal a) v (m - t) (ends .goalsInside a r g) i in
             let z = further-goal (m - t) (I .goal a) (distance I (I .goal a) v) in (
               (λ f. ⊎-elim (λ p. inl (x .0 p)) (λ p. let (g, o) = z .0 p in inr (g, y g .0 o)) (or-iff (further t (fromStart I a v)) (further (m - t) (fromGoal I a v)) .0 f)),
               (λ f. or-iff (further t (fromStart I a v)) (further (m - t) (fromGoal I a v)) .1 (⊎-elim (λ p. inl (x .1 p)) (λ (g, p). inr (z .1 (g, y g .1 p))) f)),
             );
         variables = refl;
         valuations = λ es w.
-            let same = sat-pruned I (endpoints b m ok) few es w in
+            let same = sat-pruned I (endpoints b m rule ok) (edges-known b m rule ok) few es w in
             let base = satisfies-mem (formula I) es in
             let more = satisfies-mem (pruned I) es in
             ((λ q. base .0 (same .0 (more .1 q))), (λ q. more .0 (same .1 (base .1 q))));
-        clauseTotal = pruned-clause-count I (omega arith) (goals-counted b m);
-        wordTotal = pruned-word-count I (omega arith) (edges-known b m ok) (goals-counted b m);
-        mostWords = omega (arith, pruned-word-count I (omega arith) (edges-known b m ok) (goals-counted b m), pruned-words-most I (limits b m ok));
+        clauseTotal = pruned-clause-count I (omega arith) (goals-counted b m rule);
+        wordTotal = pruned-word-count I (omega arith) (edges-known b m rule ok) (goals-counted b m rule);
+        most = omega (arith, pruned-word-count I (omega arith) (edges-known b m rule ok) (goals-counted b m rule), pruned-words-most I (limits b m rule ok));
         size = λ e.
-            let c = size-call pruned b m in
-            (c .wordsCounted e ∙ pruned-word-count I (omega arith) (edges-known b m ok) (goals-counted b m), c .clausesCounted e ∙ pruned-clause-count I (omega arith) (goals-counted b m));
+            let c = size-call pruned b m rule in
+            (c .wordsCounted e ∙ pruned-word-count I (omega arith) (edges-known b m rule ok) (goals-counted b m rule), c .clausesCounted e ∙ pruned-clause-count I (omega arith) (goals-counted b m rule));
       }
 
   pub bytes-ok : T (all clear (bytesQuestions b))
   unfolding instanceQuestions
-  bytes-ok = all-append clear (bytesQuestions b) (question10 m ∷ []) .0 ok .0
+  bytes-ok = all-append clear (bytesQuestions b) (question10 m ∷ question31 rule ∷ []) .0 ok .0
 
 module _ (b : List ℕ) where
-  accepted-plan : (m : ℕ) (p : List ℕ) → checkAnswer b m p .number ≡ 0 → T (all clear (instanceQuestions b m))
+  pub accepted-plan : (m rule : ℕ) (p : List ℕ) → checkAnswer b m rule p .number ≡ 0 → T (all clear (instanceQuestions b m rule))
   unfolding checkAnswer
-  accepted-plan m p e =
-      all-append clear (instanceQuestions b m) _ .0 (decide-iff (checkQuestions b m p) _ (numbered-check b m p) .0 e) .0
+  accepted-plan m rule p e =
+      all-append clear (instanceQuestions b m rule) _ .0 (decide-iff (checkQuestions b m rule p) _ (numbered-check b m rule p) .0 e) .0
 
-  same : (m : ℕ) → distance (instance b m) ≡ distance (instance b 0)
+  same : (m rule : ℕ) → distance (instance b m rule) ≡ distance (instance b 0 1)
   unfolding instance adjacent
-  same m = refl
+  same m rule = refl
 
-  reached : (a : ℕ) → T (reachable (startToGoal (instance b 0) a)) ↔ (startToGoal (instance b 0) a ≢ unreachable)
+  reached : (a : ℕ) → T (reachable (startToGoal (instance b 0 1) a)) ↔ (startToGoal (instance b 0 1) a ≢ unreachable)
   reached a = simp (not-iff, eqb-iff) Iff·rfl
 
-  module _ (ok : T (all clear (instanceQuestions b 0))) where
+  module _ (ok : T (all clear (instanceQuestions b 0 1))) where
     -- what is measured of an agent that has a goal is the distance
-    measured : (a : ℕ) → HasGoal (goalOf b a) → startToGoal (instance b 0) a ≡ distance (instance b 0) (startOf b a) (goalOf b a)
+    measured : (a : ℕ) → HasGoal (goalOf b a) → startToGoal (instance b 0 1) a ≡ distance (instance b 0 1) (startOf b a) (goalOf b a)
     unfolding instance
     measured a g = to-goal-has (goalOf b a) _ g
 
-    walk : (a : ℕ) → a < agents b → HasGoal (goalOf b a) → T (reachable (startToGoal (instance b 0) a))
-        → Shortest (instance b 0) (startOf b a) (goalOf b a) (startToGoal (instance b 0) a)
+    walk : (a : ℕ) → a < agents b → HasGoal (goalOf b a) → T (reachable (startToGoal (instance b 0 1) a))
+        → Shortest (instance b 0 1) (startOf b a) (goalOf b a) (startToGoal (instance b 0 1) a)
     unfolding instance
     walk a l g t =
         rw (measured a g)
-        (shortest (instance b 0) (edges-known b 0 ok) (few b 0 ok) _ _ (endpoints b 0 ok .startsInside a l) (endpoints b 0 ok .goalsInside a l g)
+        (shortest (instance b 0 1) (edges-known b 0 1 ok) (few b 0 1 ok) _ _ (endpoints b 0 1 ok .startsInside a l) (endpoints b 0 1 ok .goalsInside a l g)
         (rw (measured a g) at (reached a .0 t)))
 
   greatest : floorAnswer b .number ≡ 0 → Greatest b (floorAnswer b .second)
   unfolding floor instance
   greatest e =
       let (ok, all′) = all-reached b e in
-      let d = startToGoal (instance b 0) in
-      let (a, l, q) = greatest-one (agents b) d (limits b 0 (bytes-clear b ok) .k-least) in
+      let d = startToGoal (instance b 0 1) in
+      let (a, l, q) = greatest-one (agents b) d (limits b 0 1 (bytes-clear b ok) .k-least) in
       let least : (c : ℕ) → c < agents b → d c ≤ floorAnswer b .second = λ c l. rw (floor-count b e) (greatest-le (agents b) d c l) in
-      let witness : (c : ℕ) → c < agents b → HasGoal (goalOf b c) → d c ≡ floorAnswer b .second → Shortest (instance b 0) (startOf b c) (goalOf b c) (floorAnswer b .second) =
-      λ c l g z. subst (Shortest (instance b 0) (startOf b c) (goalOf b c)) z (walk (bytes-clear b ok) c l g (all′ c l)) in
+      let witness : (c : ℕ) → c < agents b → HasGoal (goalOf b c) → d c ≡ floorAnswer b .second → Shortest (instance b 0 1) (startOf b c) (goalOf b c) (floorAnswer b .second) =
+      λ c l g z. subst (Shortest (instance b 0 1) (startOf b c) (goalOf b c)) z (walk (bytes-clear b ok) c l g (all′ c l)) in
       record {
         each = λ a l g. (d a, least a l, walk (bytes-clear b ok) a l g (all′ a l));
         one =
@@ -138,17 +138,17 @@ module _ (b : List ℕ) where
   unfolding instance
   cut e =
       let ok = bytes-clear b (past-bytes b e) in
-      let ends = endpoints b 0 ok in
+      let ends = endpoints b 0 1 ok in
       let (a, l, f, q) = first-cut b e in
-      let far : startToGoal (instance b 0) a ≡ unreachable =
-      by-cases (ℕ-discrete (startToGoal (instance b 0) a) unreachable) (λ z. z) (λ d. absurd (f .here l (reached a .1 d))) in
-      let g : HasGoal (goalOf b a) = λ z. let o = to-goal-free (goalOf b a) (distance (instance b 0) (startOf b a) (goalOf b a)) (eqb-iff _ noGoal .1 z) in omega (arith, far, o) in (
+      let far : startToGoal (instance b 0 1) a ≡ unreachable =
+      by-cases (ℕ-discrete (startToGoal (instance b 0 1) a) unreachable) (λ z. z) (λ d. absurd (f .here l (reached a .1 d))) in
+      let g : HasGoal (goalOf b a) = λ z. let o = to-goal-free (goalOf b a) (distance (instance b 0 1) (startOf b a) (goalOf b a)) (eqb-iff _ noGoal .1 z) in omega (arith, far, o) in (
         a,
         record {
           agent = l;
           has = g;
           cut =
-              mark-iff (instance b 0) (edges-known b 0 ok) (few b 0 ok) _ _ (ends .startsInside a l) (ends .goalsInside a l g) .0
+              mark-iff (instance b 0 1) (edges-known b 0 1 ok) (few b 0 1 ok) _ _ (ends .startsInside a l) (ends .goalsInside a l g) .0
               (sym (measured ok a g) ∙ far);
           lower = λ c o h. (_, walk ok c (omega arith) h (f .before c o) .walk);
           offset = q;
@@ -158,17 +158,17 @@ module _ (b : List ℕ) where
 pub distances-claim : Claim
 distances-claim =
     record {
-      distances = λ b m e. distances b m (instance-iff b m .0 e);
-      pruned = λ b m e. prunes b m (instance-iff b m .0 e);
+      distances = λ b m rule e. distances b m rule (instance-iff b m rule .0 e);
+      pruned = λ b m rule e. prunes b m rule (instance-iff b m rule .0 e);
       horizon = same;
       floor = greatest;
       thirty = cut;
-      lowest = λ b e m p w. floor-below b (bytes-ok b 0 (instance-iff b 0 .0 e)) m p w;
-      accepted = λ b m p e.
-          let ok = accepted-plan b m p e in
-          floor-below b (bytes-ok b m ok) m p (check-iff b m ok p .0 e);
+      lowest = λ b e m rule p w. floor-below b (bytes-ok b 0 1 (instance-iff b 0 1 .0 e)) m rule p w;
+      accepted = λ b m rule p e.
+          let ok = accepted-plan b m rule p e in
+          floor-below b (bytes-ok b m rule ok) m rule p (check-iff b m rule ok p .0 e);
       none = no-plan;
-      refused = λ b e m p z.
-          let ok = accepted-plan b m p z in
-          no-plan b e m p (check-iff b m ok p .0 z);
+      refused = λ b e m rule p z.
+          let ok = accepted-plan b m rule p z in
+          no-plan b e m rule p (check-iff b m rule ok p .0 z);
     }

@@ -32,62 +32,63 @@ pub counted : (qs : List Question) (c : ℕ) → T (all numbered qs) → decide 
 counted qs c ok e = ap (λ (a : Answer). a .second) (decide-count qs c (decide-iff qs c ok .0 e))
 
 -- a question behind those of the instance is answered yes
-next-clear : (b : List ℕ) (m : ℕ) (q : Question) (qs : List Question) → T (all clear (instanceQuestions b m ++ q ∷ qs)) → q ≡ []
-next-clear b m q qs t = clear-iff q .0 (and-iff (clear q) _ .0 (all-append clear (instanceQuestions b m) (q ∷ qs) .0 t .1) .0)
+next-clear : (b : List ℕ) (m rule : ℕ) (q : Question) (qs : List Question) → T (all clear (instanceQuestions b m rule ++ q ∷ qs)) → q ≡ []
+next-clear b m rule q qs t = clear-iff q .0 (and-iff (clear q) _ .0 (all-append clear (instanceQuestions b m rule) (q ∷ qs) .0 t .1) .0)
 
-module _ (b : List ℕ) (m : ℕ) (ok : T (all clear (instanceQuestions b m))) where
+module _ (b : List ℕ) (m rule : ℕ) (ok : T (all clear (instanceQuestions b m rule))) where
   abbrev I : Instance
-  I = instance b m
+  I = instance b m rule
 
   pub plan-steps : (p : List ℕ) → Passes I p → makespan (I .sizes .k) p ≡ m
   unfolding instance
   plan-steps p w =
       let k : ℕ = agents b in
-      let l : 1 ≤ k = limits b m ok .k-least in
+      let l : 1 ≤ k = limits b m rule ok .k-least in
       let e : length p / k ≡ suc m = ap (λ (x : ℕ). x / k) (w .size ∙ mul-comm (suc m) k) ∙ mul-div-cancel-left (suc m) l in
       let d : suc m - 1 ≡ m = omega arith in
       ap (λ (x : ℕ). x - 1) e ∙ d
 
-  counts : Counts b m
+  counts : Counts b m rule
   unfolding instance clauseAnswer checkAnswer decodeAnswer encodeAnswer readAnswer
   counts =
       record {
-        size = λ e. let c = size-call formula b m in (c .wordsCounted e ∙ word-count I (edges-known b m ok) (goals-counted b m), c .clausesCounted e ∙ clause-count I (goals-counted b m));
+        size = λ e. let c = size-call formula b m rule in (c .wordsCounted e ∙ word-count I (edges-known b m rule ok) (goals-counted b m rule), c .clausesCounted e ∙ clause-count I (goals-counted b m rule));
         clause = λ c room e.
-            let t = decide-iff (clauseQuestions b m c room) _ (numbered-clause b m c room) .0 e in
-            let l = ltb-iff c (length (clauses I)) .0 (ask-nil _ _ .0 (next-clear b m _ _ t)) in (
-              rw (clause-count I (goals-counted b m)) at l,
-              counted (clauseQuestions b m c room) _ (numbered-clause b m c room) e ∙ length-append (getD (clauses I) c []) _ ∙ add-one _,
+            let t = decide-iff (clauseQuestions b m rule c room) _ (numbered-clause b m rule c room) .0 e in
+            let l = ltb-iff c (length (clauses I)) .0 (ask-nil _ _ .0 (next-clear b m rule _ _ t)) in (
+              rw (clause-count I (goals-counted b m rule)) at l,
+              counted (clauseQuestions b m rule c room) _ (numbered-clause b m rule c room) e ∙ length-append (getD (clauses I) c []) _ ∙ add-one _,
             );
-        check = λ p e. check-counts b m p e .count;
-        decoder = λ entries room e. counted (decodeQuestions b m entries room) _ (numbered-decode b m entries room) e ∙ ap (λ (x : ℕ). x * I .sizes .k) (sym (add-one m));
-        encoder = λ p room e. counted (encodeQuestions b m p room) _ (numbered-encode b m p room) e ∙ ap (λ (x : ℕ). I .sizes .n * I .sizes .k * x) (sym (add-one m));
-        reader = λ text room e. counted (readQuestions b m text room) _ (numbered-read b m text room) e ∙ ap (λ (x : ℕ). I .sizes .n * I .sizes .k * x) (sym (add-one m));
+        check = λ p e. check-counts b m rule p e .count;
+        decoder = λ entries room e. counted (decodeQuestions b m rule entries room) _ (numbered-decode b m rule entries room) e ∙ ap (λ (x : ℕ). x * I .sizes .k) (sym (add-one m));
+        encoder = λ p room e. counted (encodeQuestions b m rule p room) _ (numbered-encode b m rule p room) e ∙ ap (λ (x : ℕ). I .sizes .n * I .sizes .k * x) (sym (add-one m));
+        reader = λ text room e. counted (readQuestions b m rule text room) _ (numbered-read b m rule text room) e ∙ ap (λ (x : ℕ). I .sizes .n * I .sizes .k * x) (sym (add-one m));
       }
 
 pub formula-claim : Claim
 formula-claim =
     record {
-      table = λ b m e.
-          let I : Instance = instance b m in
-          let ok : T (all clear (instanceQuestions b m)) = instance-iff b m .0 e in
-          let g = edges-known b m ok in
-          let l = limits b m ok in
-          let w = goals-counted b m in
+      table = λ b m rule e.
+          let I : Instance = instance b m rule in
+          let ok : T (all clear (instanceQuestions b m rule)) = instance-iff b m rule .0 e in
+          let g = edges-known b m rule ok in
+          let l = limits b m rule ok in
+          let w = goals-counted b m rule in
           record {
             clausesByFamily = record { inA = count-A I; inB = count-B I w; inC = count-C I; inD = count-D I; inE = count-E I; inF = count-F I; inG = count-G I };
             wordsByFamily = record { inA = words-A I; inB = words-B I w; inC = words-C I; inD = words-D I; inE = words-E I; inF = words-F I g; inG = words-G I };
             clauseTotal = clause-count I w;
             wordTotal = word-count I g w;
-            mostWords = rw (word-count I g w) (words-most (I .sizes) l);
+            most = rw (word-count I g w) (words-most (I .sizes) l);
             longest = clause-most I g (l .n-most);
           };
-      check = λ b m e.
-          let ok : T (all clear (instanceQuestions b m)) = instance-iff b m .0 e in
+      check = λ b m rule e.
+          let ok : T (all clear (instanceQuestions b m rule)) = instance-iff b m rule .0 e in
           record {
-            passes = check-iff b m ok;
-            makespan = λ p z. plan-steps b m ok p (check-iff b m ok p .0 z);
+            passes = check-iff b m rule ok;
+            makespan = λ p z. plan-steps b m rule ok p (check-iff b m rule ok p .0 z);
           };
-      counts = λ b m e. counts b m (instance-iff b m .0 e);
-      largest = largest;
+      counts = λ b m rule e. counts b m rule (instance-iff b m rule .0 e);
+      largest = largest 1;
+      largestFollowing = largest 2;
     }

@@ -26,9 +26,8 @@ use Rattle.distances.proofs.Within.{floor-most}
 use Rattle.distances.proofs.Goals.{to-goal-free}
 use Rattle.formula.specs.Variables.{X}
 use Rattle.formula.specs.Formula.{Clause, B, clauses}
-use Rattle.formula.specs.Blocks.{given, family}
 use Rattle.formula.specs.Counts.{clauseCount, wordCount}
-use Rattle.formula.proofs.Blocks.{clauses-families}
+use Rattle.formula.proofs.Blocks.{stored, clauses-stored}
 use Rattle.formula.proofs.Counts.{count-A, count-B}
 use Rattle.formula.proofs.Places.{goal-block, goal-getD}
 use Rattle.plan.specs.Plan.{planRow}
@@ -43,15 +42,15 @@ either : (b : Bool) → ind (not b) + ind b ≡ 1
 either true = refl
 either false = refl
 
-module _ (b : List ℕ) (m : ℕ) where
+module _ (b : List ℕ) (m rule : ℕ) where
   abbrev I : Instance
-  I = instance b m
+  I = instance b m rule
 
   open Instance I using (sizes, goal)
   open Sizes sizes using (k, g)
 
   abbrev by : ℕ → List Clause
-  by = family (given I)
+  by = stored I
 
   others : g + length (freeAgents b) ≡ k
   unfolding instance
@@ -67,25 +66,24 @@ module _ (b : List ℕ) (m : ℕ) where
   goals = sym (simp (each-for, each-when) refl)
 
   in-B : (a : ℕ) → a < k → HasGoal (goal a) → getD (clauses I) (k + goalCount a goal) [] ≡ X sizes m a (goal a) ∷ []
-  unfolding family instance
+  unfolding instance
   in-B a l h =
       let e : k + goalCount a goal ≡ sum 1 (λ u. length (by u)) + goalCount a goal = omega (arith, count-A I) in
-      let r : goalCount a goal < length (by 1) = omega (arith, count-B I (goals-counted b m), goals-counted b m, goal-count-below goal k a l h) in
+      let r : goalCount a goal < length (by 1) = omega (arith, count-B I (goals-counted b m rule), goals-counted b m rule, goal-count-below goal k a l h) in
       ap (λ (x : ℕ). getD (clauses I) x []) e
-      ∙ ap (λ (L : List Clause). getD L (sum 1 (λ u. length (by u)) + goalCount a goal) []) (clauses-families I)
+      ∙ ap (λ (L : List Clause). getD L (sum 1 (λ u. length (by u)) + goalCount a goal) []) (clauses-stored I)
       ∙ for-at 7 by [] 1 (goalCount a goal) (omega arith) r
       ∙ goal-getD sizes goal a l h
 
   behind-B : (i : ℕ) → getD (clauses I) (k + g + i) [] ≡ getD (for 5 (λ j. by (2 + j))) i []
-  unfolding family
   behind-B i =
-      let e : k + g + i ≡ length (for 2 by) + i = omega (arith, length-append (by 0) (by 1), count-A I, count-B I (goals-counted b m)) in
+      let e : k + g + i ≡ length (for 2 by) + i = omega (arith, length-append (by 0) (by 1), count-A I, count-B I (goals-counted b m rule)) in
       ap (λ (x : ℕ). getD (clauses I) x []) e
-      ∙ ap (λ (L : List Clause). getD L (length (for 2 by) + i) []) (clauses-families I ∙ for-split 2 5 by)
+      ∙ ap (λ (L : List Clause). getD L (length (for 2 by) + i) []) (clauses-stored I ∙ for-split 2 5 by)
       ∙ getD-append-add (for 2 by) (for 5 (λ j. by (2 + j))) i []
 
-  in-formula : InFormula b m
-  unfolding clauseCount wordCount family instance
+  in-formula : InFormula b m rule
+  unfolding clauseCount wordCount instance
   in-formula =
       record {
         goals = goals;
@@ -96,7 +94,7 @@ module _ (b : List ℕ) (m : ℕ) where
         fewerWords = omega (arith, others);
       }
 
-  off : (p : List ℕ) (answer : Answer) → OffAt I p answer → OffGoal b m p (answer .second)
+  off : (p : List ℕ) (answer : Answer) → OffAt I p answer → OffGoal b m rule p (answer .second)
   unfolding instance
   off p answer (a, l, f, e) =
       record {
@@ -109,34 +107,34 @@ module _ (b : List ℕ) (m : ℕ) where
       }
 
   -- where every agent has a goal
-  bound : AllBound I → Bound b m
+  bound : AllBound I → Bound b m rule
   unfolding B instance
   bound h =
       let e : B sizes goal ≡ for k (λ a. (X sizes m a (goal a) ∷ []) ∷ []) = for-ext k _ _ (λ a l. goal-block sizes goal a (h a l)) in
       record {
-        all = sym (count-B I (goals-counted b m)) ∙ ap length e ∙ for1-length k _;
+        all = sym (count-B I (goals-counted b m rule)) ∙ ap length e ∙ for1-length k _;
         wholeB = e;
       }
 
   module _ (none : AllFree I) where
     -- what is measured to no goal is 0
-    nothing : (a : ℕ) → a < agents b → startToGoal (instance b 0) a ≡ 0
+    nothing : (a : ℕ) → a < agents b → startToGoal (instance b 0 1) a ≡ 0
     unfolding instance
     nothing a l = to-goal-free (goalOf b a) _ (eqb-iff (goalOf b a) noGoal .1 (none a l))
 
-    floor-none : instanceAnswer b 0 .number ≡ 0 → floorAnswer b ≡ accept 0
+    floor-none : instanceAnswer b 0 1 .number ≡ 0 → floorAnswer b ≡ accept 0
     unfolding instance
     floor-none e =
-        let zero : floor (instance b 0) ≡ 0 = omega (arith, floor-most (instance b 0) 0 (λ a l. omega (arith, nothing a l))) in
-        floor-accepts b (bytes-ok b 0 (instance-iff b 0 .0 e)) (λ a l. rw (nothing a l) tt) ∙ ap accept zero
+        let zero : floor (instance b 0 1) ≡ 0 = omega (arith, floor-most (instance b 0 1) 0 (λ a l. omega (arith, nothing a l))) in
+        floor-accepts b (bytes-ok b 0 1 (instance-iff b 0 1 .0 e)) (λ a l. rw (nothing a l) tt) ∙ ap accept zero
 
-    idle : Idle b m
+    idle : Idle b m rule
     unfolding B instance
     idle =
         record {
           emptyB = for-nil k _ .1 (λ a l. rw (eq-eqb (goal a) noGoal (none a l)));
-          checked = λ p e. let o = off p (checkAnswer b m p) (off-check b m p e) in o .has (none (o .a) (o .agent));
-          encoded = λ p room e. let o = off p (encodeAnswer b m p room) (off-encode b m p room e) in o .has (none (o .a) (o .agent));
+          checked = λ p e. let o = off p (checkAnswer b m rule p) (off-check b m rule p e) in o .has (none (o .a) (o .agent));
+          encoded = λ p room e. let o = off p (encodeAnswer b m rule p room) (off-encode b m rule p room e) in o .has (none (o .a) (o .agent));
           floor = floor-none;
         }
 
@@ -145,8 +143,8 @@ free-claim =
     record {
       nine = goals-new;
       formula = in-formula;
-      check = λ b m p e. off b m p (checkAnswer b m p) (off-check b m p e);
-      encode = λ b m p room e. off b m p (encodeAnswer b m p room) (off-encode b m p room e);
+      check = λ b m rule p e. off b m rule p (checkAnswer b m rule p) (off-check b m rule p e);
+      encode = λ b m rule p room e. off b m rule p (encodeAnswer b m rule p room) (off-encode b m rule p room e);
       allBound = bound;
       allFree = idle;
     }

@@ -11,3 +11,4 @@ pub mod Reader
 pub mod Refusals
 pub mod Size
 pub mod Free
+pub mod Rule

@@ -17,24 +17,24 @@ use Rattle.instance.proofs.Instance.{instance-iff, edges-known, limits}
 use Rattle.instance.proofs.Neighbours.{words-length, words-handshake, word-degree, word-neighbours, none-beyond, joined-at}
 use Rattle.claims.specs.Neighbours.{SameGraph, Claim}
 
-module _ (b : List ℕ) (m : ℕ) (e : instanceAnswer b m .number ≡ 0) where
+module _ (b : List ℕ) (m rule : ℕ) (e : instanceAnswer b m rule .number ≡ 0) where
   abbrev I : Instance
-  I = instance b m
+  I = instance b m rule
 
-  yes : T (all clear (instanceQuestions b m))
-  yes = instance-iff b m .0 e
+  yes : T (all clear (instanceQuestions b m rule))
+  yes = instance-iff b m rule .0 e
 
-  words : instanceChecked b m .near ≡ neighbourWords I
+  words : instanceChecked b m rule .near ≡ neighbourWords I
   unfolding instanceChecked checked
-  words = ap (λ (c : Checked). c .near) (byNumber-accepted (instanceAnswer b m .number) (checked b m) unchecked e)
+  words = ap (λ (c : Checked). c .near) (byNumber-accepted (instanceAnswer b m rule .number) (checked b m rule) unchecked e)
 
   edges : Edges I
-  edges = edges-known b m yes
+  edges = edges-known b m rule yes
 
   few : I .sizes .n ≤ 64
-  few = limits b m yes .n-most
+  few = limits b m rule yes .n-most
 
-  same : SameGraph I (instanceChecked b m .near)
+  same : SameGraph I (instanceChecked b m rule .near)
   same =
       subst (SameGraph I) (sym words)
       (record {

@@ -75,8 +75,8 @@ module _ (s : Sizes) where
         }
 
 pub numbering : Claim
-numbering b m e =
-    let c = correspondence b m e in
+numbering b m rule e =
+    let c = correspondence b m rule e in
     record {
       numbers = numbers _;
       decoded = λ es s l h. told _ es _ (c .decoder es s l .0 h .0) (c .decoded es s l h .0);

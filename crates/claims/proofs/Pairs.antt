@@ -16,8 +16,7 @@ use Rattle.instance.specs.declared.Sizes.{Sizes}
 use Rattle.instance.specs.Instance.{Instance, Counted}
 use Rattle.formula.specs.Variables.{Literal, ¬X}
 use Rattle.formula.specs.Formula.{Clause, noTwo, D, E, clauses}
-use Rattle.formula.specs.Blocks.{given, family}
-use Rattle.formula.proofs.Blocks.{clauses-families}
+use Rattle.formula.proofs.Blocks.{stored, clauses-stored}
 use Rattle.formula.proofs.Counts.{count-A, count-B, count-C, count-D}
 use Rattle.formula.proofs.Places.{two-length, two-getD}
 use Rattle.claims.specs.Pairs.{Items, Families, Claim}
@@ -58,7 +57,7 @@ module _ (I : Instance) (w : Counted I) where
   open Sizes sizes using (n, k, m)
 
   abbrev by : ℕ → List Clause
-  by = family (given I)
+  by = stored I
 
   -- family j has for each time b blocks of the pairs of c items, and `before` clauses stand before it
   numbered : (j b c before : ℕ) (¬x : ℕ → ℕ → ℕ → Literal) → j < 7 → before ≡ sum j (λ u. length (by u)) → by j ≡ for (suc m) (λ t. for b λ x. noTwo c (¬x t x))
@@ -72,14 +71,14 @@ module _ (I : Instance) (w : Counted I) where
       ap length f ∙ for-length (suc m) (b * pairs c) _ (λ t l. for-length b (pairs c) _ (λ x l. two-length c (¬x t x))) in
       let r : i < suc m * b * pairs c = place-lt (suc m * b) (pairs c) (t * b + x) place (place-lt (suc m) b t x (omega arith) q) (pair-within c v w o l) in
       rw (z, e)
-      (ap (λ (L : List Clause). getD L (sum j (λ u. length (by u)) + i) []) (clauses-families I)
+      (ap (λ (L : List Clause). getD L (sum j (λ u. length (by u)) + i) []) (clauses-stored I)
       ∙ for-at 7 by [] j i h (omega (arith, len, mul-assoc (suc m) b (pairs c)))
       ∙ ap (λ (L : List Clause). getD L i []) f
       ∙ nested-getD (suc m) b (pairs c) (λ t x. noTwo c (¬x t x)) [] (λ t x. two-length c (¬x t x)) t x place (omega arith) q (pair-within c v w o l)
       ∙ two-getD c (¬x t x) v w o l)
 
   families : Families I
-  unfolding family D E
+  unfolding D E
   families =
       record {
         vertices = λ t a. by-pairs n _;

@@ -15,7 +15,7 @@ use Rattle.answers.specs.declared.Answer.{Answer}
 use Rattle.answers.specs.Answers.{Question, ask, askEach, decide, withClauses}
 use Rattle.answers.proofs.Laws.{numbered, ask-all, decide-iff, lent-refused, numbered-second}
 use Rattle.instance.specs.Instance.{Instance, instance}
-use Rattle.instance.specs.Questions.{question10, bytesQuestions, instanceQuestions, instanceAnswer}
+use Rattle.instance.specs.Questions.{question10, question31, bytesQuestions, instanceQuestions, instanceAnswer}
 use Rattle.instance.proofs.Instance.{numbered-instance}
 use Rattle.formula.specs.Formula.{Formula, formula}
 use Rattle.calls.specs.Questions.{question13, question14, question15, question16, question23, question24}
@@ -114,12 +114,12 @@ honest : (qs : List Question) (c : ℕ) → T (all numbered qs) → EachAsked qs
 honest qs c ok h = record { accepts = decide-iff qs c ok; refuses = first-no qs c h }
 
 -- ---- the questions of each call: no number is 0, and each has the shape
-numbered-more : (b : List ℕ) (m : ℕ) (qs : List Question) → T (all numbered qs) → T (all numbered (instanceQuestions b m ++ qs))
-numbered-more b m qs h = all-append numbered (instanceQuestions b m) qs .1 (numbered-instance b m, h)
+numbered-more : (b : List ℕ) (m rule : ℕ) (qs : List Question) → T (all numbered qs) → T (all numbered (instanceQuestions b m rule ++ qs))
+numbered-more b m rule qs h = all-append numbered (instanceQuestions b m rule) qs .1 (numbered-instance b m rule, h)
 
-module _ (b : List ℕ) (m : ℕ) where
+module _ (b : List ℕ) (m rule : ℕ) where
   abbrev I : Instance
-  I = instance b m
+  I = instance b m rule
 
   abbrev F : Formula
   F = formula I
@@ -127,12 +127,12 @@ module _ (b : List ℕ) (m : ℕ) where
   asked-bytes : EachAsked (bytesQuestions b)
   asked-bytes = (one _ _, (one _ _, (one _ _, (one _ _, (one _ _, (many _ _ _, (many _ _ _, (many _ _ _, (many _ _ _, tt)))))))))
 
-  asked-instance : EachAsked (instanceQuestions b m)
+  asked-instance : EachAsked (instanceQuestions b m rule)
   unfolding instanceQuestions
-  asked-instance = asked-append (bytesQuestions b) (question10 m ∷ []) asked-bytes (one _ _, tt)
+  asked-instance = asked-append (bytesQuestions b) (question10 m ∷ question31 rule ∷ []) asked-bytes (one _ _, (one _ _, tt))
 
-  asked-more : (qs : List Question) → EachAsked qs → EachAsked (instanceQuestions b m ++ qs)
-  asked-more qs h = asked-append (instanceQuestions b m) qs asked-instance h
+  asked-more : (qs : List Question) → EachAsked qs → EachAsked (instanceQuestions b m rule ++ qs)
+  asked-more qs h = asked-append (instanceQuestions b m rule) qs asked-instance h
 
   asked-plan : (p : List ℕ) → EachAsked (planQuestions I p)
   unfolding planQuestions
@@ -144,29 +144,29 @@ module _ (b : List ℕ) (m : ℕ) where
     ),
   )
 
-  pub numbered-write : (f : Instance → Formula) (room : ℕ) → T (all numbered (writeQuestions f b m room))
-  numbered-write f room = numbered-more b m _ (simp (and-iff, ask-all) ((λ f. tt), tt))
+  pub numbered-write : (f : Instance → Formula) (room : ℕ) → T (all numbered (writeQuestions f b m rule room))
+  numbered-write f room = numbered-more b m rule _ (simp (and-iff, ask-all) ((λ f. tt), tt))
 
-  pub numbered-clause : (c room : ℕ) → T (all numbered (clauseQuestions b m c room))
-  numbered-clause c room = numbered-more b m _ (simp (and-iff, ask-all) ((λ f. tt), ((λ f. tt), tt)))
+  pub numbered-clause : (c room : ℕ) → T (all numbered (clauseQuestions b m rule c room))
+  numbered-clause c room = numbered-more b m rule _ (simp (and-iff, ask-all) ((λ f. tt), ((λ f. tt), tt)))
 
-  pub numbered-check : (p : List ℕ) → T (all numbered (checkQuestions b m p))
-  numbered-check p = numbered-more b m _ (numbered-plan I p)
+  pub numbered-check : (p : List ℕ) → T (all numbered (checkQuestions b m rule p))
+  numbered-check p = numbered-more b m rule _ (numbered-plan I p)
 
-  pub numbered-decode : (entries : List ℤ) (room : ℕ) → T (all numbered (decodeQuestions b m entries room))
+  pub numbered-decode : (entries : List ℤ) (room : ℕ) → T (all numbered (decodeQuestions b m rule entries room))
   numbered-decode entries room =
-      numbered-more b m _
+      numbered-more b m rule _
       (numbered-second (question14 F entries) (question15 I room) (question23 F entries ∷ question24 F entries ∷ [])
       (simp ask-all (λ f. tt)) (numbered-valuation F entries))
 
-  pub numbered-encode : (p : List ℕ) (room : ℕ) → T (all numbered (encodeQuestions b m p room))
+  pub numbered-encode : (p : List ℕ) (room : ℕ) → T (all numbered (encodeQuestions b m rule p room))
   numbered-encode p room =
-      numbered-more b m _
+      numbered-more b m rule _
       (numbered-second (question13 I p) (question16 F room) (planQuestions I p) (simp ask-all (λ f. tt)) (numbered-plan I p))
 
-  pub numbered-read : (text : List ℕ) (room : ℕ) → T (all numbered (readQuestions b m text room))
+  pub numbered-read : (text : List ℕ) (room : ℕ) → T (all numbered (readQuestions b m rule text room))
   numbered-read text room =
-      numbered-more b m _ (and-iff (numbered (question16 F room)) _ .1 (simp ask-all (λ f. tt), numbered-text (F .variables) text))
+      numbered-more b m rule _ (and-iff (numbered (question16 F room)) _ .1 (simp ask-all (λ f. tt), numbered-text (F .variables) text))
 
   asked-text : (text : List ℕ) → EachAsked (textQuestions (F .variables) text)
   unfolding textQuestions
@@ -174,24 +174,24 @@ module _ (b : List ℕ) (m : ℕ) where
 
 pub refusals : Claim
 unfolding instanceAnswer sizeAnswer withClauses writeAnswer writeSlice clauseAnswer clauseSlice checkAnswer decodeAnswer decodeSlice encodeAnswer encodeSlice readAnswer readSlice floorAnswer
-refusals b m =
+refusals b m rule =
     record {
-      instance = honest (instanceQuestions b m) 0 (numbered-instance b m) (asked-instance b m);
-      size = λ f. honest (sizeQuestions b m) _ (numbered-instance b m) (asked-instance b m);
-      writer = λ f room. honest (writeQuestions f b m room) _ (numbered-write b m f room) (asked-more b m _ (one _ _, tt));
+      instance = honest (instanceQuestions b m rule) 0 (numbered-instance b m rule) (asked-instance b m rule);
+      size = λ f. honest (sizeQuestions b m rule) _ (numbered-instance b m rule) (asked-instance b m rule);
+      writer = λ f room. honest (writeQuestions f b m rule room) _ (numbered-write b m rule f room) (asked-more b m rule _ (one _ _, tt));
       writerSlice = λ f s d. lent-refused _ _ s d;
-      clause = λ c room. honest (clauseQuestions b m c room) _ (numbered-clause b m c room) (asked-more b m _ (one _ _, (one _ _, tt)));
+      clause = λ c room. honest (clauseQuestions b m rule c room) _ (numbered-clause b m rule c room) (asked-more b m rule _ (one _ _, (one _ _, tt)));
       clauseSlice = λ c s d. lent-refused _ _ s d;
-      check = λ p. honest (checkQuestions b m p) _ (numbered-check b m p) (asked-more b m _ (one _ _, asked-plan b m p));
+      check = λ p. honest (checkQuestions b m rule p) _ (numbered-check b m rule p) (asked-more b m rule _ (one _ _, asked-plan b m rule p));
       decoder = λ entries room.
-          honest (decodeQuestions b m entries room) _ (numbered-decode b m entries room)
-          (asked-more b m _ (one _ _, (one _ _, (many _ _ _, (many _ _ _, tt)))));
+          honest (decodeQuestions b m rule entries room) _ (numbered-decode b m rule entries room)
+          (asked-more b m rule _ (one _ _, (one _ _, (many _ _ _, (many _ _ _, tt)))));
       decoderSlice = λ entries s d. lent-refused _ _ s d;
       encoder = λ p room.
-          honest (encodeQuestions b m p room) _ (numbered-encode b m p room) (asked-more b m _ (one _ _, (one _ _, asked-plan b m p)));
+          honest (encodeQuestions b m rule p room) _ (numbered-encode b m rule p room) (asked-more b m rule _ (one _ _, (one _ _, asked-plan b m rule p)));
       encoderSlice = λ p s d. lent-refused _ _ s d;
       reader = λ text room.
-          honest (readQuestions b m text room) _ (numbered-read b m text room) (asked-more b m _ (one _ _, asked-text b m text));
+          honest (readQuestions b m rule text room) _ (numbered-read b m rule text room) (asked-more b m rule _ (one _ _, asked-text b m rule text));
       readerSlice = λ text s d. lent-refused _ _ s d;
-      floor = honest (floorQuestions b) _ (numbered-floor b) (asked-append (bytesQuestions b) (goalQuestion b ∷ []) (asked-bytes b m) (many _ _ _, tt));
+      floor = honest (floorQuestions b) _ (numbered-floor b) (asked-append (bytesQuestions b) (goalQuestion b ∷ []) (asked-bytes b m rule) (many _ _ _, tt));
     }

@@ -17,12 +17,12 @@ abbrev pub busy : Sizes → List ℕ → List (ℕ × ℕ)
 busy s p = for (s .m) λ t. for (s .k) λ a. unless (rests (s .m) (planRow s p) a t) (t, a)
 
 -- for an instance, horizon and plan that the plan check accepts
-pub record Counted (b : List ℕ) (m : ℕ) (p : List ℕ) : Type 0 where
+pub record Counted (b : List ℕ) (m rule : ℕ) (p : List ℕ) : Type 0 where
   -- the count is the sum of the times until rest
-  pub total : checkAnswer b m p .second ≡ sum (instance b m .sizes .k) (restTime m (planRow (instance b m .sizes) p))
+  pub total : checkAnswer b m rule p .second ≡ sum (instance b m rule .sizes .k) (restTime m (planRow (instance b m rule .sizes) p))
   -- it is at most m·k, and so at most 512
-  pub most : checkAnswer b m p .second ≤ m * instance b m .sizes .k
-  pub most512 : checkAnswer b m p .second ≤ 512
+  pub most : checkAnswer b m rule p .second ≤ m * instance b m rule .sizes .k
+  pub most512 : checkAnswer b m rule p .second ≤ 512
 
 pub record Claim : Type 0 where
   -- the test says what the proposition says
@@ -32,4 +32,4 @@ pub record Claim : Type 0 where
   pub only : (m : ℕ) (P : ℕ → Row) (a t : ℕ) → BusyUntil m P a t → t ≡ restTime m P a
   -- the cost is the number of pairs t, a with the agent not yet at rest at t
   pub pairs : (s : Sizes) (p : List ℕ) → cost s p ≡ length (busy s p)
-  pub check : (b : List ℕ) (m : ℕ) (p : List ℕ) → checkAnswer b m p .number ≡ 0 → Counted b m p
+  pub check : (b : List ℕ) (m rule : ℕ) (p : List ℕ) → checkAnswer b m rule p .number ≡ 0 → Counted b m rule p

@@ -1,5 +1,5 @@
--- The worked examples, as one table and one claim. A row has an instance, a horizon, a call with what is lent to it, and what is
--- then seen: the answer and the lent slice.
+-- The worked examples under rule 1, as one table and one claim. A row has an instance, a horizon, a rule, a call with what is lent to it,
+-- and what is then seen: the answer and the lent slice. `Following` has those under rule 2.
 use mathlib.Core.Path.{_≡_}
 use mathlib.Core.List.{List, [], _∷_, _++_, map}
 use Prim.Native.Nat.{ℕ}
@@ -70,42 +70,44 @@ pub data Seen : Type 0 where
   plan : Answer → List ℕ → Seen
   valuation : Answer → List ℤ → Seen
 
-abbrev pub run : List ℕ → ℕ → Call → Seen
-run b m size = counts (sizeAnswer formula b m)
-run b m prunedSize = counts (sizeAnswer pruned b m)
-run b m (write s) = words (writeAnswer formula b m (length s)) (writeSlice formula b m s)
-run b m (prune s) = words (writeAnswer pruned b m (length s)) (writeSlice pruned b m s)
-run b m (clause c s) = words (clauseAnswer b m c (length s)) (clauseSlice b m c s)
-run b m (check p) = answer (checkAnswer b m p)
-run b m (decode entries s) = plan (decodeAnswer b m entries (length s)) (decodeSlice b m entries s)
-run b m (encode p s) = valuation (encodeAnswer b m p (length s)) (encodeSlice b m p s)
-run b m (read text s) = valuation (readAnswer b m text (length s)) (readSlice b m text s)
-run b m floor = answer (floorAnswer b)
+abbrev pub run : List ℕ → ℕ → ℕ → Call → Seen
+run b m rule size = counts (sizeAnswer formula b m rule)
+run b m rule prunedSize = counts (sizeAnswer pruned b m rule)
+run b m rule (write s) = words (writeAnswer formula b m rule (length s)) (writeSlice formula b m rule s)
+run b m rule (prune s) = words (writeAnswer pruned b m rule (length s)) (writeSlice pruned b m rule s)
+run b m rule (clause c s) = words (clauseAnswer b m rule c (length s)) (clauseSlice b m rule c s)
+run b m rule (check p) = answer (checkAnswer b m rule p)
+run b m rule (decode entries s) = plan (decodeAnswer b m rule entries (length s)) (decodeSlice b m rule entries s)
+run b m rule (encode p s) = valuation (encodeAnswer b m rule p (length s)) (encodeSlice b m rule p s)
+run b m rule (read text s) = valuation (readAnswer b m rule text (length s)) (readSlice b m rule text s)
+run b m rule floor = answer (floorAnswer b)
 
 pub record Example : Type 0 where
   pub bytes : List ℕ
   pub horizon : ℕ
+  pub rule : ℕ
   pub call : Call
   pub seen : Seen
 
+-- under rule 1
 abbrev example : List ℕ → ℕ → Call → Seen → Example
-example b m c s = record { bytes = b; horizon = m; call = c; seen = s }
+example b m c s = record { bytes = b; horizon = m; rule = 1; call = c; seen = s }
 
 -- ---- literals, and slices that hold 7 throughout when they are lent
-abbrev neg : ℕ → ℤ
+abbrev pub neg : ℕ → ℤ
 neg x = negℤ (pos x)
 
-abbrev sevens : ℕ → List ℤ
+abbrev pub sevens : ℕ → List ℤ
 sevens count = replicate count (pos 7)
 
-abbrev lentPlan : List ℕ
+abbrev pub lentPlan : List ℕ
 lentPlan = replicate 4 7
 
 -- a size call accepts with these words and clauses, or refuses with this number and place
-abbrev sized : ℕ → ℕ → Seen
+abbrev pub sized : ℕ → ℕ → Seen
 sized count clauses = counts (record { number = 0; second = count; clauses = clauses })
 
-abbrev unsized : ℕ → ℕ → Seen
+abbrev pub unsized : ℕ → ℕ → Seen
 unsized number place = counts (record { number = number; second = place; clauses = 0 })
 
 -- ---- the words of formulas, a clause a line
@@ -120,12 +122,12 @@ pairBehind =
     ∷ neg 2 ∷ pos 4 ∷ pos 3 ∷ pos 0
     ∷ []
 
-abbrev pairWords : List ℤ
+abbrev pub pairWords : List ℤ
 pairWords = pos 1 ∷ pos 0 ∷ pos 4 ∷ pos 0 ∷ pairBehind
 
--- the exchange's
-abbrev exchangeBehind : List ℤ
-exchangeBehind =
+-- the exchange's: C to F, with G, and A and B
+abbrev pub exchangeShared : List ℤ
+exchangeShared =
     pos 1 ∷ pos 2 ∷ pos 0
     ∷ pos 5 ∷ pos 6 ∷ pos 0
     ∷ pos 3 ∷ pos 4 ∷ pos 0
@@ -142,14 +144,19 @@ exchangeBehind =
     ∷ neg 2 ∷ pos 4 ∷ pos 3 ∷ pos 0
     ∷ neg 5 ∷ pos 7 ∷ pos 8 ∷ pos 0
     ∷ neg 6 ∷ pos 8 ∷ pos 7 ∷ pos 0
-    ∷ neg 5 ∷ neg 3 ∷ pos 0
+    ∷ []
+
+abbrev exchangeBehind : List ℤ
+exchangeBehind =
+    exchangeShared
+    ++ neg 5 ∷ neg 3 ∷ pos 0
     ∷ neg 6 ∷ neg 4 ∷ pos 0
     ∷ neg 1 ∷ neg 7 ∷ pos 0
     ∷ neg 2 ∷ neg 8 ∷ pos 0
     ∷ []
 
-abbrev exchangeWords : List ℤ
-exchangeWords = pos 1 ∷ pos 0 ∷ pos 6 ∷ pos 0 ∷ pos 4 ∷ pos 0 ∷ pos 7 ∷ pos 0 ∷ exchangeBehind
+abbrev pub exchangeUnits : List ℤ
+exchangeUnits = pos 1 ∷ pos 0 ∷ pos 6 ∷ pos 0 ∷ pos 4 ∷ pos 0 ∷ pos 7 ∷ pos 0 ∷ []
 
 -- the valuation of two agents on the path, a time a line: agent 0 waits at 0 and goes to 1, agent 1 goes from 1 to 2 and waits
 abbrev waitThenFollow : List ℤ
@@ -302,7 +309,7 @@ table =
     ∷ example exchange 1 (check (0 ∷ 1 ∷ 1 ∷ 0 ∷ [])) (answer (refuse 25 2))
     ∷ example exchange 1 (encode (0 ∷ 1 ∷ 1 ∷ 0 ∷ []) (sevens 8)) (valuation (refuse 25 2) (sevens 8))
     ∷ example exchange 1 size (sized 72 24)
-    ∷ example exchange 1 (write (sevens 72)) (words (accept 0) exchangeWords)
+    ∷ example exchange 1 (write (sevens 72)) (words (accept 0) (exchangeUnits ++ exchangeBehind))
     -- agent 0 is at both vertices at time 1, then agent 1 at time 0 too, whose variables are higher and whose clause is lower
     ∷ example exchange 1 (decode (pos 1 ∷ neg 2 ∷ pos 3 ∷ pos 4 ∷ neg 5 ∷ pos 6 ∷ pos 7 ∷ neg 8 ∷ []) lentPlan) (plan (refuse 24 10) lentPlan)
     ∷ example exchange 1 (decode (pos 1 ∷ neg 2 ∷ pos 3 ∷ pos 4 ∷ pos 5 ∷ pos 6 ∷ pos 7 ∷ neg 8 ∷ []) lentPlan) (plan (refuse 24 9) lentPlan)
@@ -385,5 +392,8 @@ table =
     ∷ []
 
 -- every row's call gives what the row says is seen
+abbrev pub Holds : List Example → Type 0
+Holds rows = map (λ x. run (x .bytes) (x .horizon) (x .rule) (x .call)) rows ≡ map (λ x. x .seen) rows
+
 abbrev pub Claim : Type 0
-Claim = map (λ x. run (x .bytes) (x .horizon) (x .call)) table ≡ map (λ x. x .seen) table
+Claim = Holds table

@@ -22,17 +22,17 @@ use Rattle.calls.specs.Calls.{checkAnswer, encodeAnswer, floorAnswer}
 abbrev pub freeAgents : List ℕ → List ℕ
 freeAgents b = for (agents b) λ a. when (free (goalOf b a)) (a ∷ [])
 
--- for the instance bytes b and the horizon m
-module _ (b : List ℕ) (m : ℕ) where
+-- for the instance bytes b, the horizon m and the rule
+module _ (b : List ℕ) (m rule : ℕ) where
   abbrev I : Instance
-  I = instance b m
+  I = instance b m rule
 
-  open Instance I using (sizes, goal)
+  open Instance I using (sizes, low, high, goal)
   open Sizes sizes using (n, k, e, g)
 
   -- the sizes, if every agent had a goal
   abbrev pub allWithGoal : Sizes
-  allWithGoal = record { n = n; k = k; e = e; m = m; g = k }
+  allWithGoal = record { n = n; k = k; e = e; m = m; rule = rule; g = k }
 
   pub record InFormula : Type 0 where
     -- B has a clause for each agent that has a goal, in their order
@@ -40,7 +40,7 @@ module _ (b : List ℕ) (m : ℕ) where
     -- that of agent a stands behind A, and behind those of the lower agents that have a goal
     pub inB : (a : ℕ) → a < k → HasGoal (goal a) → getD (clauses I) (k + goalCount a goal) [] ≡ X sizes m a (goal a) ∷ []
     -- the families behind B begin at k + g
-    pub behindB : (i : ℕ) → getD (clauses I) (k + g + i) [] ≡ getD (C sizes ++ D sizes ++ E sizes ++ F sizes (adjacent I) ++ G sizes) i []
+    pub behindB : (i : ℕ) → getD (clauses I) (k + g + i) [] ≡ getD (C sizes ++ D sizes ++ E sizes ++ F sizes (adjacent I) ++ G sizes low high) i []
     -- one clause and two words fewer for each free agent
     pub others : g + length (freeAgents b) ≡ k
     pub fewerClauses : clauseCount sizes + length (freeAgents b) ≡ clauseCount allWithGoal
@@ -63,15 +63,15 @@ module _ (b : List ℕ) (m : ℕ) where
   -- where all agents are free
   pub record Idle : Type 0 where
     pub emptyB : B sizes goal ≡ []
-    pub checked : (p : List ℕ) → checkAnswer b m p .number ≢ 22
-    pub encoded : (p : List ℕ) (room : ℕ) → encodeAnswer b m p room .number ≢ 22
-    pub floor : instanceAnswer b 0 .number ≡ 0 → floorAnswer b ≡ accept 0
+    pub checked : (p : List ℕ) → checkAnswer b m rule p .number ≢ 22
+    pub encoded : (p : List ℕ) (room : ℕ) → encodeAnswer b m rule p room .number ≢ 22
+    pub floor : instanceAnswer b 0 1 .number ≡ 0 → floorAnswer b ≡ accept 0
 
--- for all bytes and horizons
+-- for all bytes, horizons and rules
 pub record Claim : Type 0 where
   pub nine : (b : List ℕ) → T (clear (question9 b)) ↔ NewGoals b
-  pub formula : (b : List ℕ) (m : ℕ) → InFormula b m
-  pub check : (b : List ℕ) (m : ℕ) (p : List ℕ) → checkAnswer b m p .number ≡ 22 → OffGoal b m p (checkAnswer b m p .second)
-  pub encode : (b : List ℕ) (m : ℕ) (p : List ℕ) (room : ℕ) → encodeAnswer b m p room .number ≡ 22 → OffGoal b m p (encodeAnswer b m p room .second)
-  pub allBound : (b : List ℕ) (m : ℕ) → AllBound (instance b m) → Bound b m
-  pub allFree : (b : List ℕ) (m : ℕ) → AllFree (instance b m) → Idle b m
+  pub formula : (b : List ℕ) (m rule : ℕ) → InFormula b m rule
+  pub check : (b : List ℕ) (m rule : ℕ) (p : List ℕ) → checkAnswer b m rule p .number ≡ 22 → OffGoal b m rule p (checkAnswer b m rule p .second)
+  pub encode : (b : List ℕ) (m rule : ℕ) (p : List ℕ) (room : ℕ) → encodeAnswer b m rule p room .number ≡ 22 → OffGoal b m rule p (encodeAnswer b m rule p room .second)
+  pub allBound : (b : List ℕ) (m rule : ℕ) → AllBound (instance b m rule) → Bound b m rule
+  pub allFree : (b : List ℕ) (m rule : ℕ) → AllFree (instance b m rule) → Idle b m rule

@@ -11,3 +11,5 @@ pub mod Reader
 pub mod Refusals
 pub mod Size
 pub mod Free
+pub mod Rule
+pub mod Following

@@ -31,6 +31,6 @@ module _ (I : Instance) (near : List ℕ) where
     -- the degrees add up to 2e
     pub handshake : sum (I .sizes .n) (λ v. ones (word v)) ≡ 2 * I .sizes .e
 
--- for every accepted instance and horizon
+-- for every accepted instance, horizon and rule
 pub record Claim : Type 0 where
-  pub graph : (b : List ℕ) (m : ℕ) → instanceAnswer b m .number ≡ 0 → SameGraph (instance b m) (instanceChecked b m .near)
+  pub graph : (b : List ℕ) (m rule : ℕ) → instanceAnswer b m rule .number ≡ 0 → SameGraph (instance b m rule) (instanceChecked b m rule .near)

@@ -38,16 +38,16 @@ module _ (s : Sizes) where
     pub yes : (t a v : ℕ) → InRange t a v → (entry entries ((a * (m + 1) + t) * n + v) ≡ pos (number t a v)) ↔ (getD p (t * k + a) 0 ≡ v)
     pub no : (t a v : ℕ) → InRange t a v → (entry entries ((a * (m + 1) + t) * n + v) ≡ negℤ (pos (number t a v))) ↔ (getD p (t * k + a) 0 ≢ v)
 
-module _ (b : List ℕ) (m : ℕ) where
+module _ (b : List ℕ) (m rule : ℕ) where
   abbrev sizes : Sizes
-  sizes = instance b m .sizes
+  sizes = instance b m rule .sizes
 
   pub record Numbering : Type 0 where
     pub numbers : Numbers sizes
     -- the decoder's plan, and the encoder's valuation
-    pub decoded : (entries : List ℤ) (s : List ℕ) → bytes b m ≤ length s → Accepts (decodeAnswer b m entries (length s)) → Told sizes entries (handedBack b m entries s)
-    pub encoded : (p : List ℕ) (z : List ℤ) → N b m ≤ length z → Accepts (encodeAnswer b m p (length z)) → Told sizes (written b m p z) p
+    pub decoded : (entries : List ℤ) (s : List ℕ) → bytes b m rule ≤ length s → Accepts (decodeAnswer b m rule entries (length s)) → Told sizes entries (handedBack b m rule entries s)
+    pub encoded : (p : List ℕ) (z : List ℤ) → N b m rule ≤ length z → Accepts (encodeAnswer b m rule p (length z)) → Told sizes (written b m rule p z) p
 
--- for every accepted instance and horizon
+-- for every accepted instance, horizon and rule
 abbrev pub Claim : Type 0
-Claim = (b : List ℕ) (m : ℕ) → Accepts (instanceAnswer b m) → Numbering b m
+Claim = (b : List ℕ) (m rule : ℕ) → Accepts (instanceAnswer b m rule) → Numbering b m rule

@@ -40,10 +40,10 @@ pub record Form : Type 0 where
   pub tokens : (N : ℕ) (t : List ℕ) → T (token? N t) ↔ DecimalText N t
   pub tokenSays : (w : ℤ) → value (signed w) ≡ w
 
--- for the instance bytes b and the horizon m
-module _ (b : List ℕ) (m : ℕ) where
+-- for the instance bytes b, the horizon m and the rule
+module _ (b : List ℕ) (m rule : ℕ) where
   abbrev I : Instance
-  I = instance b m
+  I = instance b m rule
 
   -- the base formula
   abbrev base : Formula
@@ -51,30 +51,30 @@ module _ (b : List ℕ) (m : ℕ) where
 
   -- the valuation read: the first N entries of its slice z
   abbrev pub entriesRead : List ℕ → List ℤ → List ℤ
-  entriesRead text z = take (N b m) (readSlice b m text z)
+  entriesRead text z = take (N b m rule) (readSlice b m rule text z)
 
   pub record Reader : Type 0 where
     -- what is accepted is a valuation of the formula's variables, for which 14 and 23 are answered yes
-    pub valuation : (text : List ℕ) (z : List ℤ) → Accepts (readAnswer b m text (length z))
-        → Valuation (N b m) (entriesRead text z)
+    pub valuation : (text : List ℕ) (z : List ℤ) → Accepts (readAnswer b m rule text (length z))
+        → Valuation (N b m rule) (entriesRead text z)
         × T (all clear (question14 base (entriesRead text z) ∷ question23 base (entriesRead text z) ∷ []))
     -- its entries are exactly the literals of the text
-    pub literals : (text : List ℕ) (z : List ℤ) → Accepts (readAnswer b m text (length z))
+    pub literals : (text : List ℕ) (z : List ℤ) → Accepts (readAnswer b m rule text (length z))
         → (literal : Literal) → True (entriesRead text z) literal ↔ True (given text) literal
     -- the competition's text of any valuation, its v lines cut anywhere, is accepted and reads back to the same entries
-    pub back : (groups : List (List ℤ)) (last z : List ℤ) → T (all some? groups) → Valuation (N b m) (gathered groups last) → N b m ≤ length z
-        → Accepts (readAnswer b m (printed groups last) (length z)) × (entriesRead (printed groups last) z ≡ gathered groups last)
+    pub back : (groups : List (List ℤ)) (last z : List ℤ) → T (all some? groups) → Valuation (N b m rule) (gathered groups last) → N b m rule ≤ length z
+        → Accepts (readAnswer b m rule (printed groups last) (length z)) × (entriesRead (printed groups last) z ≡ gathered groups last)
     -- so is that of any literals of the variables, in any order, each variable once; they are read in variable order
-    pub anyOrder : (groups : List (List ℤ)) (last z : List ℤ) → T (all some? groups) → T (all (literal? (N b m)) (gathered groups last))
-        → ((i : ℕ) → i < N b m → times (suc i) (gathered groups last) ≡ 1) → length (printed groups last) ≤ textMost → N b m ≤ length z
-        → Accepts (readAnswer b m (printed groups last) (length z)) × (entriesRead (printed groups last) z ≡ inOrder (N b m) (gathered groups last))
+    pub anyOrder : (groups : List (List ℤ)) (last z : List ℤ) → T (all some? groups) → T (all (literal? (N b m rule)) (gathered groups last))
+        → ((i : ℕ) → i < N b m rule → times (suc i) (gathered groups last) ≡ 1) → length (printed groups last) ≤ textMost → N b m rule ≤ length z
+        → Accepts (readAnswer b m rule (printed groups last) (length z)) × (entriesRead (printed groups last) z ≡ inOrder (N b m rule) (gathered groups last))
     -- where the literals of an accepted text satisfy the formula, the decoder comes to the plan that they name, which passes the check
-    pub plan : (text : List ℕ) (z : List ℤ) (s : List ℕ) → Accepts (readAnswer b m text (length z)) → bytes b m ≤ length s → Satisfies base (given text)
-        → Accepts (decodeAnswer b m (entriesRead text z) (length s))
-        × Names (I .sizes) (given text) (handedBack b m (entriesRead text z) s)
-        × Accepts (checkAnswer b m (handedBack b m (entriesRead text z) s))
+    pub plan : (text : List ℕ) (z : List ℤ) (s : List ℕ) → Accepts (readAnswer b m rule text (length z)) → bytes b m rule ≤ length s → Satisfies base (given text)
+        → Accepts (decodeAnswer b m rule (entriesRead text z) (length s))
+        × Names (I .sizes) (given text) (handedBack b m rule (entriesRead text z) s)
+        × Accepts (checkAnswer b m rule (handedBack b m rule (entriesRead text z) s))
 
 pub record Claim : Type 0 where
   pub form : Form
-  -- for every accepted instance and horizon
-  pub reader : (b : List ℕ) (m : ℕ) → Accepts (instanceAnswer b m) → Reader b m
+  -- for every accepted instance, horizon and rule
+  pub reader : (b : List ℕ) (m rule : ℕ) → Accepts (instanceAnswer b m rule) → Reader b m rule

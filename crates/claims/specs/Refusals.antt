@@ -45,28 +45,28 @@ pub record Honest (questions : List Question) (number second : ℕ) : Type 0 whe
 abbrev pub Unchanged : {A : Type 0} → ℕ → List A → List A → Type 0
 Unchanged number found left = number ≢ 0 → left ≡ found
 
-module _ (b : List ℕ) (m : ℕ) where
+module _ (b : List ℕ) (m rule : ℕ) where
   pub record Refusals : Type 0 where
-    pub instance : Honest (instanceQuestions b m) (instanceAnswer b m .number) (instanceAnswer b m .second)
+    pub instance : Honest (instanceQuestions b m rule) (instanceAnswer b m rule .number) (instanceAnswer b m rule .second)
     -- the size calls and the writers, for any f, so for `formula` and `pruned`
-    pub size : (f : Instance → Formula) → Honest (sizeQuestions b m) (sizeAnswer f b m .number) (sizeAnswer f b m .second)
+    pub size : (f : Instance → Formula) → Honest (sizeQuestions b m rule) (sizeAnswer f b m rule .number) (sizeAnswer f b m rule .second)
     pub writer : (f : Instance → Formula) (room : ℕ)
-        → Honest (writeQuestions f b m room) (writeAnswer f b m room .number) (writeAnswer f b m room .second)
-    pub writerSlice : (f : Instance → Formula) (s : List ℤ) → Unchanged (writeAnswer f b m (length s) .number) s (writeSlice f b m s)
-    pub clause : (c room : ℕ) → Honest (clauseQuestions b m c room) (clauseAnswer b m c room .number) (clauseAnswer b m c room .second)
-    pub clauseSlice : (c : ℕ) (s : List ℤ) → Unchanged (clauseAnswer b m c (length s) .number) s (clauseSlice b m c s)
-    pub check : (p : List ℕ) → Honest (checkQuestions b m p) (checkAnswer b m p .number) (checkAnswer b m p .second)
+        → Honest (writeQuestions f b m rule room) (writeAnswer f b m rule room .number) (writeAnswer f b m rule room .second)
+    pub writerSlice : (f : Instance → Formula) (s : List ℤ) → Unchanged (writeAnswer f b m rule (length s) .number) s (writeSlice f b m rule s)
+    pub clause : (c room : ℕ) → Honest (clauseQuestions b m rule c room) (clauseAnswer b m rule c room .number) (clauseAnswer b m rule c room .second)
+    pub clauseSlice : (c : ℕ) (s : List ℤ) → Unchanged (clauseAnswer b m rule c (length s) .number) s (clauseSlice b m rule c s)
+    pub check : (p : List ℕ) → Honest (checkQuestions b m rule p) (checkAnswer b m rule p .number) (checkAnswer b m rule p .second)
     pub decoder : (entries : List ℤ) (room : ℕ)
-        → Honest (decodeQuestions b m entries room) (decodeAnswer b m entries room .number) (decodeAnswer b m entries room .second)
-    pub decoderSlice : (entries : List ℤ) (s : List ℕ) → Unchanged (decodeAnswer b m entries (length s) .number) s (decodeSlice b m entries s)
+        → Honest (decodeQuestions b m rule entries room) (decodeAnswer b m rule entries room .number) (decodeAnswer b m rule entries room .second)
+    pub decoderSlice : (entries : List ℤ) (s : List ℕ) → Unchanged (decodeAnswer b m rule entries (length s) .number) s (decodeSlice b m rule entries s)
     pub encoder : (p : List ℕ) (room : ℕ)
-        → Honest (encodeQuestions b m p room) (encodeAnswer b m p room .number) (encodeAnswer b m p room .second)
-    pub encoderSlice : (p : List ℕ) (s : List ℤ) → Unchanged (encodeAnswer b m p (length s) .number) s (encodeSlice b m p s)
+        → Honest (encodeQuestions b m rule p room) (encodeAnswer b m rule p room .number) (encodeAnswer b m rule p room .second)
+    pub encoderSlice : (p : List ℕ) (s : List ℤ) → Unchanged (encodeAnswer b m rule p (length s) .number) s (encodeSlice b m rule p s)
     pub reader : (text : List ℕ) (room : ℕ)
-        → Honest (readQuestions b m text room) (readAnswer b m text room .number) (readAnswer b m text room .second)
-    pub readerSlice : (text : List ℕ) (s : List ℤ) → Unchanged (readAnswer b m text (length s) .number) s (readSlice b m text s)
+        → Honest (readQuestions b m rule text room) (readAnswer b m rule text room .number) (readAnswer b m rule text room .second)
+    pub readerSlice : (text : List ℕ) (s : List ℤ) → Unchanged (readAnswer b m rule text (length s) .number) s (readSlice b m rule text s)
     -- the floor, which is given no horizon
     pub floor : Honest (floorQuestions b) (floorAnswer b .number) (floorAnswer b .second)
 
 abbrev pub Claim : Type 0
-Claim = (b : List ℕ) (m : ℕ) → Refusals b m
+Claim = (b : List ℕ) (m rule : ℕ) → Refusals b m rule

@@ -14,22 +14,22 @@ use Rattle.instance.specs.Questions.{instanceAnswer}
 use Rattle.formula.specs.Formula.{Formula, words}
 use Rattle.calls.specs.Calls.{sizeAnswer, writeAnswer, writeSlice}
 
-module _ (f : Instance → Formula) (b : List ℕ) (m : ℕ) where
+module _ (f : Instance → Formula) (b : List ℕ) (m rule : ℕ) where
   abbrev asked : Formula
-  asked = f (instance b m)
+  asked = f (instance b m rule)
 
   abbrev size : Size
-  size = sizeAnswer f b m
+  size = sizeAnswer f b m rule
 
   -- the writer's answer for a slice of this length
   abbrev write : ℕ → Answer
-  write room = writeAnswer f b m room
+  write room = writeAnswer f b m rule room
 
   -- the size call
   pub record SizeCall : Type 0 where
     -- it accepts exactly what the instance check accepts; a refusal is that of the instance check, so never 12, and has no clauses
-    pub accepts : (size .number ≡ 0) ↔ (instanceAnswer b m .number ≡ 0)
-    pub refusal : size .number ≢ 0 → refuse (size .number) (size .second) ≡ instanceAnswer b m
+    pub accepts : (size .number ≡ 0) ↔ (instanceAnswer b m rule .number ≡ 0)
+    pub refusal : size .number ≢ 0 → refuse (size .number) (size .second) ≡ instanceAnswer b m rule
     pub noClauses : size .number ≢ 0 → size .clauses ≡ 0
     pub never12 : size .number ≢ 12
     -- an acceptance counts the formula's words and clauses
@@ -42,12 +42,12 @@ module _ (f : Instance → Formula) (b : List ℕ) (m : ℕ) where
     pub accepts : (room : ℕ) → (write room .number ≡ 0) ↔ ((size .number ≡ 0) × (size .second ≤ room))
     -- it then answers 0 and 0, and fills that many words with the formula's; those beyond are as they were
     pub accepted : (room : ℕ) → write room .number ≡ 0 → write room ≡ accept 0
-    pub fills : (s : List ℤ) → write (length s) .number ≡ 0 → take (size .second) (writeSlice f b m s) ≡ words asked
-    pub beyond : (s : List ℤ) → write (length s) .number ≡ 0 → drop (size .second) (writeSlice f b m s) ≡ drop (size .second) s
+    pub fills : (s : List ℤ) → write (length s) .number ≡ 0 → take (size .second) (writeSlice f b m rule s) ≡ words asked
+    pub beyond : (s : List ℤ) → write (length s) .number ≡ 0 → drop (size .second) (writeSlice f b m rule s) ≡ drop (size .second) s
     -- what the size call refuses it refuses alike, whatever the slice; else a slice that is too short gets 12, and the words it needs
     pub alike : size .number ≢ 0 → (room : ℕ) → write room ≡ refuse (size .number) (size .second)
     pub tooShort : size .number ≡ 0 → (room : ℕ) → room < size .second → write room ≡ refuse 12 (size .second)
 
 pub record Claim : Type 0 where
-  pub size : (f : Instance → Formula) (b : List ℕ) (m : ℕ) → SizeCall f b m
-  pub writer : (f : Instance → Formula) (b : List ℕ) (m : ℕ) → Writer f b m
+  pub size : (f : Instance → Formula) (b : List ℕ) (m rule : ℕ) → SizeCall f b m rule
+  pub writer : (f : Instance → Formula) (b : List ℕ) (m rule : ℕ) → Writer f b m rule

@@ -41,7 +41,7 @@ pub fn put_unit(f: &mut [i32], x: i32) -> usize
     2
 }
 
-// A clause of two literals: families D, E and G.
+// A clause of two literals: families D, E and, under rule 1, G.
 pub fn put_pair(f: &mut [i32], x: i32, y: i32) -> usize
     requires { ⌜ 3 ≤ length (now f) ⌝ }
     ensures { λ r. ⌜ Wrote (line (x ∷ y ∷ [])) (now (f .entry)) (now (f .exit)) r ⌝ }
@@ -50,6 +50,19 @@ pub fn put_pair(f: &mut [i32], x: i32, y: i32) -> usize
     f[1] = y;
     f[2] = 0;
     3
+}
+
+// A clause of four literals: family G under rule 2.
+pub fn put_four(f: &mut [i32], w: i32, x: i32, y: i32, z: i32) -> usize
+    requires { ⌜ 5 ≤ length (now f) ⌝ }
+    ensures { λ r. ⌜ Wrote (line (w ∷ x ∷ y ∷ z ∷ [])) (now (f .entry)) (now (f .exit)) r ⌝ }
+{
+    f[0] = w;
+    f[1] = x;
+    f[2] = y;
+    f[3] = z;
+    f[4] = 0;
+    5
 }
 
 // A clause of family C: agent a is at some vertex at time t.

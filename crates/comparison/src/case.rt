@@ -5,6 +5,7 @@ ghost use lib.ListN.{length};
 pub struct Head {
     pub kind: usize,
     pub m: usize,
+    pub rule: usize,
     pub number: usize,
     pub instance: usize,
     pub payload: usize,
@@ -12,16 +13,17 @@ pub struct Head {
 }
 
 pub fn head_of(s: &[u8]) -> Head
-    requires { ⌜ 27 ≤ length (now s) ⌝ }
+    requires { ⌜ 35 ≤ length (now s) ⌝ }
     ensures { λ r. ⌜ (r .instance < 65536) × (r .payload < 4294967296) ⌝ }
 {
     Head {
         kind: numbers::wide(s[0]),
         m: numbers::eight_bytes(s, 1),
-        number: numbers::eight_bytes(s, 9),
-        instance: numbers::two_bytes(s, 17),
-        payload: numbers::four_bytes(s, 19),
-        lent: numbers::four_bytes(s, 23),
+        rule: numbers::eight_bytes(s, 9),
+        number: numbers::eight_bytes(s, 17),
+        instance: numbers::two_bytes(s, 25),
+        payload: numbers::four_bytes(s, 27),
+        lent: numbers::four_bytes(s, 31),
     }
 }
 

@@ -1,6 +1,6 @@
 // Runs the ten calls on cases made elsewhere, at most a million of them. A case: the kind of call (1 byte: 1 the formula writer,
 // 2 one clause, 3 the plan check, 4 the decoder, 5 the encoder, 6 the reader, 7 the floor, 8 the pruned writer, 9 the formula's size,
-// 10 the pruned formula's size), the horizon and the clause number (8 bytes each), the instance's length (2 bytes), the payload's
+// 10 the pruned formula's size), the horizon, the rule and the clause number (8 bytes each), the instance's length (2 bytes), the payload's
 // length in bytes and the lent slice's length in elements (4 bytes each), low bytes first; then the instance, then the payload: a
 // plan, entries of 4 bytes, or a text. Each case prints a line: the answer's number, its second number, the clauses (0 but for a
 // size), and a hash of the lent slice after the call; or "skip" where the slice is longer than the array here.
@@ -32,8 +32,8 @@ fn run_case(h: Head, b: &[u8], s: &[u8], words: &mut [i32], plan: &mut [u8]) -> 
         6 => plans::read_valuation(h, b, s, &mut words[0..40000]),
         7 => plans::floor(b),
         8 => words::write_pruned(h, b, words),
-        9 => sized(formula_size::formula_size(b, h.m)),
-        10 => sized(formula_size::pruned_size(b, h.m)),
+        9 => sized(formula_size::formula_size(b, h.m, h.rule)),
+        10 => sized(formula_size::pruned_size(b, h.m, h.rule)),
         _ => skipped(),
     }
 }
@@ -45,9 +45,9 @@ fn filled(s: &mut [u8]) -> bool {
 
 // Reads a case, its head first, runs it and prints its line; false where there is none.
 fn next_case(input: &mut [u8], words: &mut [i32], plan: &mut [u8]) -> bool
-    requires { ⌜ (27 ≤ length (now input)) × (40000 ≤ length (now words)) ⌝ }
+    requires { ⌜ (35 ≤ length (now input)) × (40000 ≤ length (now words)) ⌝ }
 {
-    if !filled(&mut input[0..27]) {
+    if !filled(&mut input[0..35]) {
         return false;
     }
     let h = case::head_of(input);
@@ -66,7 +66,7 @@ fn next_case(input: &mut [u8], words: &mut [i32], plan: &mut [u8]) -> bool
 
 // The first of at most `left` cases. Answers how many may follow it.
 fn left_after(input: &mut [u8], words: &mut [i32], plan: &mut [u8], left: usize) -> usize
-    requires { ⌜ (27 ≤ length (now input)) × (40000 ≤ length (now words)) × (0 < left) ⌝ }
+    requires { ⌜ (35 ≤ length (now input)) × (40000 ≤ length (now words)) × (0 < left) ⌝ }
     ensures { λ r. ⌜ r < left ⌝ }
 {
     if next_case(input, words, plan) {
@@ -77,7 +77,7 @@ fn left_after(input: &mut [u8], words: &mut [i32], plan: &mut [u8], left: usize)
 }
 
 fn run(input: &mut [u8], words: &mut [i32], plan: &mut [u8])
-    requires { ⌜ (27 ≤ length (now input)) × (40000 ≤ length (now words)) ⌝ }
+    requires { ⌜ (35 ≤ length (now input)) × (40000 ≤ length (now words)) ⌝ }
 {
     let mut left: usize = 1000000;
     while 0 < left {

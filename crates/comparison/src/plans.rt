@@ -10,7 +10,7 @@ use crate::outcome::answered;
 use crate::outcome::skipped;
 
 pub fn check_plan(h: Head, b: &[u8], p: &[u8]) -> Outcome {
-    let r = plan_check::check_plan(b, h.m, p);
+    let r = plan_check::check_plan(b, h.m, h.rule, p);
     answered(r, 1)
 }
 
@@ -27,7 +27,7 @@ pub fn decode(h: Head, b: &[u8], s: &[u8], entries: &mut [i32], plan: &mut [u8])
     read_entries(s, e);
     let p = &mut plan[0..lent];
     fill_bytes(p);
-    let r = decoder::decode(b, h.m, e, p);
+    let r = decoder::decode(b, h.m, h.rule, e, p);
     answered(r, hash_bytes(p))
 }
 
@@ -38,7 +38,7 @@ pub fn encode(h: Head, b: &[u8], p: &[u8], entries: &mut [i32]) -> Outcome {
     }
     let z = &mut entries[0..lent];
     fill_words(z);
-    let r = encoder::encode(b, h.m, p, z);
+    let r = encoder::encode(b, h.m, h.rule, p, z);
     answered(r, hash_words(z))
 }
 
@@ -49,7 +49,7 @@ pub fn read_valuation(h: Head, b: &[u8], text: &[u8], entries: &mut [i32]) -> Ou
     }
     let z = &mut entries[0..lent];
     fill_words(z);
-    let r = reader::read_valuation(b, h.m, text, z);
+    let r = reader::read_valuation(b, h.m, h.rule, text, z);
     answered(r, hash_words(z))
 }
 

@@ -13,7 +13,7 @@ pub fn write_formula(h: Head, b: &[u8], words: &mut [i32]) -> Outcome {
     }
     let z = &mut words[0..lent];
     fill_words(z);
-    let r = formula_writer::write_formula(b, h.m, z);
+    let r = formula_writer::write_formula(b, h.m, h.rule, z);
     answered(r, hash_words(z))
 }
 
@@ -24,7 +24,7 @@ pub fn write_pruned(h: Head, b: &[u8], words: &mut [i32]) -> Outcome {
     }
     let z = &mut words[0..lent];
     fill_words(z);
-    let r = pruned_writer::write_pruned(b, h.m, z);
+    let r = pruned_writer::write_pruned(b, h.m, h.rule, z);
     answered(r, hash_words(z))
 }
 
@@ -35,6 +35,6 @@ pub fn clause(h: Head, b: &[u8], words: &mut [i32]) -> Outcome {
     }
     let z = &mut words[0..lent];
     fill_words(z);
-    let r = one_clause::clause(b, h.m, h.number, z);
+    let r = one_clause::clause(b, h.m, h.rule, h.number, z);
     answered(r, hash_words(z))
 }

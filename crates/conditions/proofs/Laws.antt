@@ -1,7 +1,7 @@
 -- The conditions as the code tests them.
 use mathlib.Core.Path.{_≡_, refl, ap}
 use mathlib.Core.Logic.{_≢_}
-use mathlib.Core.Bool.{Bool, true, not}
+use mathlib.Core.Bool.{Bool, true, not, _&&_}
 use Prim.Native.Nat.{ℕ, zero, suc, _+_}
 use native.Mathlib.Nat.{zero-add}
 use borrow.Author.Tests.{eq-eqb, ne-eqb}
@@ -28,9 +28,14 @@ module _ (here next : Row) (a : ℕ) where
   unfolding condition2
   keeps-2 s e = rw (eq-eqb (here a) (next a) e)
 
-  pub enters-2 : (s : Sizes) → (here a ≡ next a → ⊥) → (r : ℕ) → FirstFault (s .k) (λ b. not (eqb (here (0 + b)) (next a))) r → eqb r (s .k) ≡ condition2 s here next a
+  pub enters-2 : (s : Sizes) → s .rule ≢ 2 → (here a ≡ next a → ⊥) → (r : ℕ) → FirstFault (s .k) (λ b. not (eqb (here (0 + b)) (next a))) r → eqb r (s .k) ≡ condition2 s here next a
   unfolding condition2
-  enters-2 s d r f = rw (ne-eqb (here a) (next a) d) (fault-every (s .k) _ r (from-0 (s .k) here (next a) r f))
+  enters-2 s one d r f = rw (ne-eqb (here a) (next a) d, ne-eqb (s .rule) 2 one) (fault-every (s .k) _ r (from-0 (s .k) here (next a) r f))
+
+  pub exchanges-2 : (s : Sizes) → s .rule ≡ 2 → (here a ≡ next a → ⊥) → (r : ℕ)
+      → FirstFault (s .k) (λ b. not (eqb (here b) (next a) && eqb (next b) (here a))) r → eqb r (s .k) ≡ condition2 s here next a
+  unfolding condition2
+  exchanges-2 s two d r f = rw (ne-eqb (here a) (next a) d, eq-eqb (s .rule) 2 two) (fault-every (s .k) _ r f)
 
 pub shares-3 : (next : Row) (a r : ℕ) → FirstFault a (λ b. not (eqb (next (0 + b)) (next a))) r → eqb r a ≡ condition3 next a
 unfolding condition3

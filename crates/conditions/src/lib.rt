@@ -1,7 +1,7 @@
 // The three conditions of a valid step, asked of the bytes of a row and of the next row, and of two rows of a plan.
 use instance::Sizes;
 ghost use mathlib.Core.Path.{_≡_};
-ghost use mathlib.Core.Bool.{not};
+ghost use mathlib.Core.Bool.{not, _&&_};
 ghost use Prim.Native.Nat.{suc, _+_, _<_, _≤_};
 ghost use lib.ListN.{length, getD};
 ghost use lib.Dec.{eqb};
@@ -23,6 +23,19 @@ pub fn first_on(p: &[u8], from: usize, count: usize, x: u8) -> usize
     count
 }
 
+// The first of `count` agents that goes from x to y, or `count`.
+pub fn first_going(here: &[u8], next: &[u8], count: usize, x: u8, y: u8) -> usize
+    requires { ⌜ (count ≤ length (now here)) × (count ≤ length (now next)) ⌝ }
+    ensures { λ r. ⌜ FirstFault count (λ a. not (eqb (row (now (here .entry)) a) x && eqb (row (now (next .entry)) a) y)) r ⌝ }
+{
+    for a in 0..count {
+        if (here[a] == x) & (next[a] == y) {
+            return a;
+        }
+    }
+    count
+}
+
 // Condition 1 of agent a: it keeps its vertex or crosses an edge, that is to a vertex whose bit is set?
 fn condition_1(near: &[u64; 64], here: &[u8], next: &[u8], a: usize) -> bool
     requires { ⌜ (a < length (now here)) × (a < length (now next)) ⌝ }
@@ -37,15 +50,19 @@ fn condition_1(near: &[u64; 64], here: &[u8], next: &[u8], a: usize) -> bool
     bits::has_bit(near[v], w)
 }
 
-// Condition 2 of agent a: it keeps its vertex, or goes to one on which no agent stood?
+// Condition 2 of agent a: it keeps its vertex, or goes to one on which no agent stood; or, under rule 2, no agent goes from there to its
+// vertex?
 fn condition_2(s: Sizes, here: &[u8], next: &[u8], a: usize) -> bool
-    requires { ⌜ (s .k ≤ length (now here)) × (a < length (now here)) × (a < length (now next)) ⌝ }
+    requires { ⌜ (s .k ≤ length (now here)) × (s .k ≤ length (now next)) × (a < s .k) ⌝ }
     ensures { λ r. ⌜ r ≡ condition2 s (row (now (here .entry))) (row (now (next .entry))) a ⌝ }
 {
     let k = s.k;
     let v = here[a];
     let w = next[a];
     if v != w {
+        if s.rule == 2 {
+            return first_going(here, next, k, w, v) == k;
+        }
         return first_on(here, 0, k, w) == k;
     }
     true

@@ -6,7 +6,7 @@ use native.Mathlib.Omega.{arith}
 use Rattle.instance.specs.declared.Sizes.{Sizes}
 use Rattle.lists.specs.Loop.{pairs}
 use Rattle.instance.specs.Limits.{Limits}
-use Rattle.formula.proofs.Limits.{rows, variables-most, agent-steps, count-D-most, count-E-most, count-F-most, count-G-most}
+use Rattle.formula.proofs.Limits.{rows, variables-most, agent-steps, count-D-most, count-E-most, count-F-most, exchanges-most, followings-most}
 
 pub record Products (s : Sizes) : Type 0 where
   pub rows′ : (s .m + 1) * s .k ≤ 528
@@ -20,7 +20,10 @@ pub record Products (s : Sizes) : Type 0 where
   pub f : s .m * s .k * s .n ≤ 32768
   pub words : s .m * s .k * (3 * s .n + 2 * s .e) ≤ 2162688
   pub others : s .m * s .k * (s .k - 1) ≤ 7680
-  pub g : s .m * s .k * (s .k - 1) * s .n ≤ 491520
+  pub followings : s .m * s .k * (s .k - 1) * s .n ≤ 491520
+  pub crossings : s .m * s .e ≤ 64512
+  pub pairs′ : s .k * (s .k - 1) ≤ 240
+  pub exchanges : s .m * s .e * (s .k * (s .k - 1)) ≤ 15482880
 
 pub products : (s : Sizes) → Limits s → Products s
 products s w =
@@ -37,5 +40,8 @@ products s w =
       f = count-F-most s w;
       words = mul-le-mul {n₂ = 512} {m₂ = 4224} (agent-steps s w) (omega (arith, w .n-most, w .e-most));
       others = mul-le-mul {n₂ = 512} {m₂ = 15} (agent-steps s w) (omega (arith, w .k-most));
-      g = count-G-most s w;
+      followings = followings-most s w;
+      crossings = mul-le-mul {n₂ = 32} {m₂ = 2016} (w .m-most) (w .e-most);
+      pairs′ = mul-le-mul {n₂ = 16} {m₂ = 15} (w .k-most) (omega (arith, w .k-most));
+      exchanges = exchanges-most s w;
     }

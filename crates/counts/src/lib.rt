@@ -2,6 +2,7 @@
 // a family. And how many pairs there are of so many vertices or agents.
 use instance::Sizes;
 ghost use mathlib.Core.Path.{_≡_};
+ghost use mathlib.Core.Bool.{cond};
 ghost use Prim.Native.Nat.{_≤_, _<_};
 ghost use Rattle.formula.specs.Variables.{variableCount};
 ghost use Rattle.formula.specs.Blocks.{times, blocksAt};
@@ -9,6 +10,7 @@ ghost use Rattle.plan.specs.Plan.{planBytes};
 ghost use Rattle.formula.specs.Counts.{clausesBy, clauseCount, wordCount};
 ghost use Rattle.lists.specs.Loop.{pairs};
 ghost use Rattle.lists.specs.Pairs.{pairsBelow};
+ghost use Rattle.instance.specs.Instance.{following};
 ghost use Rattle.instance.specs.Limits.{Limits};
 
 // A number for each family.
@@ -53,7 +55,7 @@ pub fn times_of(s: Sizes, which: usize) -> usize
     s.m
 }
 
-// How many blocks it has for each: of an agent, or in E of a vertex.
+// How many blocks it has for each: of an agent; of a vertex in E, and in G under rule 2.
 pub fn blocks_at(s: Sizes, which: usize) -> usize
     requires { ⌜ Limits s ⌝ }
     requires { ⌜ which < 7 ⌝ }
@@ -61,6 +63,11 @@ pub fn blocks_at(s: Sizes, which: usize) -> usize
 {
     if which == 4 {
         return s.n;
+    }
+    if which == 6 {
+        if s.rule == 2 {
+            return s.n;
+        }
     }
     s.k
 }
@@ -84,11 +91,32 @@ pub fn pairs_below(n: usize, v: usize) -> usize
     v * (2 * n - v - 1) / 2
 }
 
+// Clauses of G: under rule 2 for each edge and two agents, under rule 1 for each two agents and vertex.
+fn clauses_of_g(s: Sizes) -> usize
+    requires { ⌜ Limits s ⌝ }
+    ensures { λ r. ⌜ (r ≡ clausesBy s .G) × (r ≤ 15482880) ⌝ }
+{
+    if s.rule == 2 {
+        return s.m * s.e * (s.k * (s.k - 1));
+    }
+    s.m * s.k * (s.k - 1) * s.n
+}
+
+// The words of one of them.
+fn words_in_g(s: Sizes) -> usize
+    ensures { λ r. ⌜ (r ≡ cond (following s) 5 3) × (r ≤ 5) ⌝ }
+{
+    if s.rule == 2 {
+        return 5;
+    }
+    3
+}
+
 // Clauses by family.
 pub fn clauses_by(s: Sizes) -> Families
     requires { ⌜ Limits s ⌝ }
     ensures { λ r. ⌜ (r .a ≡ clausesBy s .A) × (r .b ≡ clausesBy s .B) × (r .c ≡ clausesBy s .C) × (r .d ≡ clausesBy s .D) × (r .e ≡ clausesBy s .E) × (r .f ≡ clausesBy s .F) × (r .g ≡ clausesBy s .G) ⌝ }
-    ensures { λ r. ⌜ (r .a ≤ 16) × (r .b ≤ 16) × (r .c ≤ 528) × (r .d ≤ 1064448) × (r .e ≤ 253440) × (r .f ≤ 32768) × (r .g ≤ 491520) ⌝ }
+    ensures { λ r. ⌜ (r .a ≤ 16) × (r .b ≤ 16) × (r .c ≤ 528) × (r .d ≤ 1064448) × (r .e ≤ 253440) × (r .f ≤ 32768) × (r .g ≤ 15482880) ⌝ }
 {
     let n = s.n;
     let k = s.k;
@@ -102,7 +130,7 @@ pub fn clauses_by(s: Sizes) -> Families
         d: (m + 1) * k * vertex_pairs,
         e: (m + 1) * n * agent_pairs,
         f: m * k * n,
-        g: m * k * (k - 1) * n,
+        g: clauses_of_g(s),
     }
 }
 
@@ -127,5 +155,5 @@ pub fn word_count(s: Sizes) -> usize
         + 3 * c.d
         + 3 * c.e
         + s.m * s.k * (3 * s.n + 2 * s.e)
-        + 3 * c.g
+        + words_in_g(s) * c.g
 }

@@ -6,7 +6,7 @@ ghost use lib.ListN.{length, take};
 ghost use Rattle.answers.specs.Answers.{decide};
 ghost use Rattle.plan.specs.Plan.{planBytes};
 ghost use Rattle.valuation.specs.Valuation.{namedPlan};
-ghost use Rattle.instance.specs.Instance.{Instance};
+ghost use Rattle.instance.specs.Instance.{Instance, Edges};
 ghost use Rattle.instance.specs.Ready.{Ready};
 ghost use Rattle.instance.specs.Shows.{Shows};
 ghost use Rattle.calls.specs.Calls.{decodeRest, decodeAnswer, decodeSlice};
@@ -23,7 +23,7 @@ fn ask_entries(
 ) -> Answer
     requires { ⌜ Ready s (now starts) (now goals) (now near) ⌝ }
     requires { ⌜ length (now vertices) ≡ 528 ⌝ }
-    ensures { λ r. ⌜ ((I : Instance) → Shows I s (now (starts .entry)) (now (goals .entry)) (now (near .entry)) → (r ≡ decide (decodeRest I (now (entries .entry)) size) (planBytes (I .sizes))) × (r .number ≡ 0 → (r .second ≡ planBytes s) × (take (planBytes s) (now (vertices .exit)) ≡ namedPlan s (now (entries .entry))))) ⌝ }
+    ensures { λ r. ⌜ ((I : Instance) → Shows I s (now (starts .entry)) (now (goals .entry)) (now (near .entry)) → Edges I → (r ≡ decide (decodeRest I (now (entries .entry)) size) (planBytes (I .sizes))) × (r .number ≡ 0 → (r .second ≡ planBytes s) × (take (planBytes s) (now (vertices .exit)) ≡ namedPlan s (now (entries .entry))))) ⌝ }
     ensures { λ _. ⌜ length (now (vertices .exit)) ≡ 528 ⌝ }
 {
     let count = counts::variable_count(s);
@@ -62,11 +62,11 @@ fn ask_entries(
 }
 
 // The call, for every byte string, every number, every list of entries and every slice.
-pub fn decode(b: &[u8], m: usize, entries: &[i32], plan: &mut [u8]) -> Answer
-    ensures { λ r. ⌜ r ≡ decodeAnswer (now (b .entry)) m (now (entries .entry)) (length (now (plan .entry))) ⌝ }
-    ensures { λ _. ⌜ now (plan .exit) ≡ decodeSlice (now (b .entry)) m (now (entries .entry)) (now (plan .entry)) ⌝ }
+pub fn decode(b: &[u8], m: usize, rule: usize, entries: &[i32], plan: &mut [u8]) -> Answer
+    ensures { λ r. ⌜ r ≡ decodeAnswer (now (b .entry)) m rule (now (entries .entry)) (length (now (plan .entry))) ⌝ }
+    ensures { λ _. ⌜ now (plan .exit) ≡ decodeSlice (now (b .entry)) m rule (now (entries .entry)) (now (plan .entry)) ⌝ }
 {
-    let inspection = instance_check::check_instance(b, m);
+    let inspection = instance_check::check_instance(b, m, rule);
     let refusal = inspection.answer;
     if refusal.number != 0 {
         return refusal;

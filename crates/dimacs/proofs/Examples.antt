@@ -11,8 +11,8 @@ use Rattle.decimals.proofs.Laws.{decimal-one, decimal-more}
 use Rattle.decimals.specs.Decimals.{digit, digits, decimal, signed}
 use Rattle.dimacs.specs.Text.{wordText, clauseText, headerText, refusalText, formulaText}
 
--- two vertices, one agent, one edge, m 1: the nine lines, from "p cnf 4 8" to "-2 4 3 0"
-pub pair : formulaText (formula (instance (2 ∷ 1 ∷ 1 ∷ 0 ∷ 0 ∷ 1 ∷ 0 ∷ 1 ∷ []) 1))
+-- two vertices, one agent, one edge, m 1, rule 1: the nine lines, from "p cnf 4 8" to "-2 4 3 0"
+pub pair : formulaText (formula (instance (2 ∷ 1 ∷ 1 ∷ 0 ∷ 0 ∷ 1 ∷ 0 ∷ 1 ∷ []) 1 1))
     ≡ 112 ∷ 32 ∷ 99 ∷ 110 ∷ 102 ∷ 32 ∷ 52 ∷ 32 ∷ 56 ∷ 10 ∷
     49 ∷ 32 ∷ 48 ∷ 10 ∷
     52 ∷ 32 ∷ 48 ∷ 10 ∷

@@ -1,17 +1,17 @@
 -- A clause's words are written as its line, and a formula's text is a line a clause.
 use mathlib.Core.Path.{_≡_, refl, sym, _∙_, ap, ap₂}
-use mathlib.Core.Bool.{Bool, true, false}
+use mathlib.Core.Bool.{Bool, true, false, cond}
 use mathlib.Core.List.{List, [], _∷_, _++_}
 use Prim.Native.Nat.{ℕ, zero, suc, _+_, _-_}
 use lib.Dec.{T}
 use lib.IntN.{ℤ, pos, negsuc}
-use Rattle.lists.specs.Loop.{each, all}
+use Rattle.lists.specs.Loop.{for, each, all}
 use Rattle.lists.proofs.Tests.{and-iff}
 use Rattle.lists.proofs.Loops.{all-append, for-all, when-all, one-all, each-append}
 use Rattle.instance.specs.declared.Sizes.{Sizes}
-use Rattle.instance.specs.Instance.{Instance, adjacent, Counted}
+use Rattle.instance.specs.Instance.{Instance, following, adjacent, Counted}
 use Rattle.formula.specs.Variables.{variableCount}
-use Rattle.formula.specs.Formula.{Clause, A, B, C, D, E, F, G, clauses, formula, line, words}
+use Rattle.formula.specs.Formula.{Clause, A, B, C, D, E, F, G, noFollowing, noExchange, clauses, formula, line, words}
 use Rattle.formula.specs.Counts.{clauseCount}
 use Rattle.formula.proofs.Counts.{clause-count}
 use Rattle.decimals.specs.Decimals.{digits, decimal, signed}
@@ -49,7 +49,7 @@ clauses-lines (c ∷ cs) t =
 -- ---- the formula
 module _ (I : Instance) where
   open Instance I using (sizes)
-  open Sizes sizes using (n, k, m)
+  open Sizes sizes using (n, k, e, m)
 
   literals-A : T (all (all literal?) (A (I .sizes) (I .start)))
   unfolding A
@@ -75,9 +75,13 @@ module _ (I : Instance) where
   unfolding F
   literals-F = simp (for-all, one-all, when-all) (λ t l a q v r w u h. tt)
 
-  literals-G : T (all (all literal?) (G (I .sizes)))
+  literals-G : T (all (all literal?) (G (I .sizes) (I .low) (I .high)))
   unfolding G
-  literals-G = simp (for-all, when-all, one-all) (λ t l a q b r h v u. tt)
+  literals-G = by-rule (following sizes)
+    where
+      by-rule : (f : Bool) → T (all (all literal?) (cond f (for m λ t. for e λ j. noExchange sizes t (I .low j) (I .high j)) (for m λ t. for k λ a. noFollowing sizes t a)))
+      by-rule true = simp (for-all, when-all, one-all) (λ t l j q a r b u h. tt)
+      by-rule false = simp (for-all, when-all, one-all) (λ t l a q b r h v u. tt)
 
   -- no literal of the formula is 0
   pub literals : T (all (all literal?) (clauses I))

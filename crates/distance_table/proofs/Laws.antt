@@ -61,16 +61,16 @@ module _ {near row₀ : List ℕ} {frontier d : ℕ} (fits : frontier < 2 ^ 64) 
       low = trailingZeros 64 rest
 
       pub spreading-below : trailingZeros 64 rest < 64
-      spreading-below = low-below 64 frontier (λ u. u) fits rest from (s .left) p
+      spreading-below = low-below 64 frontier fits rest from (s .left) p
 
       past : from ≤ low
-      past = low-past 64 frontier (λ u. u) fits rest from (s .left) p
+      past = low-past 64 frontier fits rest from (s .left) p
 
       here : set? frontier low ≡ true
-      here = ap (λ (b : ℕ). eqb b 1) (low-set 64 frontier (λ u. u) fits rest from (s .left) p)
+      here = ap (λ (b : ℕ). eqb b 1) (low-set 64 frontier fits rest from (s .left) p)
 
       none : (u : ℕ) → from ≤ u → u < low → bit frontier u ≡ 0
-      none = low-first 64 frontier (λ u. u) fits rest from (s .left) p
+      none = low-first 64 frontier fits rest from (s .left) p
 
       turned : (w : ℕ) → some (low + 1) (λ u. set? frontier u && joined near u w) ≡ some from (λ u. set? frontier u && joined near u w) || joined near low w
       turned w =
@@ -84,7 +84,7 @@ module _ {near row₀ : List ℕ} {frontier d : ℕ} (fits : frontier < 2 ^ 64) 
       pub spreading-next : Spreading near row₀ frontier d (trailingZeros 64 rest + 1) (bitAnd rest (rest - 1)) (set row (trailingZeros 64 rest) d) (bitOr reached (getD near (trailingZeros 64 rest) 0))
       spreading-next =
           record {
-            left = left-next 64 frontier (λ u. u) fits rest from (s .left) p;
+            left = left-next 64 frontier fits rest from (s .left) p;
             inside = omega (arith, spreading-below);
             wide = length-set row low d ∙ s .wide;
             bytes = λ w h.

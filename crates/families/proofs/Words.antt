@@ -1,9 +1,12 @@
--- The words of a block: none is further from 0 than there are variables, and those of D, E and G are clauses of two literals.
+-- The words of a block: none is further from 0 than there are variables, and those of D, E and, under rule 1, G are clauses of two literals.
 use mathlib.Core.Path.{_≡_, refl}
+use mathlib.Core.Logic.{_≢_, by-cases}
 use mathlib.Core.Bool.{Bool}
 use mathlib.Core.List.{List, [], _∷_}
 use Prim.Native.Nat.{ℕ, zero, suc, _+_, _*_, _/_, _<_}
+use native.Mathlib.Decide.{ℕ-discrete}
 use native.Mathlib.Omega.{arith}
+use borrow.Author.Tests.{eq-eqb, ne-eqb}
 use lib.Dec.{T, leb, eqb}
 use lib.IntN.{ℤ, pos, natAbs}
 use lib.ListN.{length, getD}
@@ -14,7 +17,8 @@ use Rattle.instance.specs.declared.Sizes.{Sizes}
 use Rattle.instance.specs.Ready.{Ready}
 use Rattle.formula.specs.Variables.{index, variableCount}
 use Rattle.formula.specs.Formula.{Clause, line}
-use Rattle.formula.specs.Blocks.{Given, times, blocksAt, heldIn, block, paired}
+use Rattle.formula.specs.Blocks.{Given, times, blocksAt, blockG, heldIn, block, paired}
+use Rattle.formula.proofs.Blocks.{blocks-agents, blocks-ends}
 use Rattle.formula.proofs.Variables.{index-lt}
 
 module _ (s : Sizes) (starts goals near : List ℕ) (r : Ready s starts goals near) where
@@ -30,6 +34,20 @@ module _ (s : Sizes) (starts goals near : List ℕ) (r : Ready s starts goals ne
   most : (t a v : ℕ) → t < suc m → a < k → v < n → index s t a v < variableCount s
   most = index-lt s
 
+  -- of G's block, whose x is an agent or a vertex
+  last-literals : (t x : ℕ) → t < m → x < blocksAt s 6 → T (all (all within) (blockG s (g .near) t x))
+  last-literals t x h l =
+      by-cases (ℕ-discrete (s .rule) 2)
+      (λ e.
+      let i : x < n = omega (arith, blocks-ends s 6 refl e) in
+      rw (eq-eqb (s .rule) 2 e)
+      (simp (for-all, when-all, one-all, and-iff, leb-iff) (λ v p o a q b r d.
+      (most t a x (omega arith) q i, (most (suc t) a v (omega arith) q p, (most t b v (omega arith) r p, (most (suc t) b x (omega arith) r i, tt)))))))
+      (λ d.
+      let i : x < k = omega (arith, blocks-agents s 6 (omega arith) (omega arith) (λ _. d)) in
+      rw (ne-eqb (s .rule) 2 d)
+      (simp (for-all, when-all, one-all, and-iff, leb-iff) (λ b q o v p. (most t b v (omega arith) q p, (most (suc t) x v (omega arith) i p, tt)))))
+
   literals : (j t x : ℕ) → t < times s j → x < blocksAt s j → T (all (all within) (block g j t x))
   unfolding block times blocksAt
   literals zero t x h l = simp (one-all, leb-iff) (most 0 x (g .start x) (omega arith) l (r .starts-below x l))
@@ -42,9 +60,7 @@ module _ (s : Sizes) (starts goals near : List ℕ) (r : Ready s starts goals ne
   literals (suc (suc (suc (suc (suc zero))))) t x h l =
       simp (for-all, when-all, one-all, and-iff, leb-iff)
       (λ v p. (most t x v (omega arith) l p, (most (suc t) x v (omega arith) l p, λ w q o. most (suc t) x w (omega arith) l q)))
-  literals (suc (suc (suc (suc (suc (suc zero)))))) t x h l =
-      simp (for-all, when-all, one-all, and-iff, leb-iff)
-      (λ b q o v p. (most t b v (omega arith) q p, (most (suc t) x v (omega arith) l p, tt)))
+  literals (suc (suc (suc (suc (suc (suc zero)))))) t x h l = last-literals t x h l
   literals (suc (suc (suc (suc (suc (suc (suc j))))))) t x h l = tt
 
   lines-within : (cs : List Clause) → T (all (all within) cs) → T (all within (each line cs))
@@ -83,27 +99,28 @@ lines-end (c ∷ cs) h (suc i) l =
     let q : 3 * suc i + 2 ≡ suc (suc (suc (3 * i + 2))) = omega arith in
     rw (e, q) (lines-end cs b i (omega arith))
 
-block-paired : (g : Given) (j t x : ℕ) → T (paired j) → T (all two? (block g j t x))
+block-paired : (g : Given) (j t x : ℕ) → (j ≡ 6 → g .sizes .rule ≢ 2) → T (paired j) → T (all two? (block g j t x))
 unfolding block
-block-paired g zero t x p = absurd p
-block-paired g (suc zero) t x p = absurd p
-block-paired g (suc (suc zero)) t x p = absurd p
-block-paired g (suc (suc (suc zero))) t x p = simp (for-all, when-all, one-all) (λ v q w l o. tt)
-block-paired g (suc (suc (suc (suc zero)))) t x p = simp (for-all, when-all, one-all) (λ a q b l o. tt)
-block-paired g (suc (suc (suc (suc (suc zero))))) t x p = absurd p
-block-paired g (suc (suc (suc (suc (suc (suc zero)))))) t x p = simp (for-all, when-all, one-all) (λ b q o v l. tt)
-block-paired g (suc (suc (suc (suc (suc (suc (suc j))))))) t x p = tt
+block-paired g zero t x f p = absurd p
+block-paired g (suc zero) t x f p = absurd p
+block-paired g (suc (suc zero)) t x f p = absurd p
+block-paired g (suc (suc (suc zero))) t x f p = simp (for-all, when-all, one-all) (λ v q w l o. tt)
+block-paired g (suc (suc (suc (suc zero)))) t x f p = simp (for-all, when-all, one-all) (λ a q b l o. tt)
+block-paired g (suc (suc (suc (suc (suc zero))))) t x f p = absurd p
+block-paired g (suc (suc (suc (suc (suc (suc zero)))))) t x f p =
+    rw (ne-eqb (g .sizes .rule) 2 (f refl)) (simp (for-all, when-all, one-all) (λ b q o v l. tt))
+block-paired g (suc (suc (suc (suc (suc (suc (suc j))))))) t x f p = tt
 
 -- three words a clause, the third of them 0
-module _ (g : Given) (j t x : ℕ) (p : T (paired j)) where
+module _ (g : Given) (j t x : ℕ) (f : j ≡ 6 → g .sizes .rule ≢ 2) (p : T (paired j)) where
   abbrev words : List ℤ
   words = each line (block g j t x)
 
   count : length words ≡ 3 * length (block g j t x)
-  count = lines-length (block g j t x) (block-paired g j t x p)
+  count = lines-length (block g j t x) (block-paired g j t x f p)
 
   pub pairs-whole : length words ≡ 3 * (length words / 3)
   pairs-whole = omega (arith, count)
 
   pub pairs-end : (i : ℕ) → i < length words / 3 → getD words (3 * i + 2) (pos 0) ≡ pos 0
-  pairs-end i l = lines-end (block g j t x) (block-paired g j t x p) i (omega (arith, count))
+  pairs-end i l = lines-end (block g j t x) (block-paired g j t x f p) i (omega (arith, count))

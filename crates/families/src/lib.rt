@@ -12,12 +12,13 @@ ghost use lib.ListN.{length, getD};
 ghost use Rattle.lists.specs.Loop.{for, each};
 ghost use Rattle.lists.specs.Slice.{Wrote};
 ghost use Rattle.formula.specs.Variables.{X, highest};
-ghost use Rattle.formula.specs.Formula.{line, noTwo, blockB, blockD, blockE, blockF, blockG};
-ghost use Rattle.formula.specs.Blocks.{times, blocksAt, heldIn, block, family};
+ghost use Rattle.bits.specs.Bits.{set?};
+ghost use Rattle.formula.specs.Formula.{line, noTwo, blockB, blockD, blockE, blockF, noFollowing, noExchange};
+ghost use Rattle.formula.specs.Blocks.{times, blocksAt, noExchangeFrom, blockG, heldIn, block, family};
 ghost use Rattle.instance.specs.Instance.{GoalBelow, joined};
 ghost use Rattle.instance.specs.Limits.{Limits};
 ghost use Rattle.instance.specs.Ready.{Ready};
-ghost use Rattle.families.specs.Runs.{nots, above, apart};
+ghost use Rattle.families.specs.Runs.{nots, above, apart, exchanging};
 
 // Variables at one distance from each to the next.
 pub struct Run {
@@ -143,7 +144,7 @@ fn write_f(f: &mut [i32], s: Sizes, near: &[u64; 64], t: Step, a: Agent) -> usiz
     at
 }
 
-// Of G, time t and agents a and b: where they are two, a does not go where b was.
+// Of G under rule 1, time t and agents a and b: where they are two, a does not go where b was.
 fn write_apart(f: &mut [i32], s: Sizes, t: Step, a: Agent, b: Agent) -> usize
     requires { ⌜ Limits s ⌝ }
     requires { ⌜ (t .0 < s .m) × (a .0 < s .k) × (b .0 < s .k) ⌝ }
@@ -166,12 +167,12 @@ fn write_apart(f: &mut [i32], s: Sizes, t: Step, a: Agent, b: Agent) -> usize
     at
 }
 
-// G, of time t and agent a.
-fn write_g(f: &mut [i32], s: Sizes, t: Step, a: Agent) -> usize
+// G under rule 1, of time t and agent a.
+fn write_following(f: &mut [i32], s: Sizes, t: Step, a: Agent) -> usize
     requires { ⌜ Limits s ⌝ }
     requires { ⌜ (t .0 < s .m) × (a .0 < s .k) ⌝ }
-    requires { ⌜ length (each line (blockG s (t .0) (a .0))) ≤ length (now f) ⌝ }
-    ensures { λ r. ⌜ Wrote (each line (blockG s (t .0) (a .0))) (now (f .entry)) (now (f .exit)) r ⌝ }
+    requires { ⌜ length (each line (noFollowing s (t .0) (a .0))) ≤ length (now f) ⌝ }
+    ensures { λ r. ⌜ Wrote (each line (noFollowing s (t .0) (a .0))) (now (f .entry)) (now (f .exit)) r ⌝ }
 {
     let k = s.k;
     let mut at: usize = 0;
@@ -179,6 +180,78 @@ fn write_g(f: &mut [i32], s: Sizes, t: Step, a: Agent) -> usize
         at += write_apart(&mut f[at..], s, t, a, Agent(b));
     }
     at
+}
+
+// Of G under rule 2, time t and agent a: with no other agent it exchanges u and v.
+fn write_exchanges(f: &mut [i32], s: Sizes, t: Step, u: Vertex, v: Vertex, a: Agent) -> usize
+    requires { ⌜ Limits s ⌝ }
+    requires { ⌜ (t .0 < s .m) × (u .0 < s .n) × (v .0 < s .n) × (a .0 < s .k) ⌝ }
+    requires { ⌜ length (each line (for (s .k) (exchanging s (t .0) (u .0) (v .0) (a .0)))) ≤ length (now f) ⌝ }
+    ensures { λ r. ⌜ Wrote (each line (for (s .k) (exchanging s (t .0) (u .0) (v .0) (a .0)))) (now (f .entry)) (now (f .exit)) r ⌝ }
+{
+    let k = s.k;
+    let next = Step(t.0 + 1);
+    let x = clauses::negative(s, t, a, u);
+    let y = clauses::negative(s, next, a, v);
+    let mut at: usize = 0;
+    for b in 0..k {
+        if a.0 != b {
+            at += clauses::put_four(
+                &mut f[at..],
+                x,
+                y,
+                clauses::negative(s, t, Agent(b), v),
+                clauses::negative(s, next, Agent(b), u),
+            );
+        }
+    }
+    at
+}
+
+// The same, of each agent.
+fn write_no_exchange(f: &mut [i32], s: Sizes, t: Step, u: Vertex, v: Vertex) -> usize
+    requires { ⌜ Limits s ⌝ }
+    requires { ⌜ (t .0 < s .m) × (u .0 < s .n) × (v .0 < s .n) ⌝ }
+    requires { ⌜ length (each line (noExchange s (t .0) (u .0) (v .0))) ≤ length (now f) ⌝ }
+    ensures { λ r. ⌜ Wrote (each line (noExchange s (t .0) (u .0) (v .0))) (now (f .entry)) (now (f .exit)) r ⌝ }
+{
+    let k = s.k;
+    let mut at: usize = 0;
+    for a in 0..k {
+        at += write_exchanges(&mut f[at..], s, t, u, v, Agent(a));
+    }
+    at
+}
+
+// G under rule 2, of time t and the edges with the low end u: each high end is a neighbour above it, and the neighbours of u are the
+// bits of a word.
+fn write_from(f: &mut [i32], s: Sizes, word: u64, t: Step, u: Vertex) -> usize
+    requires { ⌜ Limits s ⌝ }
+    requires { ⌜ (t .0 < s .m) × (u .0 < s .n) × (word < 2 ^ s .n) ⌝ }
+    requires { ⌜ length (each line (noExchangeFrom s (λ _. set? word) (t .0) (u .0))) ≤ length (now f) ⌝ }
+    ensures { λ r. ⌜ Wrote (each line (noExchangeFrom s (λ _. set? word) (t .0) (u .0))) (now (f .entry)) (now (f .exit)) r ⌝ }
+{
+    let mut rest = bits::above(word, u.0);
+    let mut at: usize = 0;
+    while rest != 0 {
+        let v = u64::trailing_zeros(rest) as usize;
+        at += write_no_exchange(&mut f[at..], s, t, u, Vertex(v));
+        rest = rest & (rest - 1);
+    }
+    at
+}
+
+// G, of time t and x: an agent under rule 1, a low end under rule 2.
+fn write_g(f: &mut [i32], s: Sizes, near: &[u64; 64], t: Step, x: usize) -> usize
+    requires { ⌜ Limits s × ((v : ℕ) → v < 64 → getD (now near) v 0 < 2 ^ s .n) ⌝ }
+    requires { ⌜ (t .0 < s .m) × (x < blocksAt s 6) ⌝ }
+    requires { ⌜ length (each line (blockG s (joined (now near)) (t .0) x)) ≤ length (now f) ⌝ }
+    ensures { λ r. ⌜ Wrote (each line (blockG s (joined (now (near .entry))) (t .0) x)) (now (f .entry)) (now (f .exit)) r ⌝ }
+{
+    if s.rule == 2 {
+        return write_from(f, s, near[x], t, Vertex(x));
+    }
+    write_following(f, s, t, Agent(x))
 }
 
 // A family's block of t and x.
@@ -204,7 +277,7 @@ pub fn write_block(
         3 => write_d(f, s, Step(t), Agent(x)),
         4 => write_e(f, s, Step(t), Vertex(x)),
         5 => write_f(f, s, near, Step(t), Agent(x)),
-        _ => write_g(f, s, Step(t), Agent(x)),
+        _ => write_g(f, s, near, Step(t), x),
     }
 }
 

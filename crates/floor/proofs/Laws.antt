@@ -69,34 +69,34 @@ measured-ext k d e place h =
     (for-ext k _ _ (λ a l. ap (λ (x : ℕ). unless (reachable x) (refuse 30 (place + a))) (h a l)))
     (greatest-ext k d e h)
 
-module _ (b : List ℕ) (a : Answer) (c : Checked) (ea : a ≡ instanceAnswer b 0) (ec : c ≡ instanceChecked b 0) where
+module _ (b : List ℕ) (a : Answer) (c : Checked) (ea : a ≡ instanceAnswer b 0 1) (ec : c ≡ instanceChecked b 0 1) where
   abbrev asks : Instance → List Question
   asks I = goalQuestion b ∷ []
 
   pub refused : a .number ≢ 0 → a ≡ floorAnswer b
-  refused d = instance-refuses b 0 a c ea ec asks floor d ∙ floor-asks b
+  refused d = instance-refuses b 0 1 a c ea ec asks floor d ∙ floor-asks b
 
   module _ (o : a .number ≡ 0) where
     known : Accepted b c
-    known = passed b 0 a c ea ec o
+    known = passed b 0 1 a c ea ec o
 
     -- the parts are those of the instance, whose horizon is 0
     at : (table : List (List ℕ)) → TableOf (c .sizes .n) (c .near) table → (i : ℕ) → i < c .sizes .k
-        → between (c .starts) (c .goals) table i ≡ startToGoal (instance b 0) i
+        → between (c .starts) (c .goals) table i ≡ startToGoal (instance b 0 1) i
     at table t i l =
         let s = shown b c known in
         let r = ready b c known in
         to-goal-ext (getD (c .goals) i 0) (instanceOf b c .goal i) _ _ (s .goals-at i l) (λ g.
         table-distance (instanceOf b c) (c .sizes) (c .near) (s .graph) table t (getD (c .starts) i 0) (getD (c .goals) i 0) (r .starts-below i l) (r .goals-below i l g)
         ∙ ap₂ (distance (instanceOf b c)) (s .starts-at i l) (s .goals-at i l))
-        ∙ ap (λ (I : Instance). startToGoal I i) (horizon b 0 a c ea ec o)
+        ∙ ap (λ (I : Instance). startToGoal I i) (horizon b 0 1 a c ea ec o)
 
     pub answered : (table : List (List ℕ)) → TableOf (c .sizes .n) (c .near) table
         → measured (c .sizes .k) (between (c .starts) (c .goals) table) (4 + 2 * c .sizes .e + c .sizes .k) ≡ floorAnswer b
     unfolding measured floor instance
     answered table t =
-        call-answers b 0 a c ea ec asks floor o _
-        (measured-ext (c .sizes .k) _ (startToGoal (instance b 0)) (4 + 2 * c .sizes .e + c .sizes .k) (at table t)
-        ∙ ap₂ (λ (k e : ℕ). measured k (startToGoal (instance b 0)) (4 + 2 * e + k)) (k-same b c known) (e-same b c known)
-        ∙ ap (λ (I : Instance). decide (asks I) (floor I)) (sym (horizon b 0 a c ea ec o)))
+        call-answers b 0 1 a c ea ec asks floor o _
+        (measured-ext (c .sizes .k) _ (startToGoal (instance b 0 1)) (4 + 2 * c .sizes .e + c .sizes .k) (at table t)
+        ∙ ap₂ (λ (k e : ℕ). measured k (startToGoal (instance b 0 1)) (4 + 2 * e + k)) (k-same b c known) (e-same b c known)
+        ∙ ap (λ (I : Instance). decide (asks I) (floor I)) (sym (horizon b 0 1 a c ea ec o)))
         ∙ floor-asks b

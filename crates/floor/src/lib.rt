@@ -59,11 +59,12 @@ fn measure(
     }
 }
 
-// Questions 1 to 9 and 30. No horizon is given; the instance check is asked with horizon 0, which question 10 passes.
+// Questions 1 to 9 and 30. No horizon and no rule are given; the instance check is asked with horizon 0 and rule 1, which questions 10
+// and 31 pass.
 pub fn floor_of(b: &[u8]) -> Answer
     ensures { λ r. ⌜ r ≡ floorAnswer (now (b .entry)) ⌝ }
 {
-    let i = instance_check::check_instance(b, 0);
+    let i = instance_check::check_instance(b, 0, 1);
     let answer = i.answer;
     let c = i.checked;
     if answer.number != 0 {

@@ -8,7 +8,7 @@ use Rattle.lists.specs.Loop.{for, each}
 use Rattle.lists.proofs.Loops.{for-ext}
 use Rattle.instance.specs.declared.Sizes.{Sizes}
 use Rattle.instance.specs.declared.Checked.{Checked}
-use Rattle.instance.specs.Instance.{Instance}
+use Rattle.instance.specs.Instance.{Instance, Edges}
 use Rattle.instance.specs.Shows.{Shows}
 use Rattle.instance.specs.Accepted.{Accepted, instanceOf}
 use Rattle.instance.proofs.Accepted.{sizes-same, graph, counted-known, shown}
@@ -18,11 +18,11 @@ use Rattle.formula.specs.Blocks.{Given, given, heldIn, held, family}
 use Rattle.formula.proofs.Blocks.{clauses-families, Same, family-same}
 use Rattle.formula.proofs.Counts.{clause-count, word-count}
 
-module _ (I : Instance) (s : Sizes) (starts goals near : List ℕ) (w : Shows I s starts goals near) where
-  abbrev g : Given
-  g = heldIn s starts goals near
+module _ (I : Instance) (s : Sizes) (starts goals near : List ℕ) (w : Shows I s starts goals near) (g : Edges I) where
+  abbrev parts : Given
+  parts = heldIn s starts goals near
 
-  same : Same g (given I)
+  same : Same parts (given I)
   same =
       record {
         sizes = w .graph .sizes;
@@ -31,8 +31,8 @@ module _ (I : Instance) (s : Sizes) (starts goals near : List ℕ) (w : Shows I 
         near = λ u v p q. ap (λ (near : ℕ → ℕ → Bool). near u v) (w .graph .words);
       }
 
-  pub families-shown : clauses I ≡ for 7 (family g)
-  families-shown = clauses-families I ∙ for-ext 7 _ _ (λ j l. sym (family-same g (given I) same j))
+  pub families-shown : clauses I ≡ for 7 (family parts)
+  families-shown = clauses-families I g ∙ for-ext 7 _ _ (λ j l. sym (family-same parts (given I) same j))
 
 -- of a whole checked instance: the clauses, the words, and how many they are
 module _ (b : List ℕ) (c : Checked) (w : Accepted b c) where
@@ -40,7 +40,7 @@ module _ (b : List ℕ) (c : Checked) (w : Accepted b c) where
   J = instanceOf b c
 
   pub families-held : clauses J ≡ for 7 (family (held c))
-  families-held = families-shown J (c .sizes) (c .starts) (c .goals) (c .near) (shown b c w)
+  families-held = families-shown J (c .sizes) (c .starts) (c .goals) (c .near) (shown b c w) (graph b c w)
 
   pub words-held : words (formula J) ≡ each line (for 7 (family (held c)))
   unfolding words

@@ -2,25 +2,25 @@
 use mathlib.Core.Path.{_≡_}
 use mathlib.Core.Logic.{⊎-elim}
 use mathlib.Core.List.{List·Memᴰ}
-use mathlib.Core.Bool.{Bool, true, false}
+use mathlib.Core.Bool.{Bool, true, false, cond}
 use Prim.Native.Nat.{ℕ, zero, suc, _+_, _*_, _-_, _≤_, _<_}
 use native.Mathlib.Nat.{mul-le-mul, not-suc-le-zero, le-refl, eq-or-lt-of-le, le-of-suc-le-suc}
 use native.Mathlib.Omega.{arith}
 use lib.ListN.{length, length-append}
 use lib.Dec.{T, leb}
-use Rattle.lists.specs.Loop.{all, sum}
+use Rattle.lists.specs.Loop.{for, all, sum}
 use Rattle.lists.proofs.Tests.{leb-iff}
 use Rattle.lists.proofs.Loops.{for-all, when-all, one-all, all-append, all-mem}
 use Rattle.lists.proofs.Blocks.{for1-length}
 use Rattle.lists.proofs.Sums.{ind, ind-no, when-count}
 use Rattle.lists.proofs.Pairs.{pairs-most}
 use Rattle.instance.specs.declared.Sizes.{Sizes}
-use Rattle.instance.specs.Instance.{Instance, adjacent, degree, Edges}
+use Rattle.instance.specs.Instance.{Instance, following, adjacent, degree, Edges}
 use Rattle.instance.proofs.Graph.{adjacent-iff, for-neighbours}
 use Rattle.formula.specs.Variables.{X, variableCount}
-use Rattle.formula.specs.Formula.{Clause, A, B, C, D, E, F, G, clauses, line}
+use Rattle.formula.specs.Formula.{Clause, A, B, C, D, E, F, G, noFollowing, noExchange, clauses, line}
 use Rattle.instance.specs.Limits.{Limits}
-use Rattle.formula.specs.Counts.{clausesBy, clauseCount, wordCount}
+use Rattle.formula.specs.Counts.{clausesBy, clauseCount, wordCount, mostWords}
 
 module _ (s : Sizes) (w : Limits s) where
   open Sizes s using (n, k, e, m)
@@ -48,21 +48,47 @@ module _ (s : Sizes) (w : Limits s) where
   pub count-F-most : clausesBy s .F ≤ 32768
   count-F-most = mul-le-mul {n₂ = 512} {m₂ = 64} agent-steps (w .n-most)
 
-  pub count-G-most : clausesBy s .G ≤ 491520
-  count-G-most =
+  pub exchanges-most : m * e * (k * (k - 1)) ≤ 15_482_880
+  exchanges-most =
+      let p : m * e ≤ 64512 = mul-le-mul {n₂ = 32} {m₂ = 2016} (w .m-most) (w .e-most) in
+      let q : k * (k - 1) ≤ 240 = mul-le-mul {n₂ = 16} {m₂ = 15} (w .k-most) (omega arith) in
+      mul-le-mul {n₂ = 64512} {m₂ = 240} p q
+
+  pub followings-most : m * k * (k - 1) * n ≤ 491520
+  followings-most =
       let q : m * k * (k - 1) ≤ 7680 = mul-le-mul {n₂ = 512} {m₂ = 15} agent-steps (omega arith) in
       mul-le-mul {n₂ = 7680} {m₂ = 64} q (w .n-most)
 
-  pub clauses-most : clauseCount s ≤ 1842736
+  pub count-G-most : clausesBy s .G ≤ 15_482_880
+  count-G-most = by-rule (following s)
+    where
+      by-rule : (f : Bool) → cond f (m * e * (k * (k - 1))) (m * k * (k - 1) * n) ≤ 15_482_880
+      by-rule true = exchanges-most
+      by-rule false = omega (arith, followings-most)
+
+  pub clauses-most : clauseCount s ≤ 16_834_096
   unfolding clauseCount
   clauses-most = omega (arith, rows, count-D-most, count-E-most, count-F-most, count-G-most, w .k-most)
 
-  pub words-most : wordCount s ≤ 7_625_296
+  -- G's words, and what the other families have at most
+  in-G : (f : Bool) → cond f 5 3 * cond f (m * e * (k * (k - 1))) (m * k * (k - 1) * n) + 6_150_736 ≤ cond f 83_565_136 7_625_296
+  in-G true = omega (arith, exchanges-most)
+  in-G false = omega (arith, followings-most)
+
+  pub words-most : wordCount s ≤ mostWords s
   unfolding wordCount
   words-most =
       let c : suc m * k * (n + 1) ≤ 34320 = mul-le-mul {n₂ = 528} {m₂ = 65} rows (omega arith) in
       let f : m * k * (3 * n + 2 * e) ≤ 2162688 = mul-le-mul {n₂ = 512} {m₂ = 4224} agent-steps (omega arith) in
-      omega (arith, c, f, count-D-most, count-E-most, count-G-most, w .k-most)
+      omega (arith, c, f, count-D-most, count-E-most, in-G (following s), w .k-most)
+
+  -- under either rule
+  pub words-top : wordCount s ≤ 83_565_136
+  words-top = by-rule (following s) words-most
+    where
+      by-rule : (f : Bool) → wordCount s ≤ cond f 83_565_136 7_625_296 → wordCount s ≤ 83_565_136
+      by-rule true h = h
+      by-rule false h = omega arith
 
 -- ---- the longest clause: one of family F, with a vertex and at most n - 1 neighbours
 ind-most : (b : Bool) → ind b ≤ 1
@@ -125,9 +151,13 @@ module _ (I : Instance) (g : Edges I) where
         simp (for-all, one-all, leb-iff)
         (λ t l a r v p. simp length-append (omega (arith, for-neighbours I v (X sizes (suc t) a), degree-most v p)))
 
-    short-G : T (all short (G (I .sizes)))
+    short-G : T (all short (G (I .sizes) (I .low) (I .high)))
     unfolding G short
-    short-G = simp (for-all, when-all, one-all, leb-iff) (λ t l a r b q o v p. omega arith)
+    short-G = by-rule (following sizes)
+      where
+        by-rule : (f : Bool) → T (all short (cond f (for m λ t. for (sizes .e) λ j. noExchange sizes t (I .low j) (I .high j)) (for m λ t. for k λ a. noFollowing sizes t a)))
+        by-rule true = simp (for-all, when-all, one-all, leb-iff) (λ t l j r a q b p o. omega arith)
+        by-rule false = simp (for-all, when-all, one-all, leb-iff) (λ t l a r b q o v p. omega arith)
 
     all-short : T (all short (clauses I))
     unfolding clauses

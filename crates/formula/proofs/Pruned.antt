@@ -20,6 +20,7 @@ use Rattle.distances.specs.Distance.{unreachable, further}
 use Rattle.formula.specs.Variables.{variableCount, ¬X}
 use Rattle.formula.specs.Formula.{clauses, line, words}
 use Rattle.formula.specs.Pruned.{tooFar, H, countH, fromStart, fromGoal, pruned, prunedClauses, prunedWords}
+use Rattle.formula.specs.Counts.{mostWords}
 use Rattle.formula.proofs.Counts.{unit-words, clause-count, word-count}
 use Rattle.formula.proofs.Limits.{words-most, variables-most}
 
@@ -151,7 +152,7 @@ unfolding countH
 count-H-most s from to =
     sum-below (s .k) (s .n * suc (s .m)) _ (λ a l. sum-below (s .n) (suc (s .m)) _ (λ v r. omega arith))
 
-pub pruned-words-most : (I : Instance) → Limits (I .sizes) → prunedWords I ≤ 7_692_880
+pub pruned-words-most : (I : Instance) → Limits (I .sizes) → prunedWords I ≤ mostWords (I .sizes) + 67_584
 unfolding prunedWords
 pruned-words-most I w =
     let e : I .sizes .k * (I .sizes .n * suc (I .sizes .m)) ≡ variableCount (I .sizes) = sym (mul-assoc (I .sizes .k) (I .sizes .n) (suc (I .sizes .m))) ∙ ap (λ (x : ℕ). x * suc (I .sizes .m)) (mul-comm (I .sizes .k) (I .sizes .n)) in

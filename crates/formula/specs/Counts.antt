@@ -1,7 +1,9 @@
 -- The counts of clauses and words, worked out from the sizes, by family and in all.
+use mathlib.Core.Bool.{cond}
 use Prim.Native.Nat.{ℕ, suc, _+_, _*_, _-_}
 use Rattle.lists.specs.Loop.{pairs}
 use Rattle.instance.specs.declared.Sizes.{Sizes}
+use Rattle.instance.specs.Instance.{following}
 
 -- one number for each family, A to G
 pub record Families : Type 0 where
@@ -28,7 +30,7 @@ module _ (s : Sizes) where
         D = suc m * k * pairs n;
         E = suc m * n * pairs k;
         F = m * k * n;
-        G = m * k * (k - 1) * n;
+        G = cond (following s) (m * e * (k * (k - 1))) (m * k * (k - 1) * n);
       }
 
   -- zeros included
@@ -41,7 +43,7 @@ module _ (s : Sizes) where
         D = 3 * clausesBy .D;
         E = 3 * clausesBy .E;
         F = m * k * (3 * n + 2 * e);
-        G = 3 * clausesBy .G;
+        G = cond (following s) 5 3 * clausesBy .G;
       }
 
   unfoldable pub clauseCount : ℕ
@@ -49,3 +51,11 @@ module _ (s : Sizes) where
 
   unfoldable pub wordCount : ℕ
   wordCount = total wordsBy
+
+  -- the words of the largest formula under the rule
+  abbrev pub mostWords : ℕ
+  mostWords = cond (following s) 83_565_136 7_625_296
+
+-- its sizes: 64 vertices, 16 agents, 2,016 edges, horizon 32, every agent with a goal
+abbrev pub largestSizes : ℕ → Sizes
+largestSizes rule = record { n = 64; k = 16; e = 2016; m = 32; rule = rule; g = 16 }

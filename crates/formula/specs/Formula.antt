@@ -1,14 +1,14 @@
 -- The seven families of clauses, in their order. Inside one, the first index runs slowest, and each from its lowest number on.
--- A family takes only what it uses. It stands in two parts: the clauses of one block, that is of one t and a, or of one t and v; and
--- its blocks, one after another.
+-- A family takes only what it uses. It stands in two parts: the clauses of one block, that is of one t and a, of one t and v, or of one
+-- t and an edge; and its blocks, one after another.
 use mathlib.Core.List.{List, [], _∷_, _++_}
-use mathlib.Core.Bool.{Bool, not}
+use mathlib.Core.Bool.{Bool, not, cond}
 use Prim.Native.Nat.{ℕ, suc}
 use lib.Dec.{ltb, eqb}
 use lib.IntN.{ℤ, pos}
 use Rattle.lists.specs.Loop.{for, when, each}
 use Rattle.instance.specs.declared.Sizes.{Sizes}
-use Rattle.instance.specs.Instance.{Instance, free, adjacent}
+use Rattle.instance.specs.Instance.{Instance, following, free, adjacent}
 use Rattle.formula.specs.Variables as variables
 use Rattle.formula.specs.Variables.{Literal, variableCount}
 
@@ -20,7 +20,7 @@ abbrev pub noTwo : ℕ → (ℕ → Literal) → List Clause
 noTwo n ¬x = for n λ v. for n λ w. when (ltb v w) ((¬x v ∷ ¬x w ∷ []) ∷ [])
 
 module _ (s : Sizes) where
-  open Sizes s using (n, k, m)
+  open Sizes s using (n, k, e, m)
 
   abbrev X : ℕ → ℕ → ℕ → Literal
   X = variables.X s
@@ -80,19 +80,28 @@ module _ (s : Sizes) where
   unfoldable pub F : (ℕ → ℕ → Bool) → List Clause
   F near = for m λ t. for k λ a. blockF near t a
 
-  -- where another agent b is at v at time t, agent a is not at v at time t + 1
-  abbrev pub blockG : ℕ → ℕ → List Clause
-  blockG t a = for k λ b. when (not (eqb a b)) (for n λ v. (¬X t b v ∷ ¬X (suc t) a v ∷ []) ∷ [])
+  -- G under rule 1: where another agent b is at v at time t, agent a is not at v at time t + 1
+  abbrev pub noFollowing : ℕ → ℕ → List Clause
+  noFollowing t a = for k λ b. when (not (eqb a b)) (for n λ v. (¬X t b v ∷ ¬X (suc t) a v ∷ []) ∷ [])
 
-  unfoldable pub G : List Clause
-  G = for m λ t. for k λ a. blockG t a
+  -- under rule 2: agents a and b do not exchange u and v
+  abbrev pub exchange : ℕ → ℕ → ℕ → ℕ → ℕ → Clause
+  exchange t u v a b = ¬X t a u ∷ ¬X (suc t) a v ∷ ¬X t b v ∷ ¬X (suc t) b u ∷ []
+
+  -- no two agents do, across the edge with the low end u and the high end v
+  abbrev pub noExchange : ℕ → ℕ → ℕ → List Clause
+  noExchange t u v = for k λ a. for k λ b. when (not (eqb a b)) (exchange t u v a b ∷ [])
+
+  -- the edges in stored order: edge j has the ends low j and high j
+  unfoldable pub G : (ℕ → ℕ) → (ℕ → ℕ) → List Clause
+  G low high = cond (following s) (for m λ t. for e λ j. noExchange t (low j) (high j)) (for m λ t. for k λ a. noFollowing t a)
 
 -- all clauses; a clause's number is its place here, from 0
 module _ (I : Instance) where
-  open Instance I using (sizes, start, goal)
+  open Instance I using (sizes, low, high, start, goal)
 
   unfoldable pub clauses : List Clause
-  clauses = A sizes start ++ B sizes goal ++ C sizes ++ D sizes ++ E sizes ++ F sizes (adjacent I) ++ G sizes
+  clauses = A sizes start ++ B sizes goal ++ C sizes ++ D sizes ++ E sizes ++ F sizes (adjacent I) ++ G sizes low high
 
 -- a formula is its number of variables, and its clauses
 pub record Formula : Type 0 where

@@ -11,15 +11,15 @@ use Rattle.formula.specs.Formula.{formula}
 use Rattle.dimacs.specs.Text.{formulaText, refusalText}
 use Rattle.instance.specs.Questions.{instanceAnswer}
 
--- of an instance and a horizon: the formula's text, or the one line of a refusal
+-- of an instance and a horizon, under movement rule 1: the formula's text, or the one line of a refusal
 unfoldable pub answerText : List ℕ → ℕ → List ℕ
 answerText b m =
-    byNumber (instanceAnswer b m .number) (formulaText (formula (instance b m)))
-    (refusalText (instanceAnswer b m .number) (instanceAnswer b m .second))
+    byNumber (instanceAnswer b m 1 .number) (formulaText (formula (instance b m 1)))
+    (refusalText (instanceAnswer b m 1 .number) (instanceAnswer b m 1 .second))
 
 -- The exit status of an instance and a horizon where all of the text was written: 0 for a formula, 1 for a refusal.
 unfoldable pub answerStatus : List ℕ → ℕ → ℕ
-answerStatus b m = byNumber (instanceAnswer b m .number) 0 1
+answerStatus b m = byNumber (instanceAnswer b m 1 .number) 0 1
 
 -- it is answered, or 2 where a write failed
 abbrev pub Ends : ℕ → ℕ → Type 0

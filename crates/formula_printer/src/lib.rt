@@ -1,5 +1,5 @@
-// The formula program: the text of what stands in standard input, to standard output. It is gathered and written in pieces of
-// 64 KiB or more; the first write that fails ends the program, and so does a read that fails.
+// The formula program: the text of what stands in standard input, to standard output, under movement rule 1. It is gathered and
+// written in pieces of 64 KiB or more; the first write that fails ends the program, and so does a read that fails.
 use instance::Checked;
 use instance::Sizes;
 ghost use mathlib.Core.Path.{_≡_};
@@ -39,7 +39,7 @@ fn write_piece(text: &[u8], at: usize) -> Gathered
     Gathered { ok, at: 0 }
 }
 
-// Whether a family's clauses have two literals each.
+// Whether a family's clauses have two literals each, under rule 1.
 fn is_paired(which: usize) -> bool
     ensures { λ r. ⌜ r ≡ paired which ⌝ }
 {
@@ -78,7 +78,7 @@ fn print_block(
     gathered: usize,
 ) -> Gathered
     requires { ⌜ Block (now words) (now text) × Texts (variableCount s) (now texts) × (gathered < 65536) ⌝ }
-    requires { ⌜ Ready s (now starts) (now goals) (now near) ⌝ }
+    requires { ⌜ Ready s (now starts) (now goals) (now near) × (s .rule ≡ 1) ⌝ }
     requires { ⌜ (which < 7) × (t < times s which) × (x < blocksAt s which) ⌝ }
     ensures { λ r. ⌜ r .at < 65536 ⌝ }
 {
@@ -102,7 +102,7 @@ fn print_step(
     gathered: usize,
 ) -> Gathered
     requires { ⌜ Block (now words) (now text) × Texts (variableCount s) (now texts) × (gathered < 65536) ⌝ }
-    requires { ⌜ Ready s (now starts) (now goals) (now near) ⌝ }
+    requires { ⌜ Ready s (now starts) (now goals) (now near) × (s .rule ≡ 1) ⌝ }
     requires { ⌜ (which < 7) × (t < times s which) ⌝ }
     ensures { λ r. ⌜ r .at < 65536 ⌝ }
 {
@@ -131,7 +131,7 @@ fn print_family(
     gathered: usize,
 ) -> Gathered
     requires { ⌜ Block (now words) (now text) × Texts (variableCount s) (now texts) × (gathered < 65536) ⌝ }
-    requires { ⌜ Ready s (now starts) (now goals) (now near) ⌝ }
+    requires { ⌜ Ready s (now starts) (now goals) (now near) × (s .rule ≡ 1) ⌝ }
     requires { ⌜ which < 7 ⌝ }
     ensures { λ r. ⌜ r .at < 65536 ⌝ }
 {
@@ -156,7 +156,7 @@ fn print_families(
     gathered: usize,
 ) -> bool
     requires { ⌜ Block (now words) (now text) × Texts (variableCount (c .sizes)) (now texts) × (gathered < 65536) ⌝ }
-    requires { ⌜ Ready (c .sizes) (c .starts) (c .goals) (c .near) ⌝ }
+    requires { ⌜ Ready (c .sizes) (c .starts) (c .goals) (c .near) × (c .sizes .rule ≡ 1) ⌝ }
 {
     let starts = c.starts;
     let goals = c.goals;
@@ -184,7 +184,7 @@ fn print_families(
 // The formula of a checked instance. The texts of its literals and of 0 are made first.
 fn print_formula(words: &mut [i32], text: &mut [u8], texts: &mut [u8], c: Checked) -> bool
     requires { ⌜ Room (now words) (now text) (now texts) ⌝ }
-    requires { ⌜ Ready (c .sizes) (c .starts) (c .goals) (c .near) ⌝ }
+    requires { ⌜ Ready (c .sizes) (c .starts) (c .goals) (c .near) × (c .sizes .rule ≡ 1) ⌝ }
 {
     let s = c.sizes;
     let variables = counts::variable_count(s);
@@ -217,7 +217,7 @@ fn print_answer(words: &mut [i32], text: &mut [u8], texts: &mut [u8], b: &[u8], 
     requires { ⌜ Room (now words) (now text) (now texts) ⌝ }
     ensures { λ r. ⌜ Ends (answerStatus (now (b .entry)) m) r ⌝ }
 {
-    let i = instance_check::check_instance(b, m);
+    let i = instance_check::check_instance(b, m, 1);
     let answer = i.answer;
     let c = i.checked;
     if answer.number != 0 {

@@ -27,16 +27,16 @@ use Rattle.calls.proofs.Size.{size-refused, size-accepted}
 use Rattle.formula_size.specs.ByTable.{countByTable}
 
 -- the answer of the instance check is a, the checked instance c
-module _ (f : Instance → Formula) (b : List ℕ) (m : ℕ) (a : Answer) (c : Checked) (ea : a ≡ instanceAnswer b m) (ec : c ≡ instanceChecked b m) where
-  pub refuses : a .number ≢ 0 → withClauses a 0 ≡ sizeAnswer f b m
-  refuses d = ap (λ (x : Answer). withClauses x 0) ea ∙ size-refused f b m (subst (λ (x : Answer). x .number ≢ 0) ea d)
+module _ (f : Instance → Formula) (b : List ℕ) (m rule : ℕ) (a : Answer) (c : Checked) (ea : a ≡ instanceAnswer b m rule) (ec : c ≡ instanceChecked b m rule) where
+  pub refuses : a .number ≢ 0 → withClauses a 0 ≡ sizeAnswer f b m rule
+  refuses d = ap (λ (x : Answer). withClauses x 0) ea ∙ size-refused f b m rule (subst (λ (x : Answer). x .number ≢ 0) ea d)
 
   pub accepts : a .number ≡ 0 → (x y : ℕ) → length (words (f (instanceOf b c))) ≡ x → length (f (instanceOf b c) .clauses) ≡ y
-      → withClauses (accept x) y ≡ sizeAnswer f b m
+      → withClauses (accept x) y ≡ sizeAnswer f b m rule
   accepts o x y ex ey =
       ap₂ (λ (i j : ℕ). withClauses (accept i) j) (sym ex) (sym ey)
-      ∙ ap (λ (I : Instance). withClauses (accept (length (words (f I)))) (length (f I .clauses))) (horizon b m a c ea ec o)
-      ∙ size-accepted f b m (sym (ap (λ (x : Answer). x .number) ea) ∙ o)
+      ∙ ap (λ (I : Instance). withClauses (accept (length (words (f I)))) (length (f I .clauses))) (horizon b m rule a c ea ec o)
+      ∙ size-accepted f b m rule (sym (ap (λ (x : Answer). x .number) ea) ∙ o)
 
 module _ (b : List ℕ) (c : Checked) (w : Accepted b c) (table : List (List ℕ)) (t : TableOf (c .sizes .n) (c .near) table) where
   abbrev I : Instance

@@ -40,10 +40,10 @@ fn accepted(words: usize, clauses: usize) -> Size
 }
 
 // Questions 1 to 10.
-pub fn formula_size(b: &[u8], m: usize) -> Size
-    ensures { λ r. ⌜ r ≡ sizeAnswer formula (now (b .entry)) m ⌝ }
+pub fn formula_size(b: &[u8], m: usize, rule: usize) -> Size
+    ensures { λ r. ⌜ r ≡ sizeAnswer formula (now (b .entry)) m rule ⌝ }
 {
-    let i = instance_check::check_instance(b, m);
+    let i = instance_check::check_instance(b, m, rule);
     let answer = i.answer;
     let c = i.checked;
     if answer.number != 0 {
@@ -106,10 +106,10 @@ pub fn pruned_words(s: Sizes, more: usize) -> usize
 }
 
 // Questions 1 to 10.
-pub fn pruned_size(b: &[u8], m: usize) -> Size
-    ensures { λ r. ⌜ r ≡ sizeAnswer pruned (now (b .entry)) m ⌝ }
+pub fn pruned_size(b: &[u8], m: usize, rule: usize) -> Size
+    ensures { λ r. ⌜ r ≡ sizeAnswer pruned (now (b .entry)) m rule ⌝ }
 {
-    let i = instance_check::check_instance(b, m);
+    let i = instance_check::check_instance(b, m, rule);
     let answer = i.answer;
     let c = i.checked;
     if answer.number != 0 {

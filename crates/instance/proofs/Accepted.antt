@@ -1,6 +1,7 @@
 -- From the instance check's answer to what the inner functions require, and what they then know.
-use mathlib.Core.Path.{_≡_, sym, _∙_, ap, subst}
+use mathlib.Core.Path.{_≡_, sym, _∙_, ap, ap₂, subst}
 use mathlib.Core.List.{List}
+use mathlib.Core.Bool.{Bool}
 use Prim.Native.Nat.{ℕ, _+_, _*_, _^_, _≤_, _<_}
 use native.Mathlib.Omega.{arith}
 use lib.ListN.{length, getD, take, drop, length-drop, List·getD-append}
@@ -9,31 +10,36 @@ use Rattle.lists.specs.Slice.{filled}
 use Rattle.answers.proofs.Laws.{byNumber-accepted}
 use Rattle.instance.specs.declared.Sizes.{Sizes}
 use Rattle.instance.specs.declared.Checked.{Checked}
-use Rattle.instance.specs.Instance.{Instance, GoalBelow, goalCount, instance, checked, unchecked, forAgents, vertices, agents, edges, starts, goals, adjacent, neighbourWords, joined, Edges, Endpoints, Counted}
+use Rattle.instance.specs.Instance.{Instance, GoalBelow, goalCount, instance, checked, unchecked, forAgents, vertices, agents, edges, starts, goals, adjacent, neighbourWords, edgesBefore, joined, Edges, Endpoints, Counted}
 use Rattle.instance.specs.Limits.{Limits}
 use Rattle.instance.specs.Ready.{Ready}
 use Rattle.instance.specs.Shows.{Shows}
 use Rattle.instance.specs.Questions.{instanceAnswer, instanceChecked}
 use Rattle.instance.specs.Accepted.{Accepted, instanceOf}
 use Rattle.instance.proofs.Goals.{goal-count-ext}
+use Rattle.instance.proofs.Edges.{edges-counted}
 use Rattle.instance.proofs.Instance.{instance-iff, goals-counted, endpoints, edges-known, length-known, limits, agents-below}
 use Rattle.instance.proofs.Neighbours.{word-below, joined-adjacent}
 
 -- the instance check's answer and checked instance, where the number is 0
-module _ (b : List ℕ) (m : ℕ) (c : Checked) (ec : c ≡ instanceChecked b m) (e : instanceAnswer b m .number ≡ 0) where
-  is-checked : c ≡ checked b m
+module _ (b : List ℕ) (m rule : ℕ) (c : Checked) (ec : c ≡ instanceChecked b m rule) (e : instanceAnswer b m rule .number ≡ 0) where
+  is-checked : c ≡ checked b m rule
   unfolding instanceChecked
-  is-checked = ec ∙ byNumber-accepted (instanceAnswer b m .number) (checked b m) unchecked e
+  is-checked = ec ∙ byNumber-accepted (instanceAnswer b m rule .number) (checked b m rule) unchecked e
 
   pub horizon-of : c .sizes .m ≡ m
   unfolding checked instance
   horizon-of = ap (λ (x : Checked). x .sizes .m) is-checked
 
+  pub rule-of : c .sizes .rule ≡ rule
+  unfolding checked instance
+  rule-of = ap (λ (x : Checked). x .sizes .rule) is-checked
+
   pub accepted : Accepted b c
   accepted =
       record {
-        yes = rw horizon-of (instance-iff b m .0 e);
-        same = is-checked ∙ ap (checked b) (sym horizon-of);
+        yes = rw (horizon-of, rule-of) (instance-iff b m rule .0 e);
+        same = is-checked ∙ ap₂ (checked b) (sym horizon-of) (sym rule-of);
       }
 
 -- k bytes of b in an array for 16 agents
@@ -78,19 +84,19 @@ module _ (b : List ℕ) (c : Checked) (w : Accepted b c) where
   e-same = ap (λ (x : Sizes). x .e) sizes-same
 
   pub limits-known : Limits (c .sizes)
-  limits-known = subst Limits (sym sizes-same) (limits b (c .sizes .m) (w .yes))
+  limits-known = subst Limits (sym sizes-same) (limits b (c .sizes .m) (c .sizes .rule) (w .yes))
 
   pub agents-fit : c .sizes .k ≤ c .sizes .n
-  agents-fit = omega (arith, n-same, k-same, agents-below b (c .sizes .m) (w .yes))
+  agents-fit = omega (arith, n-same, k-same, agents-below b (c .sizes .m) (c .sizes .rule) (w .yes))
 
   pub long : length b ≡ 4 + 2 * c .sizes .e + 2 * c .sizes .k
-  long = omega (arith, length-known b (c .sizes .m) (w .yes), k-same, e-same)
+  long = omega (arith, length-known b (c .sizes .m) (c .sizes .rule) (w .yes), k-same, e-same)
 
   pub graph : Edges I
-  graph = edges-known b (c .sizes .m) (w .yes)
+  graph = edges-known b (c .sizes .m) (c .sizes .rule) (w .yes)
 
   pub endpoints-known : Endpoints I
-  endpoints-known = endpoints b (c .sizes .m) (w .yes)
+  endpoints-known = endpoints b (c .sizes .m) (c .sizes .rule) (w .yes)
 
   few : agents b ≤ 16
   few = omega (arith, k-same, limits-known .k-most)
@@ -100,13 +106,13 @@ module _ (b : List ℕ) (c : Checked) (w : Accepted b c) where
   unfolding checked instance
   start-at a q =
       ap (λ (x : Checked). getD (x .starts) a 0) (w .same)
-      ∙ forAgents-at b (starts b) few (omega (arith, length-known b (c .sizes .m) (w .yes))) a (omega (arith, k-same))
+      ∙ forAgents-at b (starts b) few (omega (arith, length-known b (c .sizes .m) (c .sizes .rule) (w .yes))) a (omega (arith, k-same))
 
   goal-at : (a : ℕ) → a < c .sizes .k → getD (c .goals) a 0 ≡ I .goal a
   unfolding checked instance
   goal-at a q =
       ap (λ (x : Checked). getD (x .goals) a 0) (w .same)
-      ∙ forAgents-at b (goals b) few (omega (arith, length-known b (c .sizes .m) (w .yes))) a (omega (arith, k-same))
+      ∙ forAgents-at b (goals b) few (omega (arith, length-known b (c .sizes .m) (c .sizes .rule) (w .yes))) a (omega (arith, k-same))
 
   starts-inside : (a : ℕ) → a < c .sizes .k → getD (c .starts) a 0 < c .sizes .n
   unfolding instance
@@ -120,7 +126,7 @@ module _ (b : List ℕ) (c : Checked) (w : Accepted b c) where
 
   -- those that have a goal are counted
   pub counted-known : Counted I
-  counted-known = goals-counted b (c .sizes .m)
+  counted-known = goals-counted b (c .sizes .m) (c .sizes .rule)
 
   counted-held : c .sizes .g ≡ goalCount (c .sizes .k) (λ a. getD (c .goals) a 0)
   counted-held =
@@ -138,6 +144,12 @@ module _ (b : List ℕ) (c : Checked) (w : Accepted b c) where
   near-known =
       ap joined near-same ∙ joined-adjacent I graph (subst (λ (s : Sizes). s .n ≤ 64) sizes-same (limits-known .n-most))
 
+  edged-held : c .sizes .e ≡ edgesBefore (joined (c .near)) (c .sizes .n) (c .sizes .n) 0
+  edged-held =
+      ap (λ (s : Sizes). s .e) sizes-same
+      ∙ edges-counted I graph
+      ∙ ap₂ (λ (n : ℕ) (near : ℕ → ℕ → Bool). edgesBefore near n n 0) (ap (λ (s : Sizes). s .n) (sym sizes-same)) (sym near-known)
+
   -- its parts are those of the instance
   pub shown : Shows I (c .sizes) (c .starts) (c .goals) (c .near)
   shown = record { graph = record { sizes = sizes-same; words = near-known }; starts-at = start-at; goals-at = goal-at }
@@ -150,5 +162,6 @@ module _ (b : List ℕ) (c : Checked) (w : Accepted b c) where
         starts-below = starts-inside;
         goals-below = goals-inside;
         counted = counted-held;
+        edged = edged-held;
         words-below = λ v l. rw near-same (subst (λ (s : Sizes). getD (neighbourWords I) v 0 < 2 ^ s .n) (sym sizes-same) (word-below I v));
       }

@@ -1,6 +1,6 @@
--- What every call shares: it asks 1 to 10 by the instance check, which answers a and gives c, and where that accepts, its own
+-- What every call shares: it asks 1 to 10 and 31 by the instance check, which answers a and gives c, and where that accepts, its own
 -- questions qs of the instance that c stands for. An acceptance holds the count, and fills a slice that held s with out.
-use mathlib.Core.Path.{_≡_, sym, _∙_, ap, subst}
+use mathlib.Core.Path.{_≡_, sym, _∙_, ap, ap₂, subst}
 use mathlib.Core.Logic.{_≢_}
 use mathlib.Core.List.{List, _++_}
 use Prim.Native.Nat.{ℕ}
@@ -13,27 +13,29 @@ use Rattle.instance.specs.Instance.{Instance, instance}
 use Rattle.instance.specs.Questions.{instanceQuestions, instanceAnswer, instanceChecked}
 use Rattle.instance.specs.Accepted.{Accepted, instanceOf}
 use Rattle.instance.proofs.Instance.{first-refused, first-passed}
-use Rattle.instance.proofs.Accepted.{accepted, horizon-of}
+use Rattle.instance.proofs.Accepted.{accepted, horizon-of, rule-of}
 
-module _ (b : List ℕ) (m : ℕ) (a : Answer) (c : Checked) (ea : a ≡ instanceAnswer b m) (ec : c ≡ instanceChecked b m) where
+module _ (b : List ℕ) (m rule : ℕ) (a : Answer) (c : Checked) (ea : a ≡ instanceAnswer b m rule) (ec : c ≡ instanceChecked b m rule) where
   -- what the inner functions require
   pub passed : a .number ≡ 0 → Accepted b c
-  passed o = accepted b m c ec (sym (ap (λ (x : Answer). x .number) ea) ∙ o)
+  passed o = accepted b m rule c ec (sym (ap (λ (x : Answer). x .number) ea) ∙ o)
 
-  pub horizon : a .number ≡ 0 → instanceOf b c ≡ instance b m
-  horizon o = ap (instance b) (horizon-of b m c ec (sym (ap (λ (x : Answer). x .number) ea) ∙ o))
+  pub horizon : a .number ≡ 0 → instanceOf b c ≡ instance b m rule
+  horizon o =
+      let e = sym (ap (λ (x : Answer). x .number) ea) ∙ o in
+      ap₂ (instance b) (horizon-of b m rule c ec e) (rule-of b m rule c ec e)
 
   module _ (qs : Instance → List Question) (count : Instance → ℕ) where
     -- the call's answer
     abbrev pub answer : Answer
-    answer = decide (instanceQuestions b m ++ qs (instance b m)) (count (instance b m))
+    answer = decide (instanceQuestions b m rule ++ qs (instance b m rule)) (count (instance b m rule))
 
     pub instance-refuses : a .number ≢ 0 → a ≡ answer
-    instance-refuses d = first-refused b m a ea (qs (instance b m)) (count (instance b m)) d
+    instance-refuses d = first-refused b m rule a ea (qs (instance b m rule)) (count (instance b m rule)) d
 
     pub call-answers : a .number ≡ 0 → (r : Answer) → r ≡ decide (qs (instanceOf b c)) (count (instanceOf b c)) → r ≡ answer
     call-answers o r er =
-        er ∙ ap (λ (I : Instance). decide (qs I) (count I)) (horizon o) ∙ first-passed b m a ea (qs (instance b m)) (count (instance b m)) o
+        er ∙ ap (λ (I : Instance). decide (qs I) (count I)) (horizon o) ∙ first-passed b m rule a ea (qs (instance b m rule)) (count (instance b m rule)) o
 
 -- the lent slice, where the call's answer is known
 module _ {A : Type 0} (whole r : Answer) (e : r ≡ whole) (out s : List A) where

@@ -13,7 +13,7 @@ use lib.Dec.{T}
 use Rattle.lists.specs.Loop.{for, when, sum}
 use Rattle.lists.proofs.Tests.{below-zero, below-suc, and-iff, or-iff, or-imp, not-iff, eqb-iff}
 use Rattle.lists.proofs.Loops.{for-ext}
-use Rattle.lists.proofs.Sums.{ind, ind-yes, ind-no, when-count, count-most, sum-le}
+use Rattle.lists.proofs.Sums.{ind, ind-yes, when-count, count-most, sum-le}
 use Rattle.answers.proofs.Faults.{holds, fails}
 use Rattle.instance.specs.Instance.{noGoal, free, HasGoal, goalCount}
 
@@ -60,7 +60,7 @@ module _ (optional : Bool) (x : ℕ) {r : Bool} (e : r ≡ free x) where
     over-holds t = holds (ap (λ (y : Bool). optional && y || test) e) (not-false _ t)
 
 module _ (goal : ℕ → ℕ) where
-  abbrev has : ℕ → Bool
+  abbrev pub has : ℕ → Bool
   has a = not (free (goal a))
 
   -- what stands once for each of them is as many
@@ -73,13 +73,6 @@ module _ (goal : ℕ → ℕ) where
 
   pub goal-count-most : (k : ℕ) → goalCount k goal ≤ k
   goal-count-most k = rw (goal-count k) (count-most k has)
-
-  -- the next agent
-  pub goal-count-has : (k : ℕ) → HasGoal (goal k) → goalCount (suc k) goal ≡ suc (goalCount k goal)
-  goal-count-has k h = rw (goal-count (suc k), goal-count k) (omega (arith, ind-yes (has k) (not-free (goal k) h)))
-
-  pub goal-count-free : (k : ℕ) → T (free (goal k)) → goalCount (suc k) goal ≡ goalCount k goal
-  goal-count-free k t = rw (goal-count (suc k), goal-count k) (omega (arith, ind-no (has k) (λ f. not-iff (free (goal k)) .0 f t)))
 
   -- its place among those of more agents
   pub goal-count-below : (k a : ℕ) → a < k → HasGoal (goal a) → goalCount a goal < goalCount k goal

@@ -25,35 +25,35 @@ goals-new b =
       (λ h a l g. let (x, y) = h a l g in (x, λ c o e. y c o (λ z. g (sym e ∙ z)) e)),
     )
 
-module _ (b : List ℕ) (m : ℕ) where
-  pub numbered-instance : T (all numbered (instanceQuestions b m))
+module _ (b : List ℕ) (m rule : ℕ) where
+  pub numbered-instance : T (all numbered (instanceQuestions b m rule))
   unfolding instanceQuestions
   numbered-instance =
       simp (and-iff, each-all, ask-all)
-      ((λ f. tt), ((λ f. tt), ((λ f. tt), ((λ f. tt), ((λ f. tt), ((λ j l f. tt), ((λ j l f. tt), ((λ a l f. tt), ((λ a l f. tt), ((λ f. tt), tt))))))))))
+      ((λ f. tt), ((λ f. tt), ((λ f. tt), ((λ f. tt), ((λ f. tt), ((λ j l f. tt), ((λ j l f. tt), ((λ a l f. tt), ((λ a l f. tt), ((λ f. tt), ((λ f. tt), tt)))))))))))
 
-  pub goals-counted : Counted (instance b m)
+  pub goals-counted : Counted (instance b m rule)
   unfolding instance
   goals-counted = refl
 
-  -- questions 1 to 10 are all answered yes exactly where the number is 0
-  pub instance-iff : (instanceAnswer b m .number ≡ 0) ↔ T (all clear (instanceQuestions b m))
+  -- questions 1 to 10 and 31 are all answered yes exactly where the number is 0
+  pub instance-iff : (instanceAnswer b m rule .number ≡ 0) ↔ T (all clear (instanceQuestions b m rule))
   unfolding instanceAnswer
-  instance-iff = decide-iff (instanceQuestions b m) 0 numbered-instance
+  instance-iff = decide-iff (instanceQuestions b m rule) 0 numbered-instance
 
   -- every call asks these first: what they refuse, it refuses, and what they pass goes on to its other questions
-  module _ (a : Answer) (ea : a ≡ instanceAnswer b m) (qs : List Question) (count : ℕ) where
-    pub first-refused : a .number ≢ 0 → a ≡ decide (instanceQuestions b m ++ qs) count
+  module _ (a : Answer) (ea : a ≡ instanceAnswer b m rule) (qs : List Question) (count : ℕ) where
+    pub first-refused : a .number ≢ 0 → a ≡ decide (instanceQuestions b m rule ++ qs) count
     unfolding instanceAnswer
     first-refused d =
-        ea ∙ sym (decide-refused (instanceQuestions b m) qs 0 count (λ e. d (ap (λ (x : Answer). x .number) ea ∙ e)))
+        ea ∙ sym (decide-refused (instanceQuestions b m rule) qs 0 count (λ e. d (ap (λ (x : Answer). x .number) ea ∙ e)))
 
-    pub first-passed : a .number ≡ 0 → decide qs count ≡ decide (instanceQuestions b m ++ qs) count
+    pub first-passed : a .number ≡ 0 → decide qs count ≡ decide (instanceQuestions b m rule ++ qs) count
     first-passed e =
-        sym (decide-after (instanceQuestions b m) qs count (instance-iff .0 (sym (ap (λ (x : Answer). x .number) ea) ∙ e)))
+        sym (decide-after (instanceQuestions b m rule) qs count (instance-iff .0 (sym (ap (λ (x : Answer). x .number) ea) ∙ e)))
 
-  module _ (ok : T (all clear (instanceQuestions b m))) where
-    pub endpoints : Endpoints (instance b m)
+  module _ (ok : T (all clear (instanceQuestions b m rule))) where
+    pub endpoints : Endpoints (instance b m rule)
     unfolding instanceQuestions instance
     endpoints =
         let h = simp (and-iff, or-imp, clear-iff, each-nil, ask-nil, every-iff, not-iff, eqb-iff, ltb-iff) at ok in
@@ -64,7 +64,7 @@ module _ (b : List ℕ) (m : ℕ) where
           goalsInside = λ a l g. h .1 .1 .1 .1 .1 .1 .1 .1 .0 a l g .0;
         }
 
-    pub edges-known : Edges (instance b m)
+    pub edges-known : Edges (instance b m rule)
     unfolding instanceQuestions instance
     edges-known =
         let h = simp (and-iff, clear-iff, each-nil, ask-nil, eqb-iff, ltb-iff) at ok in
@@ -83,7 +83,7 @@ module _ (b : List ℕ) (m : ℕ) where
     unfolding instanceQuestions
     length-known = (simp (and-iff, clear-iff, ask-nil, eqb-iff) at ok) .1 .1 .1 .1 .0
 
-    pub limits : Limits (instance b m .sizes)
+    pub limits : Limits (instance b m rule .sizes)
     unfolding instanceQuestions instance
     limits =
         let h = simp (and-iff, clear-iff, ask-nil, leb-iff) at ok in

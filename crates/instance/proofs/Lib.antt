@@ -1,5 +1,6 @@
 pub mod Goals
 pub mod Graph
+pub mod Edges
 pub mod Neighbours
 pub mod Instance
 pub mod Accepted

@@ -5,8 +5,8 @@ use mathlib.Core.List.{List, [], _∷_}
 use mathlib.Core.Bool.{Bool, not, _&&_, _||_}
 use Prim.Native.Nat.{ℕ, suc, _+_, _*_, _<_}
 use lib.ListN.{length, getD, take, drop, replicate}
-use lib.Dec.{eqb}
-use Rattle.lists.specs.Loop.{for, when, some}
+use lib.Dec.{ltb, eqb}
+use Rattle.lists.specs.Loop.{for, when, some, sum}
 use Rattle.lists.specs.Slice.{filled}
 use Rattle.bits.specs.Bits.{set?, word}
 use Rattle.instance.specs.declared.Sizes.{Sizes}
@@ -27,6 +27,10 @@ HasGoal goal = goal ≢ noGoal
 abbrev pub GoalBelow : ℕ → ℕ → Type 0
 GoalBelow n goal = HasGoal goal → goal < n
 
+-- Under movement rule 2 an agent may follow: it may go to a vertex that another agent leaves in the same step.
+abbrev pub following : Sizes → Bool
+following s = eqb (s .rule) 2
+
 -- the agents that have a goal, of k with these goal bytes, in their order; and how many they are
 abbrev pub withGoal : ℕ → (ℕ → ℕ) → List ℕ
 withGoal k goal = for k λ a. when (not (free (goal a))) (a ∷ [])
@@ -34,8 +38,8 @@ withGoal k goal = for k λ a. when (not (free (goal a))) (a ∷ [])
 unfoldable pub goalCount : ℕ → (ℕ → ℕ) → ℕ
 goalCount k goal = length (withGoal k goal)
 
--- The sizes n, k, e, the horizon m, and the number g of agents that have a goal; the low and the high end of edge j; the start and the
--- goal of agent a.
+-- The sizes n, k, e, the horizon m, the movement rule, and the number g of agents that have a goal; the low and the high end of edge j;
+-- the start and the goal of agent a.
 pub record Instance : Type 0 where
   pub sizes : Sizes
   pub low : ℕ → ℕ
@@ -85,11 +89,11 @@ module _ (b : List ℕ) where
   NewGoals =
       (a : ℕ) → a < agents → HasGoal (goalOf a) → (goalOf a < vertices) × ((c : ℕ) → c < a → HasGoal (goalOf c) → goalOf c ≢ goalOf a)
 
-  -- the instance that the bytes hold, with the horizon m given beside them
-  unfoldable pub instance : ℕ → Instance
-  instance m =
+  -- the instance that the bytes hold, with the horizon m and the movement rule given beside them
+  unfoldable pub instance : ℕ → ℕ → Instance
+  instance m rule =
       record {
-        sizes = record { n = vertices; k = agents; e = edges; m = m; g = goalCount agents goalOf };
+        sizes = record { n = vertices; k = agents; e = edges; m = m; rule = rule; g = goalCount agents goalOf };
         low = lowEnd;
         high = highEnd;
         start = startOf;
@@ -145,6 +149,20 @@ module _ (I : Instance) where
   abbrev pub Counted : Type 0
   Counted = g ≡ goalCount k goal
 
+-- The edges by low end, then high end, where `near` is a test of neighbours.
+module _ (near : ℕ → ℕ → Bool) where
+  -- v is the high end of an edge with the low end u
+  abbrev pub upward : ℕ → ℕ → Bool
+  upward u v = ltb u v && near u v
+
+  -- the high ends below v of the edges with the low end u, rising
+  abbrev pub higher : ℕ → ℕ → List ℕ
+  higher u v = for v λ w. when (upward u w) (w ∷ [])
+
+  -- how many of the edges between n vertices come before the one with the ends u and v
+  unfoldable pub edgesBefore : ℕ → ℕ → ℕ → ℕ
+  edgesBefore n u v = sum u (λ x. length (higher x n)) + length (higher u v)
+
 -- bit w of word v is set
 abbrev pub joined : List ℕ → ℕ → ℕ → Bool
 joined near v w = set? (getD near v 0) w
@@ -155,20 +173,20 @@ module _ (b : List ℕ) where
   forAgents offset = filled (take (agents b) (drop offset b)) (replicate 16 0)
 
   -- the checked instance of accepted bytes
-  unfoldable pub checked : ℕ → Checked
-  checked m =
+  unfoldable pub checked : ℕ → ℕ → Checked
+  checked m rule =
       record {
-        sizes = instance b m .sizes;
+        sizes = instance b m rule .sizes;
         starts = forAgents (starts b);
         goals = forAgents (goals b);
-        near = neighbourWords (instance b m);
+        near = neighbourWords (instance b m rule);
       }
 
 -- what stands in its place at a refusal
 abbrev pub unchecked : Checked
 unchecked =
     record {
-      sizes = record { n = 0; k = 0; e = 0; m = 0; g = 0 };
+      sizes = record { n = 0; k = 0; e = 0; m = 0; rule = 0; g = 0 };
       starts = replicate 16 0;
       goals = replicate 16 0;
       near = replicate 64 0;

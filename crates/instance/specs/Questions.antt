@@ -1,5 +1,5 @@
--- The questions asked of the instance bytes, 1 to 9, and of the horizon, 10: under each number, what is asked and the place that a
--- no names. Every call asks them first.
+-- The questions asked of the instance bytes, 1 to 9, of the horizon, 10, and of the movement rule, 31: under each number, what is asked
+-- and the place that a no names. Every call asks them first.
 use mathlib.Core.List.{List, [], _∷_, _++_}
 use mathlib.Core.Bool.{Bool, _&&_, _||_}
 use Prim.Native.Nat.{ℕ, suc, _+_, _*_, _-_}
@@ -70,6 +70,10 @@ module _ (b : List ℕ) where
 abbrev pub question10 : ℕ → Question
 question10 m = ask (leb m 32) (refuse 10 0)
 
+-- Is the rule 1 or 2?
+abbrev pub question31 : ℕ → Question
+question31 rule = ask (eqb rule 1 || eqb rule 2) (refuse 31 0)
+
 -- of the bytes alone: 1 to 9
 abbrev pub bytesQuestions : List ℕ → List Question
 bytesQuestions b =
@@ -84,14 +88,14 @@ bytesQuestions b =
     ∷ question9 b
     ∷ []
 
-module _ (b : List ℕ) (m : ℕ) where
-  -- of the bytes and the horizon: 1 to 10
+module _ (b : List ℕ) (m rule : ℕ) where
+  -- of the bytes, the horizon and the rule: 1 to 10, 31
   unfoldable pub instanceQuestions : List Question
-  instanceQuestions = bytesQuestions b ++ question10 m ∷ []
+  instanceQuestions = bytesQuestions b ++ question10 m ∷ question31 rule ∷ []
 
   unfoldable pub instanceAnswer : Answer
   instanceAnswer = decide instanceQuestions 0
 
   -- the checked instance, of zeros where it is refused
   unfoldable pub instanceChecked : Checked
-  instanceChecked = byNumber (instanceAnswer .number) (checked b m) unchecked
+  instanceChecked = byNumber (instanceAnswer .number) (checked b m rule) unchecked

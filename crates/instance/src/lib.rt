@@ -1,11 +1,12 @@
 // The instance as it travels after the check.
 
-// Vertices, agents, edges, the horizon that was given beside the instance, and how many agents have a goal.
+// Vertices, agents, edges, the horizon and the movement rule that were given beside the instance, and how many agents have a goal.
 pub struct Sizes {
     pub n: usize,
     pub k: usize,
     pub e: usize,
     pub m: usize,
+    pub rule: usize,
     pub g: usize,
 }
 

@@ -78,14 +78,14 @@ some-split : (n m : ℕ) (p : ℕ → Bool) → some (n + m) p ≡ some n p || s
 some-split n zero p = rw (add-zero, or-false)
 some-split n (suc m) p = rw (add-suc, some-split n m p) (or-assoc (some n p) (some m (λ i. p (n + i))) (p (n + m)))
 
-module _ (b : List ℕ) (g : Edges (instance b 0)) where
+module _ (b : List ℕ) (g : Edges (instance b 0 1)) where
   pub ends-in : (j : ℕ) → j < edges b → (lowEnd b j < highEnd b j) × (highEnd b j < vertices b)
   unfolding instance
   ends-in = g .ends
 
   later : (i j : ℕ) → i < j → j < edges b → (lowEnd b i < lowEnd b j) ⊎ ((lowEnd b i ≡ lowEnd b j) × (highEnd b i < highEnd b j))
   unfolding instance
-  later i j = rising (instance b 0) g i j
+  later i j = rising (instance b 0 1) g i j
 
   -- between two edges with one low end, all have it
   same-low : (i d c : ℕ) → d ≤ c → i + c < edges b → lowEnd b i ≡ lowEnd b (i + c) → lowEnd b (i + d) ≡ lowEnd b i
@@ -125,7 +125,7 @@ module _ (b : List ℕ) (g : Edges (instance b 0)) where
         let z = ends-in (from + (d - 1)) (omega arith) .1 in
         omega (arith, ap (highEnd b) q)
 
-    fan-iff : (v u : ℕ) → T (some d λ i. joins (instance b 0) v u (from + i)) ↔ T (fan (lowEnd b from) (highEnd b from) (vertices b) v u)
+    fan-iff : (v u : ℕ) → T (some d λ i. joins (instance b 0 1) v u (from + i)) ↔ T (fan (lowEnd b from) (highEnd b from) (vertices b) v u)
     unfolding instance
     fan-iff v u = (
       (λ h.
@@ -164,5 +164,5 @@ module _ (b : List ℕ) (g : Edges (instance b 0)) where
           bits = λ v u l.
               f v u l
               ∙ ap₂ _||_ (w .bits v u l) (sym (T-ext _ _ (fan-iff v u)))
-              ∙ sym (some-split from d (joins (instance b 0) v u));
+              ∙ sym (some-split from d (joins (instance b 0 1) v u));
         }

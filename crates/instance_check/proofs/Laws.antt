@@ -26,7 +26,7 @@ use Rattle.instance.specs.Instance.{noGoal, free, goalCount, vertices, agents, 
 use Rattle.instance.proofs.Goals.{goal-count-ext}
 use Rattle.instance.proofs.Instance.{instance-iff, edges-known, length-known, limits}
 use Rattle.instance.proofs.Accepted.{forAgents-at}
-use Rattle.instance.specs.Questions.{question2, question3, question4, question5, question6, question7, question8, question9, question10, properEdge, laterEdge, newVertex, instanceQuestions, instanceAnswer, instanceChecked}
+use Rattle.instance.specs.Questions.{question2, question3, question4, question5, question6, question7, question8, question9, question10, question31, properEdge, laterEdge, newVertex, instanceQuestions, instanceAnswer, instanceChecked}
 use Rattle.instance_check.specs.declared.Inspection.{Inspection}
 use Rattle.instance_check.specs.Read.{Read}
 
@@ -65,7 +65,7 @@ module _ (f : ℕ → ℕ) (a x : ℕ) (seen : List Bool) (e : x ≡ f a) (h : S
       (λ l. rw (e, h (f a) (omega arith)))
       (λ l. rw (e, le-ltb (f a) (vertices b) (omega arith)))
 
--- ---- questions 6 to 10
+-- ---- questions 6 to 10 and 31
 -- an edge that fails fails the order, where all are proper
 pub order-fails : {n l : ℕ} {p q : ℕ → Bool} {j i : ℕ} → every n p && every l q ≡ false → FirstFault n p j → n ≤ j → FirstFault l q i → i < l
 order-fails {n} {l} {p} {q} {j} {i} e f past g =
@@ -92,33 +92,37 @@ module _ (b : List ℕ) (optional : Bool) (number : ℕ) (qs : List Question) {o
   pub vertices-pass : agents b ≤ r → decide qs 0 ≡ decide (vertexQuestion from ∷ qs) 0
   vertices-pass l = sym (fault-pass f _ _ _ l) ∙ ap (λ x. decide (vertexQuestion x ∷ qs) 0) e
 
-pub horizon-no : (m : ℕ) → 32 < m → refuse 10 0 ≡ decide (question10 m ∷ []) 0
+pub horizon-no : (m : ℕ) (qs : List Question) → 32 < m → refuse 10 0 ≡ decide (question10 m ∷ qs) 0
 unfolding decide ask
-horizon-no m l = rw (lt-leb m 32 l)
+horizon-no m qs l = rw (lt-leb m 32 l)
 
-pub horizon-yes : (m : ℕ) → m ≤ 32 → accept 0 ≡ decide (question10 m ∷ []) 0
+pub rule-no : (m rule : ℕ) → m ≤ 32 → eqb rule 1 || eqb rule 2 ≡ false → refuse 31 0 ≡ decide (question10 m ∷ question31 rule ∷ []) 0
 unfolding decide ask
-horizon-yes m l = rw (le-leb m 32 l)
+rule-no m rule l e = rw (le-leb m 32 l, e)
+
+pub rule-yes : (m rule : ℕ) → m ≤ 32 → eqb rule 1 || eqb rule 2 ≡ true → accept 0 ≡ decide (question10 m ∷ question31 rule ∷ []) 0
+unfolding decide ask
+rule-yes m rule l e = rw (le-leb m 32 l, e)
 
 -- ---- question 1, then 2 to 5, then the rest
-module _ (b : List ℕ) (m : ℕ) where
+module _ (b : List ℕ) (m rule : ℕ) where
   abbrev sizeQuestions : List Question
   sizeQuestions = question2 b ∷ question3 b ∷ question4 b ∷ question5 b ∷ []
 
   abbrev itemQuestions : List Question
-  itemQuestions = question6 b ∷ question7 b ∷ question8 b ∷ question9 b ∷ question10 m ∷ []
+  itemQuestions = question6 b ∷ question7 b ∷ question8 b ∷ question9 b ∷ question10 m ∷ question31 rule ∷ []
 
-  pub short : length b < 4 → refuse 1 (length b) ≡ instanceAnswer b m
+  pub short : length b < 4 → refuse 1 (length b) ≡ instanceAnswer b m rule
   unfolding instanceAnswer instanceQuestions decide ask
   short l = rw (lt-leb 4 (length b) l)
 
   module _ (long : 4 ≤ length b) where
-    from-sizes : decide (sizeQuestions ++ itemQuestions) 0 ≡ instanceAnswer b m
+    from-sizes : decide (sizeQuestions ++ itemQuestions) 0 ≡ instanceAnswer b m rule
     unfolding instanceAnswer instanceQuestions decide ask
     from-sizes = rw (le-leb 4 (length b) long)
 
     module _ (r : Answer) (er : r ≡ decide sizeQuestions 0) where
-      pub sizes-refused : r .number ≢ 0 → r ≡ instanceAnswer b m
+      pub sizes-refused : r .number ≢ 0 → r ≡ instanceAnswer b m rule
       sizes-refused d = er ∙ sym (decide-front sizeQuestions itemQuestions 0 (λ e. d (ap (λ (a : Answer). a .number) er ∙ e))) ∙ from-sizes
 
       module _ (e : r .number ≡ 0) where
@@ -127,7 +131,7 @@ module _ (b : List ℕ) (m : ℕ) where
             decide-iff sizeQuestions 0 (simp (and-iff, ask-all) ((λ f. tt), ((λ f. tt), ((λ f. tt), ((λ f. tt), tt))))) .0
             (sym (ap (λ (a : Answer). a .number) er) ∙ e)
 
-        pub sizes-passed : decide itemQuestions 0 ≡ instanceAnswer b m
+        pub sizes-passed : decide itemQuestions 0 ≡ instanceAnswer b m rule
         sizes-passed = sym (decide-after sizeQuestions itemQuestions 0 sizes-clear) ∙ from-sizes
 
         pub sizes-known : (vertices b ≤ 64) × ((agents b ≤ 16) × (length b ≡ 4 + 2 * edges b + 2 * agents b))
@@ -138,44 +142,44 @@ module _ (b : List ℕ) (m : ℕ) where
   -- ---- the checked instance beside the answer
   -- the sizes read, with the number of agents that have a goal
   abbrev completed : Sizes → ℕ → Sizes
-  completed s g = record { n = s .n; k = s .k; e = s .e; m = m; g = g }
+  completed s g = record { n = s .n; k = s .k; e = s .e; m = m; rule = rule; g = g }
 
-  fields : (s : Sizes) (g : ℕ) → Read b s → g ≡ goalCount (agents b) (goalOf b) → completed s g ≡ instance b m .sizes
+  fields : (s : Sizes) (g : ℕ) → Read b s → g ≡ goalCount (agents b) (goalOf b) → completed s g ≡ instance b m rule .sizes
   unfolding instance
   fields s g w eg = rw (w .n-same, w .k-same, w .e-same, eg)
 
-  module _ (r : Answer) (er : r ≡ instanceAnswer b m) where
+  module _ (r : Answer) (er : r ≡ instanceAnswer b m rule) where
     pub is-refused : r .number ≢ 0 → (i : Inspection) → (i .answer ≡ r) × (i .checked ≡ unchecked)
-        → (i .answer ≡ instanceAnswer b m) × (i .checked ≡ instanceChecked b m)
+        → (i .answer ≡ instanceAnswer b m rule) × (i .checked ≡ instanceChecked b m rule)
     unfolding instanceChecked
     is-refused d i h = (
       h .0 ∙ er,
-      h .1 ∙ sym (byNumber-refused (instanceAnswer b m .number) (checked b m) unchecked (λ e. d (ap (λ (a : Answer). a .number) er ∙ e))),
+      h .1 ∙ sym (byNumber-refused (instanceAnswer b m rule .number) (checked b m rule) unchecked (λ e. d (ap (λ (a : Answer). a .number) er ∙ e))),
     )
 
-    pub is-checked : r .number ≡ 0 → checked b m ≡ instanceChecked b m
+    pub is-checked : r .number ≡ 0 → checked b m rule ≡ instanceChecked b m rule
     unfolding instanceChecked
     is-checked e =
-        sym (byNumber-accepted (instanceAnswer b m .number) (checked b m) unchecked (sym (ap (λ (a : Answer). a .number) er) ∙ e))
+        sym (byNumber-accepted (instanceAnswer b m rule .number) (checked b m rule) unchecked (sym (ap (λ (a : Answer). a .number) er) ∙ e))
 
     -- the record that the code makes of sizes read from the bytes
     pub made : (s : Sizes) → Read b s → (g : ℕ) (first second near : List ℕ)
         → first ≡ filled (take (s .k) (drop (4 + 2 * s .e) b)) (replicate 16 0)
         → second ≡ filled (take (s .k) (drop (4 + 2 * s .e + s .k) b)) (replicate 16 0)
-        → near ≡ neighbourWords (instance b m)
+        → near ≡ neighbourWords (instance b m rule)
         → g ≡ goalCount (s .k) (λ a. getD second a 0)
-        → r .number ≡ 0 → _≡_ {A = Checked} (record { sizes = completed s g; starts = first; goals = second; near = near }) (instanceChecked b m)
+        → r .number ≡ 0 → _≡_ {A = Checked} (record { sizes = completed s g; starts = first; goals = second; near = near }) (instanceChecked b m rule)
     unfolding instance checked forAgents
     made s w g first second near e₁ e₂ e₃ e₄ e =
-        let ok = instance-iff b m .0 (sym (ap (λ (a : Answer). a .number) er) ∙ e) in
-        let held : (a : ℕ) → a < agents b → getD (forAgents b (goals b)) a 0 ≡ goalOf b a = forAgents-at b (goals b) (limits b m ok .k-most) (omega (arith, length-known b m ok)) in
+        let ok = instance-iff b m rule .0 (sym (ap (λ (a : Answer). a .number) er) ∙ e) in
+        let held : (a : ℕ) → a < agents b → getD (forAgents b (goals b)) a 0 ≡ goalOf b a = forAgents-at b (goals b) (limits b m rule ok .k-most) (omega (arith, length-known b m rule ok)) in
         let e₅ : g ≡ goalCount (agents b) (goalOf b) = rw (e₄, e₂, w .k-same, w .e-same) (goal-count-ext (agents b) _ (goalOf b) held) in
-        let same : completed s g ≡ instance b m .sizes = fields s g w e₅ in
+        let same : completed s g ≡ instance b m rule .sizes = fields s g w e₅ in
         rw (same, e₁, e₂, e₃, w .k-same, w .e-same) (is-checked e)
 
     -- what is known of the edges where all is accepted
-    pub edges-checked : r .number ≡ 0 → Edges (instance b 0)
+    pub edges-checked : r .number ≡ 0 → Edges (instance b 0 1)
     unfolding instance
     edges-checked e =
-        let g = edges-known b m (instance-iff b m .0 (sym (ap (λ (a : Answer). a .number) er) ∙ e)) in
+        let g = edges-known b m rule (instance-iff b m rule .0 (sym (ap (λ (a : Answer). a .number) er) ∙ e)) in
         record { ends = g .ends; order = g .order }

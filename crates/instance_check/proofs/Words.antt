@@ -92,7 +92,7 @@ module _ (b : List ℕ) where
             (ap (λ (r : ℕ). set? r u) (kept near row x y v (omega arith) h o n)
             ∙ mark-both (set near x row) x y v u (omega arith) h (simp length-set n)
             ∙ ap₂ (λ (old : Bool) (z : ℕ). old || (eqb z v && eqb y u || eqb z u && eqb y v)) (w .bits v u l) ex
-            ∙ ap (λ (z : ℕ). some j (joins (instance b 0) v u) || (eqb (lowEnd b j) v && eqb z u || eqb (lowEnd b j) u && eqb z v)) ey);
+            ∙ ap (λ (z : ℕ). some j (joins (instance b 0 1) v u) || (eqb (lowEnd b j) v && eqb z u || eqb (lowEnd b j) u && eqb z v)) ey);
       }
 
   pub marked-none : Marked b 0 (replicate 64 0)
@@ -102,17 +102,17 @@ module _ (b : List ℕ) where
         bits = λ v w l. ap (λ (x : ℕ). set? x w) (getD-replicate {A = ℕ} 64 v 0 0 l) ∙ ap (λ (x : ℕ). eqb x 1) (bit-zero w);
       }
 
-  module _ (h : vertices b ≤ 64) (g : Edges (instance b 0)) where
+  module _ (h : vertices b ≤ 64) (g : Edges (instance b 0 1)) where
     pub ends-known : Ends b
     unfolding instance
     ends-known j l = let (o, p) = g .ends j l in (o, omega arith)
 
     -- the words with all edges marked are those of the neighbours
-    pub marked-all : (j : ℕ) → j ≡ edges b → (near : List ℕ) → Marked b j near → (m : ℕ) → near ≡ neighbourWords (instance b m)
+    pub marked-all : (j : ℕ) → j ≡ edges b → (near : List ℕ) → Marked b j near → (m rule : ℕ) → near ≡ neighbourWords (instance b m rule)
     unfolding instance neighbourWords adjacent
-    marked-all j e near w m =
-        ext-getD 0 near (neighbourWords (instance b 0)) (w .long ∙ sym (words-length (instance b 0))) (λ v l.
+    marked-all j e near w m rule =
+        ext-getD 0 near (neighbourWords (instance b 0 1)) (w .long ∙ sym (words-length (instance b 0 1))) (λ v l.
         same-set _ _ (λ u.
         w .bits v u (omega (arith, w .long))
-        ∙ ap (λ (x : ℕ). some x (joins (instance b 0) v u)) e
-        ∙ sym (joined-at (instance b 0) g h v u)))
+        ∙ ap (λ (x : ℕ). some x (joins (instance b 0 1) v u)) e
+        ∙ sym (joined-at (instance b 0 1) g h v u)))

@@ -16,7 +16,7 @@ module _ (b : List ℕ) where
   -- bit w of word v is set exactly where one of the first j edges has the ends v and w
   pub record Marked (j : ℕ) (near : List ℕ) : Type 0 where
     pub long : length near ≡ 64
-    pub bits : (v w : ℕ) → v < 64 → joined near v w ≡ some j (joins (instance b 0) v w)
+    pub bits : (v w : ℕ) → v < 64 → joined near v w ≡ some j (joins (instance b 0 1) v w)
 
 -- an edge from `low` to each vertex from `high` on, up to and without n, has the ends v and w
 abbrev pub fan : ℕ → ℕ → ℕ → ℕ → ℕ → Bool

@@ -1,4 +1,4 @@
-// The instance check: questions 1 to 10, of any bytes and any number given as horizon.
+// The instance check: questions 1 to 10 and 31, of any bytes and any numbers given as horizon and rule.
 use answers::Answer;
 use instance::Checked;
 use instance::Sizes;
@@ -12,7 +12,7 @@ ghost use Rattle.lists.specs.Slice.{filled};
 ghost use Rattle.answers.specs.Answers.{Question, refuse, decide};
 ghost use Rattle.answers.specs.Fault.{FirstFault};
 ghost use Rattle.instance.specs.Instance.{free, instance, vertices, agents, edges, neighbourWords, joined, unchecked, Edges};
-ghost use Rattle.instance.specs.Questions.{question2, question3, question4, question5, question6, question7, question8, question9, question10, properEdge, laterEdge, newVertex, instanceAnswer, instanceChecked};
+ghost use Rattle.instance.specs.Questions.{question2, question3, question4, question5, question6, question7, question8, question9, question10, question31, properEdge, laterEdge, newVertex, instanceAnswer, instanceChecked};
 ghost use Rattle.instance_check.specs.Read.{Read};
 ghost use Rattle.instance_check.specs.Marked.{Ends, Marked, fan};
 
@@ -33,14 +33,21 @@ fn refuse(number: u32, place: usize) -> Answer
 }
 
 // The sizes, where there are bytes for them: n, k, and e in two bytes, low byte first. No goal is looked at yet.
-fn sizes_of(b: &[u8], m: usize) -> Sizes
+fn sizes_of(b: &[u8], m: usize, rule: usize) -> Sizes
     requires { ⌜ 4 ≤ length (now b) ⌝ }
-    ensures { λ r. ⌜ Read (now (b .entry)) r × (r .m ≡ m) ⌝ }
+    ensures { λ r. ⌜ Read (now (b .entry)) r × (r .m ≡ m) × (r .rule ≡ rule) ⌝ }
 {
     let n = numbers::wide(b[0]);
     let k = numbers::wide(b[1]);
     let e = numbers::wide(b[2]) + 256 * numbers::wide(b[3]);
-    Sizes { n, k, e, m, g: 0 }
+    Sizes {
+        n,
+        k,
+        e,
+        m,
+        rule,
+        g: 0,
+    }
 }
 
 // Questions 2 to 5: the sizes and the length.
@@ -180,10 +187,10 @@ fn vertex_fault(b: &[u8], offset: usize, k: usize, optional: bool) -> usize
     k
 }
 
-// Questions 6 to 10, where the length is right.
+// Questions 6 to 10 and 31, where the length is right.
 fn ask_items(b: &[u8], s: Sizes) -> Answer
     requires { ⌜ Read (now b) s × (length (now b) ≡ 4 + 2 * s .e + 2 * s .k) × (s .n ≤ 64) ⌝ }
-    ensures { λ r. ⌜ r ≡ decide (question6 (now (b .entry)) ∷ question7 (now (b .entry)) ∷ question8 (now (b .entry)) ∷ question9 (now (b .entry)) ∷ question10 (s .m) ∷ []) 0 ⌝ }
+    ensures { λ r. ⌜ r ≡ decide (question6 (now (b .entry)) ∷ question7 (now (b .entry)) ∷ question8 (now (b .entry)) ∷ question9 (now (b .entry)) ∷ question10 (s .m) ∷ question31 (s .rule) ∷ []) 0 ⌝ }
 {
     let k = s.k;
     let e = s.e;
@@ -202,6 +209,9 @@ fn ask_items(b: &[u8], s: Sizes) -> Answer
     }
     if 32 < s.m {
         return refuse(10, 0);
+    }
+    if !((s.rule == 1) | (s.rule == 2)) {
+        return refuse(31, 0);
     }
     Answer {
         number: 0,
@@ -259,7 +269,7 @@ fn mark_run(near: &mut [u64], b: &[u8], e: usize, from: usize) -> usize
 // high end on has its low end too, they go to each of those vertices. Else those with its low end are marked one by one.
 fn mark_edges(near: &mut [u64], b: &[u8], n: usize, e: usize, from: usize) -> usize
     requires { ⌜ (from < e) × (e ≡ edges (now b)) × (4 + e + e ≤ length (now b)) × (n ≡ vertices (now b)) × (n ≤ 64) ⌝ }
-    requires { ⌜ Edges (instance (now b) 0) × Marked (now b) from (now near) ⌝ }
+    requires { ⌜ Edges (instance (now b) 0 1) × Marked (now b) from (now near) ⌝ }
     ensures { λ r. ⌜ (from < r) × (r ≤ e) × Marked (now (b .entry)) r (now (near .exit)) ⌝ }
 {
     let low = numbers::wide(b[4 + from]);
@@ -277,8 +287,8 @@ fn mark_edges(near: &mut [u64], b: &[u8], n: usize, e: usize, from: usize) -> us
 // The neighbours of every vertex, as words, in one pass over the edges.
 fn neighbour_words(b: &[u8], n: usize, e: usize) -> [u64; 64]
     requires { ⌜ (e ≡ edges (now b)) × (4 + e + e ≤ length (now b)) × (n ≡ vertices (now b)) × (n ≤ 64) ⌝ }
-    requires { ⌜ Edges (instance (now b) 0) ⌝ }
-    ensures { λ r. ⌜ ((m : ℕ) → r ≡ neighbourWords (instance (now (b .entry)) m)) ⌝ }
+    requires { ⌜ Edges (instance (now b) 0 1) ⌝ }
+    ensures { λ r. ⌜ ((m rule : ℕ) → r ≡ neighbourWords (instance (now (b .entry)) m rule)) ⌝ }
 {
     let mut near = [0u64; 64];
     let mut j: usize = 0;
@@ -302,6 +312,7 @@ fn refused(answer: Answer) -> Inspection
                 k: 0,
                 e: 0,
                 m: 0,
+                rule: 0,
                 g: 0,
             },
             starts: none,
@@ -311,15 +322,15 @@ fn refused(answer: Answer) -> Inspection
     }
 }
 
-// The check, for every byte string and every number.
-pub fn check_instance(b: &[u8], m: usize) -> Inspection
-    ensures { λ r. ⌜ (r .answer ≡ instanceAnswer (now (b .entry)) m) × (r .checked ≡ instanceChecked (now (b .entry)) m) ⌝ }
+// The check, for every byte string and every two numbers.
+pub fn check_instance(b: &[u8], m: usize, rule: usize) -> Inspection
+    ensures { λ r. ⌜ (r .answer ≡ instanceAnswer (now (b .entry)) m rule) × (r .checked ≡ instanceChecked (now (b .entry)) m rule) ⌝ }
 {
     let len = b.len();
     if len < 4 {
         return refused(refuse(1, len));
     }
-    let sizes = sizes_of(b, m);
+    let sizes = sizes_of(b, m, rule);
     let first = ask_sizes(b, sizes);
     if first.number != 0 {
         return refused(first);
@@ -342,6 +353,7 @@ pub fn check_instance(b: &[u8], m: usize) -> Inspection
                 k,
                 e: sizes.e,
                 m,
+                rule,
                 g,
             },
             starts,

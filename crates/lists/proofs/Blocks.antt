@@ -51,10 +51,10 @@ module _ {A : Type 0} where
       nested-getD a b c (λ i j. for c λ l. f i j l ∷ []) d (λ i j. for1-length c (f i j)) i j l p q r ∙ for1-getD c (f i j) d l r
 
 -- ---- two loops as one: block i of n times c is block i % c of row i / c
-quotient : (n c j : ℕ) → j < c → (n * c + j) / c ≡ n
+pub quotient : (n c j : ℕ) → j < c → (n * c + j) / c ≡ n
 quotient n c j l = mul-add-div-right (omega arith) n j ∙ ap (λ (x : ℕ). n + x) (div-eq-of-lt l) ∙ add-zero n
 
-remainder : (n c j : ℕ) → j < c → (n * c + j) % c ≡ j
+pub remainder : (n c j : ℕ) → j < c → (n * c + j) % c ≡ j
 remainder n c j l = mul-add-mod-self-right n c j ∙ mod-eq-of-lt l
 
 -- one place, one block and one element

@@ -5,3 +5,5 @@ pub mod Blocks
 pub mod Sums
 pub mod Pairs
 pub mod Slices
+pub mod Rising
+pub mod Passing

@@ -92,6 +92,12 @@ module _ {A : Type 0} where
     (λ h. or-imp (p x) _ .1 (λ f. any-one p y .1 (h f))),
   )
 
+  pub any-four : (p : A → Bool) (w x y z : A) → T (any p (w ∷ x ∷ y ∷ z ∷ [])) ↔ ((T (p w) → ⊥) → (T (p x) → ⊥) → (T (p y) → ⊥) → T (p z))
+  any-four p w x y z = (
+    (λ h f g. any-two p y z .0 (or-imp (p x) _ .0 (or-imp (p w) _ .0 h f) g)),
+    (λ h. or-imp (p w) _ .1 (λ f. or-imp (p x) _ .1 (λ g. any-two p y z .1 (h f g)))),
+  )
+
   pub any-getD : (d : A) (p : A → Bool) (l : List A) → T (any p l) ↔ ((i : ℕ) × (i < length l) × T (p (getD l i d)))
   any-getD d p [] = ((λ h. absurd h), (λ h. absurd (not-suc-le-zero (h .1))))
   any-getD d p (x ∷ l) = (

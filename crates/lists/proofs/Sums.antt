@@ -4,8 +4,8 @@ use mathlib.Core.Logic.{_↔_, ⊎-elim, by-cases}
 use mathlib.Core.List.{List, [], _∷_}
 use mathlib.Core.Bool.{Bool, true, false, not, _&&_, _||_}
 use Prim.Native.Nat.{ℕ, zero, suc, _+_, _*_, _-_, _≤_, _<_, max}
-use native.Mathlib.Nat.{suc-mul, zero-mul, mul-zero, add-mul, le-refl, not-suc-le-zero, eq-or-lt-of-le, le-of-suc-le-suc, add-zero}
-use native.Mathlib.Decide.{decLe}
+use native.Mathlib.Nat.{suc-mul, zero-mul, mul-zero, one-mul, add-mul, le-refl, not-suc-le-zero, eq-or-lt-of-le, le-of-suc-le-suc, add-zero}
+use native.Mathlib.Decide.{decLe, decLt}
 use native.Mathlib.Omega.{arith}
 use borrow.Author.Tests.{eq-eqb, ne-eqb}
 use lib.ListN.{length, getD, length-append, List·getD-append}
@@ -197,7 +197,7 @@ some-count (suc n) p h =
 
 module _ {L : Type 0} where
   -- the agents other than a, in order: those below a keep their places, those above move up by one
-  pub others-below : (k c a b i : ℕ) (f : ℕ → List L) (d : L) → a < k → b < a → i < c → ((b : ℕ) → b < k → length (f b) ≡ c)
+  others-below : (k c a b i : ℕ) (f : ℕ → List L) (d : L) → a < k → b < a → i < c → ((b : ℕ) → b < k → length (f b) ≡ c)
       → getD (for k λ b. when (not (eqb a b)) (f b)) (b * c + i) d ≡ getD (f b) i d
   others-below k c a b i f d l r s h =
       let len : length (for a f) ≡ a * c = for-length a c f (λ j q. h j (omega arith)) in
@@ -205,7 +205,7 @@ module _ {L : Type 0} where
       ∙ List·getD-append (for a f) _ d (b * c + i) (omega (arith, len, place-lt a c b i r s))
       ∙ for-getD a c f d (λ j q. h j (omega arith)) b i r s
 
-  pub others-above : (k c a j i : ℕ) (f : ℕ → List L) (d : L) → a < k → suc a + j < k → i < c → ((b : ℕ) → b < k → length (f b) ≡ c)
+  others-above : (k c a j i : ℕ) (f : ℕ → List L) (d : L) → a < k → suc a + j < k → i < c → ((b : ℕ) → b < k → length (f b) ≡ c)
       → getD (for k λ b. when (not (eqb a b)) (f b)) ((a + j) * c + i) d ≡ getD (f (suc a + j)) i d
   others-above k c a j i f d l r s h =
       let g : ℕ → List L = λ j. f (suc a + j) in
@@ -215,3 +215,30 @@ module _ {L : Type 0} where
       ap₂ (λ x y. getD x y d) (for-others a k l f) e
       ∙ getD-append-add (for a f) (for (k - suc a) g) (j * c + i) d
       ∙ for-getD (k - suc a) c g d (λ j q. h (suc a + j) (omega arith)) j i b s
+
+  -- b is at place o among them
+  pub others-at : (k c a : ℕ) (f : ℕ → List L) (d : L) → a < k → ((b : ℕ) → b < k → length (f b) ≡ c)
+      → (o b i : ℕ) → o < k - 1 → i < c → (o < a → b ≡ o) → (a ≤ o → b ≡ suc o)
+      → getD (for k λ b. when (not (eqb a b)) (f b)) (o * c + i) d ≡ getD (f b) i d
+  others-at k c a f d l h o b i r s low high =
+      by-cases (decLt o a)
+      (λ q. rw (low q) (others-below k c a o i f d l q s h))
+      (λ q.
+      let e : a + (o - a) ≡ o = omega arith in
+      let z : b ≡ suc a + (o - a) = omega (arith, high (omega arith)) in
+      rw z
+      (ap (λ (x : ℕ). getD (for k λ b. when (not (eqb a b)) (f b)) (x * c + i) d) (sym e)
+      ∙ others-above k c a (o - a) i f d l (omega arith) s h))
+
+-- blocks of c elements where a test holds
+pub when-length : {L : Type 0} (n c : ℕ) (p : ℕ → Bool) (f : ℕ → List L) → ((i : ℕ) → length (f i) ≡ c)
+    → length (for n λ i. when (p i) (f i)) ≡ length (for n λ i. when (p i) (i ∷ [])) * c
+when-length {L} n c p f h =
+    for-sum n _
+    ∙ sum-ext n _ (λ i. ind (p i) * c) (λ i l. go (p i) (f i) (h i))
+    ∙ sum-mul n (λ i. ind (p i)) c
+    ∙ ap (λ (x : ℕ). x * c) (sym (when-count n p (λ i. i)))
+  where
+    go : (b : Bool) (l : List L) → length l ≡ c → length (when b l) ≡ ind b * c
+    go true l e = e ∙ sym (one-mul c)
+    go false l e = sym (zero-mul c)

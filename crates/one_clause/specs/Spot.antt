@@ -12,7 +12,7 @@ use Rattle.instance.specs.Instance.{HasGoal, goalCount}
 use Rattle.formula.specs.Formula.{Clause, line}
 use Rattle.formula.specs.Counts.{clausesBy}
 
--- How many clauses a family has, by its number, A 0 to G 6, and how many slots each of its blocks has (below).
+-- How many clauses a family has, by its number, A 0 to G 6, and how many slots each of its blocks has (below), in G under rule 1.
 module _ (s : Sizes) where
   open Sizes s using (n, k)
 

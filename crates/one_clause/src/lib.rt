@@ -1,21 +1,23 @@
 // One clause of the formula, asked by number.
 use answers::Answer;
+use edges::Edge;
 use instance::Sizes;
 use variables::Agent;
 use variables::Step;
 use variables::Vertex;
 ghost use mathlib.Core.Path.{_≡_};
 ghost use mathlib.Core.List.{[], _∷_};
-ghost use Prim.Native.Nat.{suc, _*_, _-_, _≤_, _<_};
+ghost use mathlib.Core.Logic.{_≢_};
+ghost use Prim.Native.Nat.{ℕ, suc, _*_, _-_, _^_, _≤_, _<_};
 ghost use lib.ListN.{length, getD, take};
 ghost use Rattle.lists.specs.Loop.{for, sum, pairs};
 ghost use Rattle.lists.specs.Slice.{filled, Wrote};
-ghost use Rattle.instance.specs.Instance.{HasGoal, goalCount};
+ghost use Rattle.instance.specs.Instance.{HasGoal, goalCount, joined, edgesBefore};
 ghost use Rattle.instance.specs.Limits.{Limits};
 ghost use Rattle.instance.specs.Ready.{Ready};
 ghost use Rattle.formula.specs.Variables.{X};
-ghost use Rattle.formula.specs.Formula.{line, blockD, blockE, blockG};
-ghost use Rattle.formula.specs.Blocks.{times, blocksAt, heldIn, block, family};
+ghost use Rattle.formula.specs.Formula.{line, blockD, blockE, noFollowing, exchange};
+ghost use Rattle.formula.specs.Blocks.{times, blocksAt, byBlocks, heldIn, block, family};
 ghost use Rattle.formula.specs.Counts.{clausesBy, total, clauseCount};
 ghost use Rattle.calls.specs.Calls.{clauseAnswer, clauseSlice};
 ghost use Rattle.one_clause.specs.Spot.{count, countEach, Stands, Slot, PairAt, lineAt};
@@ -28,7 +30,7 @@ pub struct Pair {
     pub high: usize,
 }
 
-// How many clauses a block of family G has: one for each other agent and vertex.
+// How many clauses a block of family G has under rule 1: one for each other agent and vertex.
 fn each_of_g(s: Sizes) -> usize
     requires { ⌜ Limits s ⌝ }
     ensures { λ r. ⌜ r ≡ (s .k - 1) * s .n ⌝ }
@@ -165,12 +167,12 @@ fn other(a: usize, place: usize) -> usize
     place + 1
 }
 
-// Family G: clause p of time t and agent a.
-fn put_g(f: &mut [i32], s: Sizes, t: Step, a: Agent, p: usize) -> usize
+// Family G under rule 1: clause p of time t and agent a.
+fn put_following(f: &mut [i32], s: Sizes, t: Step, a: Agent, p: usize) -> usize
     requires { ⌜ Limits s ⌝ }
     requires { ⌜ (t .0 < s .m) × (a .0 < s .k) × (p < (s .k - 1) * s .n) ⌝ }
-    requires { ⌜ length (lineAt (blockG s (t .0) (a .0)) p) ≤ length (now f) ⌝ }
-    ensures { λ r. ⌜ Wrote (lineAt (blockG s (t .0) (a .0)) p) (now (f .entry)) (now (f .exit)) r ⌝ }
+    requires { ⌜ length (lineAt (noFollowing s (t .0) (a .0)) p) ≤ length (now f) ⌝ }
+    ensures { λ r. ⌜ Wrote (lineAt (noFollowing s (t .0) (a .0)) p) (now (f .entry)) (now (f .exit)) r ⌝ }
 {
     let b = Agent(other(a.0, p / s.n));
     let v = Vertex(p % s.n);
@@ -182,7 +184,41 @@ fn put_g(f: &mut [i32], s: Sizes, t: Step, a: Agent, p: usize) -> usize
     )
 }
 
-// The clause at a place of the block of t and x, in the family with a number.
+// Family G under rule 2: agents a and b do not exchange the ends of an edge.
+fn put_exchange(f: &mut [i32], s: Sizes, t: Step, edge: Edge, a: Agent, b: Agent) -> usize
+    requires { ⌜ Limits s ⌝ }
+    requires { ⌜ (t .0 < s .m) × (edge .low < s .n) × (edge .high < s .n) × (a .0 < s .k) × (b .0 < s .k) × (5 ≤ length (now f)) ⌝ }
+    ensures { λ r. ⌜ Wrote (line (exchange s (t .0) (edge .low) (edge .high) (a .0) (b .0))) (now (f .entry)) (now (f .exit)) r ⌝ }
+{
+    let low = Vertex(edge.low);
+    let high = Vertex(edge.high);
+    let next = Step(t.0 + 1);
+    clauses::put_four(
+        f,
+        clauses::negative(s, t, a, low),
+        clauses::negative(s, next, a, high),
+        clauses::negative(s, t, b, high),
+        clauses::negative(s, next, b, low),
+    )
+}
+
+// Family G under rule 2: the clause at a place, by time, edge and two agents.
+fn put_exchange_at(f: &mut [i32], s: Sizes, near: &[u64; 64], place: usize) -> usize
+    requires { ⌜ Limits s × (s .rule ≡ 2) × (s .e ≡ edgesBefore (joined (now near)) (s .n) (s .n) 0) × ((v : ℕ) → v < 64 → getD (now near) v 0 < 2 ^ s .n) ⌝ }
+    requires { ⌜ (place < s .m * s .e * (s .k * (s .k - 1))) × (length (lineAt (byBlocks s (joined (now near))) place) ≤ length (now f)) ⌝ }
+    ensures { λ r. ⌜ Wrote (lineAt (byBlocks s (joined (now (near .entry)))) place) (now (f .entry)) (now (f .exit)) r ⌝ }
+{
+    let others = s.k - 1;
+    let each = s.k * others;
+    let at = place / each;
+    let edge = edges::edge_at(near, s.n, at % s.e);
+    let p = place % each;
+    let a = p / others;
+    let b = other(a, p % others);
+    put_exchange(f, s, Step(at / s.e), edge, Agent(a), Agent(b))
+}
+
+// The clause at a place of the block of t and x, in the family with a number. It is not G under rule 2.
 fn put_clause(
     f: &mut [i32],
     s: Sizes,
@@ -195,7 +231,7 @@ fn put_clause(
     place: usize,
 ) -> usize
     requires { ⌜ Ready s (now starts) (now goals) (now near) ⌝ }
-    requires { ⌜ (which < 7) × (t < times s which) × (x < blocksAt s which) × (place < countEach s which) × (which ≡ 1 → HasGoal (getD (now goals) x 0)) ⌝ }
+    requires { ⌜ (which < 7) × (t < times s which) × (x < blocksAt s which) × (place < countEach s which) × (which ≡ 1 → HasGoal (getD (now goals) x 0)) × (which ≡ 6 → s .rule ≢ 2) ⌝ }
     requires { ⌜ length (lineAt (block (heldIn s (now starts) (now goals) (now near)) which t x) place) ≤ length (now f) ⌝ }
     ensures { λ r. ⌜ Wrote (lineAt (block (heldIn s (now (starts .entry)) (now (goals .entry)) (now (near .entry))) which t x) place) (now (f .entry)) (now (f .exit)) r ⌝ }
 {
@@ -206,7 +242,7 @@ fn put_clause(
         3 => put_d(f, s, Step(t), Agent(x), place),
         4 => put_e(f, s, Step(t), Vertex(x), place),
         5 => clauses::put_onward(f, s, near[place], Step(t), Agent(x), Vertex(place)),
-        _ => put_g(f, s, Step(t), Agent(x), place),
+        _ => put_following(f, s, Step(t), Agent(x), place),
     }
 }
 
@@ -225,6 +261,9 @@ fn put_number(
 {
     let spot = spot_of(s, number);
     let which = spot.0;
+    if (which == 6) & (s.rule == 2) {
+        return put_exchange_at(f, s, near, spot.2);
+    }
     let each = spot.1;
     let slot = slot_of(s, goals, which, spot.2);
     let block = slot / each;
@@ -253,11 +292,11 @@ fn copy_words(f: &mut [i32], from: &[i32], count: usize)
 }
 
 // One clause by number: questions 1 to 12. A refusal changes no word of the slice.
-pub fn clause(b: &[u8], m: usize, number: usize, f: &mut [i32]) -> Answer
-    ensures { λ r. ⌜ r ≡ clauseAnswer (now (b .entry)) m number (length (now (f .entry))) ⌝ }
-    ensures { λ _. ⌜ now (f .exit) ≡ clauseSlice (now (b .entry)) m number (now (f .entry)) ⌝ }
+pub fn clause(b: &[u8], m: usize, rule: usize, number: usize, f: &mut [i32]) -> Answer
+    ensures { λ r. ⌜ r ≡ clauseAnswer (now (b .entry)) m rule number (length (now (f .entry))) ⌝ }
+    ensures { λ _. ⌜ now (f .exit) ≡ clauseSlice (now (b .entry)) m rule number (now (f .entry)) ⌝ }
 {
-    let i = instance_check::check_instance(b, m);
+    let i = instance_check::check_instance(b, m, rule);
     let answer = i.answer;
     let c = i.checked;
     if answer.number != 0 {

@@ -1,7 +1,7 @@
 -- Rows as parts of a plan's bytes, and what the conditions depend on.
 use mathlib.Core.Path.{_≡_, sym, _∙_, ap, ap₂}
 use mathlib.Core.List.{List}
-use mathlib.Core.Bool.{Bool, not, _||_}
+use mathlib.Core.Bool.{Bool, not, _&&_, _||_, cond}
 use Prim.Native.Nat.{ℕ, zero, suc, _+_, _*_, _-_, _≤_, _<_}
 use native.Mathlib.Nat.{suc-mul, mul-le-mul-right}
 use native.Mathlib.Numerals.{add-one}
@@ -13,6 +13,7 @@ use Rattle.lists.proofs.Tests.{every-ext}
 use Rattle.answers.specs.Fault.{FirstFault}
 use Rattle.answers.proofs.Faults.{fault-ext}
 use Rattle.instance.specs.declared.Sizes.{Sizes}
+use Rattle.instance.specs.Instance.{following}
 use Rattle.plan.specs.Plan.{Row, row, planBytes, planRow, condition, condition1, condition2, condition3}
 
 -- ---- rows t and t + 1 stand within the plan
@@ -37,7 +38,7 @@ rows s p t e l =
 pub part-length : (p : List ℕ) (from to : ℕ) → from ≤ to → to ≤ length p → length (take (to - from) (drop from p)) ≡ to - from
 part-length p from to h l = length-take-le (to - from) (drop from p) (simp length-drop (omega arith))
 
-part-at : (p : List ℕ) (from to a : ℕ) → a < to - from → row (take (to - from) (drop from p)) a ≡ getD p (from + a) 0
+pub part-at : (p : List ℕ) (from to a : ℕ) → a < to - from → row (take (to - from) (drop from p)) a ≡ getD p (from + a) 0
 part-at p from to a l = getD-take (to - from) (drop from p) a 0 l ∙ getD-drop from p a 0
 
 -- a bound on all bytes is one on a part
@@ -54,7 +55,10 @@ condition-same : (s : Sizes) (near : ℕ → ℕ → Bool) (which : ℕ) (here n
 unfolding condition1 condition2 condition3
 condition-same s near zero here next here′ next′ e f a l = rw (e a l, f a l)
 condition-same s near (suc zero) here next here′ next′ e f a l =
-    ap₂ _||_ (ap₂ eqb (e a l) (f a l)) (every-ext (s .k) _ _ (λ b h. ap₂ (λ (x y : ℕ). not (eqb x y)) (e b h) (f a l)))
+    ap₂ _||_ (ap₂ eqb (e a l) (f a l))
+    (ap₂ (cond (following s))
+    (every-ext (s .k) _ _ (λ b h. ap not (ap₂ _&&_ (ap₂ eqb (e b h) (f a l)) (ap₂ eqb (f b h) (e a l)))))
+    (every-ext (s .k) _ _ (λ b h. ap₂ (λ (x y : ℕ). not (eqb x y)) (e b h) (f a l))))
 condition-same s near (suc (suc which)) here next here′ next′ e f a l =
     every-ext a _ _ (λ b h. ap₂ (λ (x y : ℕ). not (eqb x y)) (f b (omega arith)) (f a l))
 

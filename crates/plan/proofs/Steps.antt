@@ -1,19 +1,20 @@
--- The conditions of a valid step, said in two ways, and what an agent meets that fails condition 2.
+-- The conditions of a valid step, said in two ways, and what an agent meets that fails condition 2 under rule 1.
 use mathlib.Core.Path.{_≡_, sym, _∙_}
-use mathlib.Core.Logic.{_↔_, _≢_, _⊎_, inl, inr, ⊎-elim, by-cases}
-use mathlib.Core.Bool.{not}
+use mathlib.Core.Logic.{_↔_, _≢_, _⊎_, inl, inr, ⊎-elim, by-cases, Iff·rfl}
+use mathlib.Core.Bool.{Bool, true, false, not, _&&_, _||_, cond}
 use Prim.Native.Nat.{ℕ, _<_}
 use native.Mathlib.Decide.{ℕ-discrete, decLt}
 use native.Mathlib.Omega.{arith}
 use borrow.Author.Tests.{eq-eqb, ne-eqb}
 use lib.Dec.{T, eqb}
-use Rattle.lists.proofs.Tests.{or-imp, eqb-iff, every-iff}
+use Rattle.lists.proofs.Tests.{and-iff, or-imp, not-iff, eqb-iff, every-iff}
 use Rattle.answers.specs.Fault.{FirstFault}
 use Rattle.answers.proofs.Faults.{fault-first}
 use Rattle.instance.specs.declared.Sizes.{Sizes}
-use Rattle.instance.specs.Instance.{Instance, adjacent, Edge}
+use Rattle.instance.specs.Instance.{Instance, following, adjacent, Edge}
 use Rattle.instance.proofs.Graph.{adjacent-iff}
-use Rattle.plan.specs.Plan.{Row, condition2, occupant, stays, exchanges, movesOn, occupantLeaves}
+use Rattle.plan.specs.Plan.{Row, keeps, vacant?, unexchanged?, condition2, occupant, stays, exchanges, movesOn, occupantLeaves}
+use Rattle.plan.specs.Passing.{Second}
 
 -- "no two share" from "no two, the lower first, share"
 pub apart-any : (k : ℕ) (P : Row) → ((a b : ℕ) → a < b → b < k → P a ≢ P b) → (a b : ℕ) → a < k → b < k → a ≢ b → P a ≢ P b
@@ -26,19 +27,56 @@ crosses-iff I x y = (
   (λ o d. ⊎-elim (λ e. absurd (d e)) (λ g. adjacent-iff I x y .1 g) o),
 )
 
--- Agent a fails condition 2, and b is the first agent found on the vertex that it enters.
+-- condition 2 of every agent, under either rule
+module _ (I : Instance) (here next : Row) where
+  open Instance I using (sizes)
+  open Sizes sizes using (k)
+
+  abbrev passes : Bool → ℕ → Bool
+  passes f a = keeps here next a || cond f (unexchanged? sizes here next a) (vacant? sizes here next a)
+
+  by-rule : (f : Bool) → ((a : ℕ) → a < k → T (passes f a)) ↔ Second I here next f
+  by-rule false = simp (or-imp, every-iff, not-iff, eqb-iff) Iff·rfl
+  by-rule true = (
+    (λ h a b l r (d, e, e′).
+        let t = or-imp (keeps here next a) _ .0 (h a l) (λ q. d (eqb-iff (here a) (next a) .0 q ∙ e)) in
+        not-iff (eqb (here b) (next a) && eqb (next b) (here a)) .0 (every-iff k (λ c. not (eqb (here c) (next a) && eqb (next c) (here a))) .0 t b r)
+        (and-iff (eqb (here b) (next a)) (eqb (next b) (here a)) .1 (eqb-iff (here b) (next a) .1 (sym e), eqb-iff (next b) (here a) .1 e′))),
+    (λ h a l.
+        or-imp (keeps here next a) _ .1 (λ d.
+        every-iff k (λ c. not (eqb (here c) (next a) && eqb (next c) (here a))) .1 (λ b r.
+        not-iff (eqb (here b) (next a) && eqb (next b) (here a)) .1 (λ t.
+        let (x, y) = and-iff (eqb (here b) (next a)) (eqb (next b) (here a)) .0 t in
+        let e = eqb-iff (here b) (next a) .0 x in
+        h a b l r ((λ z. d (eqb-iff (here a) (next a) .1 (z ∙ e))), sym e, eqb-iff (next b) (here a) .0 y))))),
+  )
+
+  pub second-iff : ((a : ℕ) → a < k → T (condition2 sizes here next a)) ↔ Second I here next (following sizes)
+  unfolding condition2
+  second-iff = by-rule (following sizes)
+
+-- where no agent enters a vertex on which one stood, no two agents exchange vertices
+pub vacant-exchange : (I J : Instance) → I .sizes .k ≡ J .sizes .k → (here next : Row) → Second I here next false → Second J here next true
+vacant-exchange I J ek here next h a b l r (d, e, e′) = h a (rw ek l) (λ x. d (x ∙ e)) b (rw ek r) (sym e)
+
+-- an agent that fails condition 2 changes vertex
 module _ (s : Sizes) (here next : Row) (a : ℕ) (fails : T (condition2 s here next a) → ⊥) where
   pub changes : here a ≢ next a
   unfolding condition2
   changes e = fails (or-imp (eqb (here a) (next a)) _ .1 (λ d. absurd (d (eqb-iff _ _ .1 e))))
 
+-- Under rule 1 b is the first agent found on the vertex that it enters.
+module _ (s : Sizes) (one : s .rule ≢ 2) (here next : Row) (a : ℕ) (fails : T (condition2 s here next a) → ⊥) where
+  vacant-passes : T (vacant? s here next a) → T (condition2 s here next a)
+  unfolding condition2
+  vacant-passes t = or-imp (eqb (here a) (next a)) _ .1 (λ d. rw (ne-eqb (s .rule) 2 one) t)
+
   module _ (b : ℕ) (f : FirstFault (s .k) (λ c. not (eqb (here c) (next a))) b) where
     pub occupant-inside : b < s .k
-    unfolding condition2
     occupant-inside =
         by-cases (decLt b (s .k))
         (λ l. l)
-        (λ l. absurd (fails (or-imp (eqb (here a) (next a)) _ .1 (λ d. every-iff (s .k) _ .1 (λ c h. f .before c (omega arith))))))
+        (λ l. absurd (fails (vacant-passes (every-iff (s .k) _ .1 (λ c h. f .before c (omega arith))))))
 
     pub occupant-stood : here b ≡ next a
     occupant-stood = eqb-iff _ _ .0 (fault-first (s .k) (λ c. eqb (here c) (next a)) b f occupant-inside .0)

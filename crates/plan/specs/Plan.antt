@@ -1,12 +1,12 @@
 -- Plans: their rows, the three conditions as tests, the occupant of a vertex that is entered, makespan, time until rest and cost.
 use mathlib.Core.List.{List}
-use mathlib.Core.Bool.{Bool, not, _||_, cond}
+use mathlib.Core.Bool.{Bool, not, _&&_, _||_, cond}
 use Prim.Native.Nat.{ℕ, zero, suc, _+_, _*_, _-_, _/_}
 use lib.ListN.{length, getD}
 use lib.Dec.{ltb, eqb}
 use Rattle.lists.specs.Loop.{every, first, sum, unlikeEarlier}
 use Rattle.instance.specs.declared.Sizes.{Sizes}
-use Rattle.instance.specs.Instance.{free}
+use Rattle.instance.specs.Instance.{following, free}
 
 -- a row: the vertex of each agent at one time
 abbrev pub Row : Type 0
@@ -37,9 +37,17 @@ keeps here next a = eqb (here a) (next a)
 unfoldable pub condition1 : (ℕ → ℕ → Bool) → Row → Row → ℕ → Bool
 condition1 near here next a = keeps here next a || near (here a) (next a)
 
--- 2: it keeps its vertex, or goes to one on which no agent stood
+-- no agent stood on the vertex that it goes to
+abbrev pub vacant? : Sizes → Row → Row → ℕ → Bool
+vacant? s here next a = every (s .k) λ b. not (eqb (here b) (next a))
+
+-- no agent goes to its vertex from the one that it goes to
+abbrev pub unexchanged? : Sizes → Row → Row → ℕ → Bool
+unexchanged? s here next a = every (s .k) λ b. not (eqb (here b) (next a) && eqb (next b) (here a))
+
+-- 2: it keeps its vertex, or goes to one on which no agent stood; under rule 2, or exchanges vertices with no agent
 unfoldable pub condition2 : Sizes → Row → Row → ℕ → Bool
-condition2 s here next a = keeps here next a || (every (s .k) λ b. not (eqb (here b) (next a)))
+condition2 s here next a = keeps here next a || cond (following s) (unexchanged? s here next a) (vacant? s here next a)
 
 -- 3: it shares its vertex in the next row with no lower agent
 unfoldable pub condition3 : Row → ℕ → Bool
@@ -51,7 +59,7 @@ condition s near zero here next a = condition1 near here next a
 condition s near (suc zero) here next a = condition2 s here next a
 condition s near (suc (suc which)) here next a = condition3 next a
 
--- Where an agent fails condition 2, the vertex that it enters was occupied.
+-- Where an agent fails condition 2 under rule 1, the vertex that it enters was occupied.
 -- the occupant: the agent that stood on the vertex that agent a enters
 abbrev pub occupant : Sizes → Row → Row → ℕ → ℕ
 occupant s here next a = first (s .k) λ b. eqb (here b) (next a)

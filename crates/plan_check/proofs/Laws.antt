@@ -23,7 +23,7 @@ use Rattle.instance.specs.Instance.{Instance, free, adjacent, joined}
 use Rattle.plan.specs.Plan.{Row, planBytes, planIndex, planRow, condition, condition2, occupantLeaves, restTime, cost}
 use Rattle.plan.proofs.Rest.{rest-until, rest-keeps, rest-moves}
 use Rattle.plan.proofs.Steps.{occupant-inside, leaves-stays, leaves-exchanges, leaves-on}
-use Rattle.calls.specs.Questions.{occupiedNumber, question13, question18, question20, question21, question22}
+use Rattle.calls.specs.Questions.{occupiedNumber, secondNumber, question13, question18, question20, question21, question22}
 use Rattle.calls.specs.Calls.{stepQuestions, planQuestions, checkRest}
 use Rattle.instance.specs.Accepted.{Accepted, instanceOf}
 use Rattle.instance.specs.Limits.{Limits}
@@ -53,12 +53,15 @@ module _ (s : Sizes) (p : List ℕ) (a : ℕ) where
     pub rest-same : (r : ℕ) → r ≡ rest t → planRow s p t a ≡ after → r ≡ rest (t + 1)
     rest-same r er e = rw (add-one t) (er ∙ rest-keeps t (planRow s p) a (e ∙ byte-after))
 
--- ---- question 20's number of agent a in step t
+-- ---- question 20's number of agent a in step t; under rule 1 it says what the occupant does
 abbrev numberOf : Sizes → List ℕ → ℕ → ℕ → ℕ
-numberOf s p t a = occupiedNumber (occupantLeaves s (planRow s p t) (planRow s p (suc t)) a)
+numberOf s p t a = secondNumber s (planRow s p t) (planRow s p (suc t)) a
+
+abbrev leavesNumber : Sizes → List ℕ → ℕ → ℕ → ℕ
+leavesNumber s p t a = occupiedNumber (occupantLeaves s (planRow s p t) (planRow s p (suc t)) a)
 
 -- a fails condition 2 there, and b is the first agent found on the vertex that it enters
-module _ (s : Sizes) (p : List ℕ) (t a : ℕ) (fails : T (condition2 s (planRow s p t) (planRow s p (suc t)) a) → ⊥) (b : ℕ) (f : FirstFault (s .k) (λ c. not (eqb (getD p (t * s .k + c) 0) (getD p (t * s .k + s .k + a) 0))) b) where
+module _ (s : Sizes) (one : s .rule ≢ 2) (p : List ℕ) (t a : ℕ) (fails : T (condition2 s (planRow s p t) (planRow s p (suc t)) a) → ⊥) (b : ℕ) (f : FirstFault (s .k) (λ c. not (eqb (getD p (t * s .k + c) 0) (getD p (t * s .k + s .k + a) 0))) b) where
   abbrev here : Row
   here = planRow s p t
 
@@ -76,23 +79,23 @@ module _ (s : Sizes) (p : List ℕ) (t a : ℕ) (fails : T (condition2 s (planRo
   found = subst (λ (x : ℕ). FirstFault (s .k) (λ c. not (eqb (here c) x)) b) (byte-next a) f
 
   pub occupant-below : b < s .k
-  occupant-below = occupant-inside s here next a fails b found
+  occupant-below = occupant-inside s one here next a fails b found
 
-  pub number-stays : byte b ≡ byte a → 20 ≡ numberOf s p t a
+  pub number-stays : byte b ≡ byte a → 20 ≡ leavesNumber s p t a
   unfolding occupiedNumber
-  number-stays e = sym (ap occupiedNumber (leaves-stays s here next a fails b found (sym (byte-next b) ∙ e ∙ byte-next a)))
+  number-stays e = sym (ap occupiedNumber (leaves-stays s one here next a fails b found (sym (byte-next b) ∙ e ∙ byte-next a)))
 
   module _ (d : byte b ≢ byte a) where
     moved : next b ≢ next a
     moved e = d (byte-next b ∙ e ∙ sym (byte-next a))
 
-    pub number-exchanges : byte b ≡ here a → 25 ≡ numberOf s p t a
+    pub number-exchanges : byte b ≡ here a → 25 ≡ leavesNumber s p t a
     unfolding occupiedNumber
-    number-exchanges e = sym (ap occupiedNumber (leaves-exchanges s here next a fails b found moved (sym (byte-next b) ∙ e)))
+    number-exchanges e = sym (ap occupiedNumber (leaves-exchanges s one here next a fails b found moved (sym (byte-next b) ∙ e)))
 
-    pub number-on : byte b ≢ here a → 26 ≡ numberOf s p t a
+    pub number-on : byte b ≢ here a → 26 ≡ leavesNumber s p t a
     unfolding occupiedNumber
-    number-on e = sym (ap occupiedNumber (leaves-on s here next a fails b found moved (λ x. e (byte-next b ∙ x))))
+    number-on e = sym (ap occupiedNumber (leaves-on s one here next a fails b found moved (λ x. e (byte-next b ∙ x))))
 
 -- ---- a question of all agents, where k is their number as the code has it; `at` is where the row begins in which the place is named
 module _ (I : Instance) (k : ℕ) (ek : k ≡ I .sizes .k) (test : ℕ → Bool) (r : ℕ) (f : FirstFault (I .sizes .k) test r) (number : ℕ → ℕ) (row : ℕ) (qs : List Question) where

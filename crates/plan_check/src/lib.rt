@@ -1,4 +1,4 @@
-// The plan check: questions 1 to 10, 13 and 17 to 22, of any bytes and any number given as horizon.
+// The plan check: questions 1 to 10, 31, 13 and 17 to 22, of any bytes and any numbers given as horizon and rule.
 use answers::Answer;
 use instance::Sizes;
 ghost use mathlib.Core.Path.{_≡_};
@@ -9,18 +9,19 @@ ghost use Rattle.lists.specs.Loop.{for};
 ghost use Rattle.answers.specs.Answers.{decide};
 ghost use Rattle.answers.specs.Fault.{FirstFault};
 ghost use Rattle.plan.specs.Plan.{planBytes, planRow, condition2, occupantLeaves, restTime, cost};
-ghost use Rattle.calls.specs.Questions.{occupiedNumber};
+ghost use Rattle.calls.specs.Questions.{occupiedNumber, secondNumber};
 ghost use Rattle.calls.specs.Calls.{stepQuestions, planQuestions, checkAnswer};
 ghost use mathlib.Core.Bool.{_&&_, _||_};
+ghost use mathlib.Core.Logic.{_≢_};
 ghost use Rattle.instance.specs.Instance.{Instance, free};
 ghost use Rattle.instance.specs.Limits.{Limits};
 ghost use Rattle.instance.specs.Shows.{ShowsGraph, Shows};
 ghost use Rattle.conditions.specs.Inside.{Inside};
 
-// The number for agent a, which enters an occupied vertex in step t: 20, 25 or 26, by what the occupant does.
+// Under rule 1 the number for agent a, which enters an occupied vertex in step t: 20, 25 or 26, by what the occupant does.
 fn occupied_number(s: Sizes, p: &[u8], t: usize, a: usize) -> u32
     requires { ⌜ (length (now p) ≡ planBytes s) × (t < s .m) × (a < s .k) ⌝ }
-    requires { ⌜ (T (condition2 s (planRow s (now p) t) (planRow s (now p) (suc t)) a) → ⊥) ⌝ }
+    requires { ⌜ (s .rule ≢ 2) × (T (condition2 s (planRow s (now p) t) (planRow s (now p) (suc t)) a) → ⊥) ⌝ }
     ensures { λ r. ⌜ r ≡ occupiedNumber (occupantLeaves s (planRow s (now (p .entry)) t) (planRow s (now (p .entry)) (suc t)) a) ⌝ }
 {
     let k = s.k;
@@ -37,6 +38,18 @@ fn occupied_number(s: Sizes, p: &[u8], t: usize, a: usize) -> u32
         return 25;
     }
     26
+}
+
+// The number for agent a, which fails condition 2 in step t: under rule 2 it exchanges vertices with another.
+fn second_number(s: Sizes, p: &[u8], t: usize, a: usize) -> u32
+    requires { ⌜ (length (now p) ≡ planBytes s) × (t < s .m) × (a < s .k) ⌝ }
+    requires { ⌜ (T (condition2 s (planRow s (now p) t) (planRow s (now p) (suc t)) a) → ⊥) ⌝ }
+    ensures { λ r. ⌜ r ≡ secondNumber s (planRow s (now (p .entry)) t) (planRow s (now (p .entry)) (suc t)) a ⌝ }
+{
+    if s.rule == 2 {
+        return 25;
+    }
+    occupied_number(s, p, t, a)
 }
 
 // Questions 19 to 21 of step t.
@@ -58,7 +71,7 @@ fn ask_step(s: Sizes, near: &[u64; 64], p: &[u8], t: usize) -> Answer
     }
     if entering < k {
         return Answer {
-            number: occupied_number(s, p, t, entering),
+            number: second_number(s, p, t, entering),
             second: next + entering,
         };
     }
@@ -198,10 +211,10 @@ fn plan_cost(s: Sizes, p: &[u8]) -> usize
 }
 
 // The plan check, for every input: 0 and the plan's cost, or number and place of the first no.
-pub fn check_plan(b: &[u8], m: usize, p: &[u8]) -> Answer
-    ensures { λ r. ⌜ r ≡ checkAnswer (now (b .entry)) m (now (p .entry)) ⌝ }
+pub fn check_plan(b: &[u8], m: usize, rule: usize, p: &[u8]) -> Answer
+    ensures { λ r. ⌜ r ≡ checkAnswer (now (b .entry)) m rule (now (p .entry)) ⌝ }
 {
-    let inspection = instance_check::check_instance(b, m);
+    let inspection = instance_check::check_instance(b, m, rule);
     let refusal = inspection.answer;
     if refusal.number != 0 {
         return refusal;

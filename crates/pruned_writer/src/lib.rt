@@ -117,11 +117,11 @@ fn write_all(f: &mut [i32], c: Checked, table: &[[u8; 64]])
 }
 
 // Questions 1 to 10 and 12. A refusal changes no word of the slice.
-pub fn write_pruned(b: &[u8], m: usize, f: &mut [i32]) -> Answer
-    ensures { λ r. ⌜ r ≡ writeAnswer pruned (now (b .entry)) m (length (now (f .entry))) ⌝ }
-    ensures { λ _. ⌜ now (f .exit) ≡ writeSlice pruned (now (b .entry)) m (now (f .entry)) ⌝ }
+pub fn write_pruned(b: &[u8], m: usize, rule: usize, f: &mut [i32]) -> Answer
+    ensures { λ r. ⌜ r ≡ writeAnswer pruned (now (b .entry)) m rule (length (now (f .entry))) ⌝ }
+    ensures { λ _. ⌜ now (f .exit) ≡ writeSlice pruned (now (b .entry)) m rule (now (f .entry)) ⌝ }
 {
-    let i = instance_check::check_instance(b, m);
+    let i = instance_check::check_instance(b, m, rule);
     let first = i.answer;
     let c = i.checked;
     if first.number != 0 {

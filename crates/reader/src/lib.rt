@@ -161,11 +161,11 @@ fn read_text(text: &[u8], n: usize, z: &mut [i32]) -> Answer
 }
 
 // The call, for every byte string, every number, all bytes given as a text and every slice.
-pub fn read_valuation(b: &[u8], m: usize, text: &[u8], z: &mut [i32]) -> Answer
-    ensures { λ r. ⌜ r ≡ readAnswer (now (b .entry)) m (now (text .entry)) (length (now (z .entry))) ⌝ }
-    ensures { λ _. ⌜ now (z .exit) ≡ readSlice (now (b .entry)) m (now (text .entry)) (now (z .entry)) ⌝ }
+pub fn read_valuation(b: &[u8], m: usize, rule: usize, text: &[u8], z: &mut [i32]) -> Answer
+    ensures { λ r. ⌜ r ≡ readAnswer (now (b .entry)) m rule (now (text .entry)) (length (now (z .entry))) ⌝ }
+    ensures { λ _. ⌜ now (z .exit) ≡ readSlice (now (b .entry)) m rule (now (text .entry)) (now (z .entry)) ⌝ }
 {
-    let inspection = instance_check::check_instance(b, m);
+    let inspection = instance_check::check_instance(b, m, rule);
     let refusal = inspection.answer;
     if refusal.number != 0 {
         return refusal;

@@ -8,23 +8,25 @@ use Rattle.instance.specs.declared.Sizes.{Sizes}
 use Rattle.instance.specs.Limits.{Limits}
 use Rattle.plan.specs.Plan.{planBytes}
 
--- cells: times and agents; pairs, twos: twice the pairs of vertices and of agents; the rest: the sizes of the rows of D to G
+-- cells: times and agents; pairs, twos: twice the pairs of vertices and of agents; the rest: the sizes of the rows of D to G, of G
+-- under either rule
 pub record Products (s : Sizes) : Type 0 where
   pub cells : suc (s .m) * s .k ≤ 528
   pub after : (s .m + 1) * s .k ≡ suc (s .m) * s .k
   pub pairs : s .n * (s .n - 1) ≤ 4096
-  pub twos : s .k * (s .k - 1) ≤ 256
+  pub twos : s .k * (s .k - 1) ≤ 240
   pub rest : (s .k - 1) * s .n ≤ 1024
   pub D : s .k * (s .n * (s .n - 1) / 2) ≤ 32768
   pub E : s .n * (s .k * (s .k - 1) / 2) ≤ 8192
   pub F : s .k * s .n ≤ 1024
   pub G : s .k * ((s .k - 1) * s .n) ≤ 16384
+  pub exchanges : s .e * (s .k * (s .k - 1)) ≤ 483840
 
 pub products : (s : Sizes) → Limits s → Products s
 products s w =
     let c : suc (s .m) * s .k ≤ 528 = mul-le-mul {n₂ = 33} {m₂ = 16} (omega (arith, w .m-most)) (w .k-most) in
     let p : s .n * (s .n - 1) ≤ 4096 = mul-le-mul {n₂ = 64} {m₂ = 64} (w .n-most) (omega (arith, w .n-most)) in
-    let t : s .k * (s .k - 1) ≤ 256 = mul-le-mul {n₂ = 16} {m₂ = 16} (w .k-most) (omega (arith, w .k-most)) in
+    let t : s .k * (s .k - 1) ≤ 240 = mul-le-mul {n₂ = 16} {m₂ = 15} (w .k-most) (omega (arith, w .k-most)) in
     let g : (s .k - 1) * s .n ≤ 1024 = mul-le-mul {n₂ = 16} {m₂ = 64} (omega (arith, w .k-most)) (w .n-most) in
     record {
       cells = c;
@@ -36,6 +38,7 @@ products s w =
       E = mul-le-mul {n₂ = 64} {m₂ = 128} (w .n-most) (omega arith);
       F = mul-le-mul {n₂ = 16} {m₂ = 64} (w .k-most) (w .n-most);
       G = mul-le-mul {n₂ = 16} {m₂ = 1024} (w .k-most) g;
+      exchanges = mul-le-mul {n₂ = 2016} {m₂ = 240} (w .e-most) t;
     }
 
 -- row t of the plan

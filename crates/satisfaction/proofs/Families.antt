@@ -2,23 +2,25 @@
 use mathlib.Core.Path.{_≡_, refl, sym, _∙_, ap, subst}
 use mathlib.Core.Logic.{_≢_, by-cases}
 use mathlib.Core.List.{List, [], _∷_}
+use mathlib.Core.Bool.{Bool, cond}
 use Prim.Native.Nat.{ℕ, suc, _+_, _*_, _-_, _/_, _≤_, _<_}
 use native.Mathlib.Decide.{decLt, ℕ-discrete}
 use native.Mathlib.Numerals.{add-one}
 use native.Mathlib.Omega.{arith}
+use borrow.Author.Tests.{eq-eqb, ne-eqb}
 use lib.ListN.{length, getD, length-append}
 use lib.Dec.{T}
 use lib.IntN.{ℤ}
 use Rattle.lists.specs.Loop.{for, all}
-use Rattle.lists.proofs.Loops.{for-length, all-append}
+use Rattle.lists.proofs.Loops.{for-length, for-all, all-append}
 use Rattle.lists.proofs.Slices.{for-room}
 use Rattle.lists.proofs.Blocks.{for1-length, place-split}
 use Rattle.instance.specs.declared.Sizes.{Sizes}
-use Rattle.instance.specs.Instance.{Instance, goalCount}
+use Rattle.instance.specs.Instance.{Instance, Edges, following, goalCount}
 use Rattle.instance.proofs.Goals.{goals-once}
 use Rattle.formula.specs.Variables.{X}
-use Rattle.formula.specs.Formula.{Clause, clauses}
-use Rattle.formula.specs.Blocks.{Given, times, blocksAt, block, family, heldIn}
+use Rattle.formula.specs.Formula.{Clause, F, noFollowing, clauses}
+use Rattle.formula.specs.Blocks.{Given, times, blocksAt, block, blockG, noExchangeFrom, family, heldIn}
 use Rattle.formula.proofs.Blocks.{family-blocks}
 use Rattle.formula.proofs.Held.{families-shown}
 use Rattle.plan.specs.Plan.{planRow}
@@ -28,9 +30,9 @@ use Rattle.valuation.proofs.Families.{places-cong, read-E}
 use Rattle.valuation.proofs.Entries.{named-places}
 use Rattle.instance.specs.Shows.{Shows}
 use Rattle.conditions.specs.Inside.{Inside}
-use Rattle.satisfaction.specs.Rows.{Fault, Read, row, Before}
+use Rattle.satisfaction.specs.Rows.{Fault, Read, Sound, row, Before}
 use Rattle.satisfaction.proofs.Laws.{for-stop, fault-all}
-use Rattle.satisfaction.proofs.Truth.{length-D, length-E, length-F, length-G}
+use Rattle.satisfaction.proofs.Truth.{length-D, length-E, length-F, read-rowF}
 
 -- the lengths of the rows
 module _ (g : Given) (t : ℕ) where
@@ -61,9 +63,18 @@ module _ (g : Given) (t : ℕ) where
   unfolding row block blocksAt
   size-F = for-length k _ _ (λ a l. length-F sizes (g .near) t a)
 
-  pub size-G : length (row g 6 t) ≡ k * ((k - 1) * n)
-  unfolding row block blocksAt
-  size-G = for-length k _ _ (λ a l. length-G sizes t a l)
+-- G's, by the rule
+module _ (s : Sizes) (near : ℕ → ℕ → Bool) (t : ℕ) where
+  open Sizes s using (n, k)
+
+  abbrev by-rule : Bool → List Clause
+  by-rule f = for (cond f n k) λ x. cond f (noExchangeFrom s near t x) (noFollowing s t x)
+
+  pub one-G : s .rule ≢ 2 → for (cond (following s) n k) (blockG s near t) ≡ for k (noFollowing s t)
+  one-G d = ap by-rule (ne-eqb (s .rule) 2 d)
+
+  pub two-G : s .rule ≡ 2 → for (cond (following s) n k) (blockG s near t) ≡ for n (noExchangeFrom s near t)
+  two-G e = ap by-rule (eq-eqb (s .rule) 2 e)
 
 module _ (g : Given) where
   family-rows : (j : ℕ) → family g j ≡ for (times (g .sizes) j) (row g j)
@@ -98,9 +109,9 @@ module _ (g : Given) where
   all-families es at e h = rw e (fault-all es (for 7 (family g)) h)
 
 -- the formula's families are those of the parts that show the instance
-pub whole : (I : Instance) (s : Sizes) (starts goals near : List ℕ) → Shows I s starts goals near → (es : List ℤ) (r : ℕ)
+pub whole : (I : Instance) (s : Sizes) (starts goals near : List ℕ) → Shows I s starts goals near → Edges I → (es : List ℤ) (r : ℕ)
     → Fault es (for 7 (family (heldIn s starts goals near))) r → Fault es (clauses I) r
-whole I s starts goals near w es r f = subst (λ (L : List Clause). Fault es L r) (sym (families-shown I s starts goals near w)) f
+whole I s starts goals near w h es r f = subst (λ (L : List Clause). Fault es L r) (sym (families-shown I s starts goals near w h)) f
 
 -- ---- of entries that have been read
 -- where one vertex is left to each agent at each time, the pass has found it
@@ -144,6 +155,20 @@ module _ (g : Given) (es : List ℤ) (p : List ℕ) (rd : Read (g .sizes) es p) 
       omega (arith, places which l o .inside t a x y, ap (λ (j : ℕ). getD p j 0) e)
 
   -- E leaves no vertex to two agents
-  pub apart : (which : ℕ) → 5 ≤ which → Before g es which → (t : ℕ) → t < suc (s .m) → (i j : ℕ) → i < j → j < s .k → planRow s p t i ≢ planRow s p t j
+  apart : (which : ℕ) → 5 ≤ which → Before g es which → (t : ℕ) → t < suc (s .m) → (i j : ℕ) → i < j → j < s .k → planRow s p t i ≢ planRow s p t j
   unfolding Before family sized
   apart which l h = read-E sized (true? es) (planRow s p) (places which (omega arith) h) .0 (h 4 (omega arith))
+
+  -- and F takes each agent across an edge, or leaves it
+  pub sound : s .n ≤ 64 → (which : ℕ) → 6 ≤ which → Before g es which → (t : ℕ) → t < s .m → Sound s (g .near) p t
+  unfolding Before family F
+  sound h which l o t x =
+      let c = places which (omega arith) o in
+      record {
+        size = rd .size;
+        time = x;
+        bytes = inside h which (omega arith) o;
+        inside = λ a y. c .inside t a (omega arith) y;
+        apart = apart which (omega arith) o t (omega arith);
+        crosses = read-rowF s es (rd .valid) (planRow s p) c (g .near) t x (for-all (satisfied? es) (s .m) _ .0 (o 5 (omega arith)) t x);
+      }

@@ -2,22 +2,24 @@
 use mathlib.Core.Path.{_≡_, refl, sym, _∙_, ap, ap₂, subst}
 use mathlib.Core.Logic.{_↔_, _≢_, by-cases}
 use mathlib.Core.List.{List, [], _∷_, _++_}
-use mathlib.Core.Bool.{Bool}
+use mathlib.Core.Bool.{Bool, not}
 use Prim.Native.Nat.{ℕ, suc, _+_, _*_, _-_, _≤_, _<_}
 use native.Mathlib.Nat.{le-refl}
 use native.Mathlib.Decide.{decLt}
 use native.Mathlib.Numerals.{add-one}
 use native.Mathlib.Omega.{arith}
 use borrow.Author.Count.{below-more, below-none}
+use borrow.Author.Tests.{ne-eqb}
 use lib.ListN.{length, getD, length-append, List·getD-append}
 use lib.Seq.{getD-append-add}
-use lib.Dec.{T, ltb}
+use lib.Dec.{T, ltb, eqb}
 use lib.IntN.{ℤ}
-use Rattle.lists.specs.Loop.{for, all}
+use Rattle.lists.specs.Loop.{for, when, all}
 use Rattle.lists.proofs.Tests.{ltb-iff}
-use Rattle.lists.proofs.Loops.{for-all, when-all, one-all, all-append, all-getD, for-split, for-length, for-above}
+use Rattle.lists.proofs.Loops.{for-all, when-all, one-all, all-append, all-getD, for-split, for-length, for-ext, for-above}
 use Rattle.lists.proofs.Blocks.{for1-length, for1-getD}
 use Rattle.lists.proofs.Slices.{for-room}
+use Rattle.lists.proofs.Sums.{others-length}
 use Rattle.lists.specs.Pairs.{pairsBelow}
 use Rattle.lists.proofs.Pairs.{beginning, beginning-length, lower-below}
 use Rattle.answers.specs.Fault.{FirstFault}
@@ -36,6 +38,14 @@ module _ (test : ℕ → Bool) (low n i : ℕ) (b : (j : ℕ) → low ≤ j → 
   pub stop-none : low ≤ i → i ≡ n → Stop test low n n
   stop-none h e =
       record { least = omega arith; within = le-refl n; before = λ j r l. b j r (omega arith); here = λ r. absurd (let f : ⊥ = omega arith in f) }
+
+-- the blocks of the numbers below b other than a, where o is b's place among the numbers other than a
+pub others-before : {A : Type 0} (c a b o : ℕ) (f : ℕ → List A) → ((i : ℕ) → i < b → length (f i) ≡ c) → b ≢ a → (b < a → o ≡ b) → (a < b → o ≡ b - 1)
+    → length (for b λ i. when (not (eqb a i)) (f i)) ≡ o * c
+others-before c a b o f len d low high =
+    by-cases (decLt b a)
+    (λ l. ap length (for-ext b _ f (λ i h. rw (ne-eqb a i (omega arith)))) ∙ for-length b c f len ∙ ap (λ (x : ℕ). x * c) (sym (low l)))
+    (λ l. let r : a < b = omega arith in others-length b c a r f len ∙ ap (λ (x : ℕ). x * c) (sym (high r)))
 
 -- a tally, one number more at a time
 module _ (test : ℕ → Bool) where

@@ -1,4 +1,4 @@
--- The rows of a plan alone: the lowest vertex that two agents share, one agent more at a time; and an agent that fails condition 2.
+-- The rows of a plan alone: the lowest vertex that two agents share, one agent more at a time; and an agent that fails condition 2 under rule 1.
 use mathlib.Core.Path.{_≡_, sym, _∙_}
 use mathlib.Core.List.{List}
 use mathlib.Core.Logic.{_↔_, _≢_, by-cases}
@@ -7,6 +7,7 @@ use Prim.Native.Nat.{ℕ, suc, _+_, _*_, _≤_, _<_}
 use native.Mathlib.Nat.{suc-mul}
 use native.Mathlib.Decide.{decLt, ℕ-discrete}
 use native.Mathlib.Omega.{arith}
+use borrow.Author.Tests.{ne-eqb}
 use lib.ListN.{getD}
 use lib.Dec.{T, eqb}
 use Rattle.lists.specs.Loop.{every}
@@ -14,6 +15,7 @@ use Rattle.instance.specs.declared.Sizes.{Sizes}
 use Rattle.plan.specs.Plan.{Row, planRow, condition, condition2}
 use Rattle.lists.proofs.Tests.{or-imp, not-iff, eqb-iff, every-iff}
 use Rattle.answers.specs.Fault.{FirstFault}
+use Rattle.answers.proofs.Faults.{fault-ext}
 use Rattle.satisfaction.specs.Rows.{Lowest}
 
 pub lowest-none : (P : ℕ → ℕ) (n : ℕ) → Lowest 0 P n n
@@ -55,7 +57,7 @@ shared-agent k P n v f d z a e g =
     let (i, j, o, r, q, q′) = f .here (omega (arith, f .within)) in
     by-cases (decLt i a) (λ l. absurd (simp (not-iff, eqb-iff) at (g .before i l) (q ∙ sym e))) (λ l. omega arith)
 
--- ---- condition 2, of agents that go from P to Q
+-- ---- condition 2 under rule 1, of agents that go from P to Q
 module _ (k : ℕ) (P Q : ℕ → ℕ) where
   pub keeps-or : (a : ℕ) → T (eqb (P a) (Q a) || (every k λ b. not (eqb (P b) (Q a)))) ↔ (P a ≢ Q a → (b : ℕ) → b < k → P b ≢ Q a)
   keeps-or a = simp (or-imp, every-iff, not-iff, eqb-iff) ((λ h. h), (λ h. h))
@@ -78,11 +80,11 @@ module _ (k : ℕ) (P Q : ℕ → ℕ) where
       let stood : P b ≡ Q r = by-cases (ℕ-discrete (P b) (Q r)) (λ q. q) (λ q. absurd (g .here lb (simp (not-iff, eqb-iff) (λ q′. q (q′ ∙ e))))) in
       record { agent = l; stander = lb; another = λ q. moves (rw q at stood); stood = stood; before = before-b }
 
--- condition 2 as the rows alone say it
-pub plain-2 : (s : Sizes) (near : ℕ → ℕ → Bool) (P Q : Row) (r : ℕ) → FirstFault (s .k) (condition s near 1 P Q) r
+-- condition 2 of rule 1 as the rows alone say it
+pub plain-2 : (s : Sizes) → s .rule ≢ 2 → (near : ℕ → ℕ → Bool) (P Q : Row) (r : ℕ) → FirstFault (s .k) (condition s near 1 P Q) r
     → FirstFault (s .k) (λ a. eqb (P a) (Q a) || (every (s .k) λ b. not (eqb (P b) (Q a)))) r
 unfolding condition2
-plain-2 s near P Q r f = f
+plain-2 s one near P Q r f = fault-ext (λ a l. rw (ne-eqb (s .rule) 2 one)) f
 
 pub next-row : (s : Sizes) (p : List ℕ) (t a : ℕ) → getD p (t * s .k + s .k + a) 0 ≡ planRow s p (suc t) a
 next-row s p t a = rw suc-mul

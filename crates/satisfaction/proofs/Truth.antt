@@ -13,7 +13,7 @@ use lib.Dec.{T, eqb}
 use lib.IntN.{ℤ}
 use Rattle.lists.specs.Loop.{for, when, all, every}
 use Rattle.lists.proofs.Tests.{or-imp, not-iff, eqb-iff}
-use Rattle.lists.proofs.Loops.{for-all, one-all, when-all, for-any, when-any, any-one, any-two, for-length, for-ext}
+use Rattle.lists.proofs.Loops.{for-all, one-all, when-all, for-any, when-any, any-one, any-two, for-length}
 use Rattle.lists.proofs.Blocks.{for1-length}
 use Rattle.lists.proofs.Slices.{for-room}
 use Rattle.lists.specs.Pairs.{pairsBelow}
@@ -22,8 +22,8 @@ use Rattle.answers.specs.Fault.{FirstFault}
 use Rattle.instance.specs.declared.Sizes.{Sizes}
 use Rattle.formula.specs.Variables.{X, ¬X, index, variableCount}
 use Rattle.formula.proofs.Places.{two-length}
-use Rattle.formula.specs.Formula.{Clause, somewhere, blockC, blockD, blockE, blockF, blockG}
-use Rattle.plan.specs.Plan.{planRow}
+use Rattle.formula.specs.Formula.{Clause, somewhere, blockC, blockD, blockE, blockF, noFollowing}
+use Rattle.plan.specs.Plan.{planRow, condition1}
 use Rattle.valuation.specs.Valuation.{true?, satisfied?}
 use Rattle.valuation.specs.Satisfying.{Valuation}
 use Rattle.valuation.specs.Places.{Places}
@@ -32,7 +32,7 @@ use Rattle.valuation.proofs.Entries.{true-no}
 use Rattle.satisfaction.specs.Rows.{Fault, Stop, says, denies, Seen, Read, Lowest}
 use Rattle.satisfaction.proofs.Entries.{right-says, skip-le, read-true, right-at}
 use Rattle.satisfaction.proofs.Steps.{keeps-or, Enters}
-use Rattle.satisfaction.proofs.Laws.{blocks-stop, blocks-pass, fault-all, for-stop, singles, pairs-pass, pairs-two}
+use Rattle.satisfaction.proofs.Laws.{others-before, blocks-stop, blocks-pass, fault-all, for-stop, singles, pairs-pass, pairs-two}
 
 -- agent a does not go where agent b stood
 abbrev follows : Sizes → ℕ → ℕ → ℕ → List Clause
@@ -51,7 +51,7 @@ module _ (s : Sizes) where
   pub length-F : (near : ℕ → ℕ → Bool) (t a : ℕ) → length (blockF s near t a) ≡ n
   length-F near t a = for1-length n _
 
-  pub length-G : (t a : ℕ) → a < k → length (blockG s t a) ≡ (k - 1) * n
+  pub length-G : (t a : ℕ) → a < k → length (noFollowing s t a) ≡ (k - 1) * n
   length-G t a l = others-length k n a l (follows s t a) (λ b h. for1-length n _)
 
 module _ (s : Sizes) (es : List ℤ) (w : Valuation (variableCount s) es) where
@@ -251,6 +251,15 @@ module _ (s : Sizes) (es : List ℤ) (w : Valuation (variableCount s) es) (P : �
           )),
         )
 
+    -- where every clause has a true literal, each agent keeps its vertex or crosses an edge
+    pub read-rowF : T (all satP (for k (blockF s near t))) → (a : ℕ) → a < k → T (condition1 near (P t) (P (suc t)) a)
+    unfolding condition1
+    read-rowF h a y =
+        let i = c .inside t a (omega arith) y in
+        or-imp (eqb (P t a) (P (suc t) a)) _ .1 (λ d.
+        iffF a (P t a) y i .0 (one-all satP (clauseF a (P t a)) .0 (for-all satP n _ .0 (for-all satP k (blockF s near t) .0 h a y) (P t a) i)) refl
+        (λ e. d (eqb-iff _ _ .1 e)))
+
     pass-F : (a : ℕ) → a < k → (P t a ≢ P (suc t) a → T (near (P t a) (P (suc t) a))) → T (all satP (blockF s near t a))
     pass-F a y h = for-all satP n _ .1 (λ v l. one-all satP (clauseF a v) .1 (iffF a v y l .1 (λ e d. rw e (h (λ e′. d (e ∙ e′))))))
 
@@ -284,7 +293,7 @@ module _ (s : Sizes) (es : List ℤ) (w : Valuation (variableCount s) es) (P : �
           (here-F r l (λ e. no .0 (eqb-iff _ _ .1 e)) (no .1))
           (c .inside t r (omega arith) l)
 
-  -- G, where no two agents share a vertex at time t
+  -- G under rule 1, where no two agents share a vertex at time t
   module _ (t : ℕ) (x : t < m) (apart : (a b : ℕ) → a < b → b < k → P t a ≢ P t b) where
     abbrev other : ℕ → ℕ → List Clause
     other a b = when (not (eqb a b)) (follows s t a b)
@@ -314,28 +323,20 @@ module _ (s : Sizes) (es : List ℤ) (w : Valuation (variableCount s) es) (P : �
     pass-others a r y l h =
         for-all satP r _ .1 (λ b o. when-all satP (not (eqb a b)) _ .1 (λ d. pass-follows a b y (omega arith) (h b o (λ e. not-iff (eqb a b) .0 d (eqb-iff a b .1 (sym e))))))
 
-    -- the clauses of the agents before b, among those other than a
-    below-others : (a b : ℕ) → b < a → length (for b (other a)) ≡ b * n
-    below-others a b l =
-        ap length (for-ext b (other a) (follows s t a) (λ i h. rw (ne-eqb a i (omega arith)))) ∙ for-length b n _ (λ i h. for1-length n _)
-
-    above-others : (a b : ℕ) → a < b → length (for b (other a)) ≡ (b - 1) * n
-    above-others a b l = others-length b n a l (follows s t a) (λ i h. for1-length n _)
-
     here-others : (a b : ℕ) → a < k → b < k → b ≢ a → ((i : ℕ) → i < b → i ≢ a → P t i ≢ P (suc t) a) → P t b ≡ P (suc t) a
-        → Fault es (blockG s t a) (length (for b (other a)) + P (suc t) a) × (length (for b (other a)) + P (suc t) a < (k - 1) * n)
+        → Fault es (noFollowing s t a) (length (for b (other a)) + P (suc t) a) × (length (for b (other a)) + P (suc t) a < (k - 1) * n)
     here-others a b y z d h e =
         let o : other a b ≡ follows s t a b = rw (ne-eqb a b (λ e. d (sym e))) in
         let i = c .inside (suc t) a (omega arith) y in
         let lo : length (other a b) ≡ n = ap length o ∙ for1-length n _ in (
           for-stop es (other a) k b (P (suc t) a) z (pass-others a b y (omega arith) h)
               (subst (λ (L : List Clause). Fault es L (P (suc t) a)) (sym o) (here-follows a b y z e)) (omega arith),
-          omega (arith, for-room (other a) z, above-others a k y),
+          omega (arith, for-room (other a) z, length-G s t a y),
         )
 
     -- r is the first agent that changes its vertex and goes to one on which an agent stood
     module _ (r : ℕ) (f : FirstFault k (λ a. eqb (P t a) (P (suc t) a) || (every k λ b. not (eqb (P t b) (P (suc t) a)))) r) where
-      below-G : (a : ℕ) → a < r → T (all satP (blockG s t a))
+      below-G : (a : ℕ) → a < r → T (all satP (noFollowing s t a))
       below-G a l =
           let y : a < k = omega (arith, f .within) in
           pass-others a k y (le-refl k) (λ b o d e.
@@ -343,19 +344,17 @@ module _ (s : Sizes) (es : List ℤ) (w : Valuation (variableCount s) es) (P : �
           (λ q. by-cases (decLt a b) (λ p. apart a b p o (q ∙ sym e)) (λ p. apart b a (omega arith) y (e ∙ sym q)))
           (λ q. keeps-or k (P t) (P (suc t)) a .0 (f .before a l) q b o e))
 
-      pub none-rowG : r ≡ k → Fault es (for k (blockG s t)) (k * ((k - 1) * n))
+      pub none-rowG : r ≡ k → Fault es (for k (noFollowing s t)) (k * ((k - 1) * n))
       none-rowG e =
-          subst (Fault es (for k (blockG s t))) (for-length k ((k - 1) * n) (blockG s t) (λ a l. length-G s t a l))
-          (fault-all es (for k (blockG s t)) (for-all satP k _ .1 (λ a l. below-G a (omega arith))))
+          subst (Fault es (for k (noFollowing s t))) (for-length k ((k - 1) * n) (noFollowing s t) (λ a l. length-G s t a l))
+          (fault-all es (for k (noFollowing s t)) (for-all satP k _ .1 (λ a l. below-G a (omega arith))))
 
-      pub here-rowG : (b i : ℕ) → Enters k (P t) (P (suc t)) r b → (b < r → i ≡ b) → (r < b → i ≡ b - 1) → Fault es (for k (blockG s t)) (r * ((k - 1) * n) + (i * n + P (suc t) r))
+      pub here-rowG : (b i : ℕ) → Enters k (P t) (P (suc t)) r b → (b < r → i ≡ b) → (r < b → i ≡ b - 1) → Fault es (for k (noFollowing s t)) (r * ((k - 1) * n) + (i * n + P (suc t) r))
       here-rowG b i en h h′ =
           let l = en .agent in
           let d = en .another in
-          let e : length (for b (other r)) ≡ i * n =
-          by-cases (decLt b r) (λ o. below-others r b o ∙ ap (λ (x : ℕ). x * n) (sym (h o)))
-          (λ o. let o′ : r < b = omega arith in above-others r b o′ ∙ ap (λ (x : ℕ). x * n) (sym (h′ o′))) in
+          let e : length (for b (other r)) ≡ i * n = others-before n r b i (follows s t r) (λ i o. for1-length n _) d h h′ in
           let (g, o) = here-others r b l (en .stander) d (λ i lt q. en .before i lt) (en .stood) in
-          subst (λ (x : ℕ). Fault es (for k (blockG s t)) (r * ((k - 1) * n) + (x + P (suc t) r))) e
-          (subst (λ (x : ℕ). Fault es (for k (blockG s t)) (x + (length (for b (other r)) + P (suc t) r))) (for-length r ((k - 1) * n) (blockG s t) (λ a o. length-G s t a (omega arith)))
-          (for-stop es (blockG s t) k r (length (for b (other r)) + P (suc t) r) l (for-all satP r _ .1 below-G) g (omega (arith, length-G s t r l))))
+          subst (λ (x : ℕ). Fault es (for k (noFollowing s t)) (r * ((k - 1) * n) + (x + P (suc t) r))) e
+          (subst (λ (x : ℕ). Fault es (for k (noFollowing s t)) (x + (length (for b (other r)) + P (suc t) r))) (for-length r ((k - 1) * n) (noFollowing s t) (λ a o. length-G s t a (omega arith)))
+          (for-stop es (noFollowing s t) k r (length (for b (other r)) + P (suc t) r) l (for-all satP r _ .1 below-G) g (omega (arith, length-G s t r l))))

@@ -2,18 +2,20 @@
 use mathlib.Core.Path.{_≡_}
 use mathlib.Core.Logic.{_↔_, _≢_}
 use mathlib.Core.List.{List, []}
-use mathlib.Core.Bool.{Bool}
-use Prim.Native.Nat.{ℕ, suc, _≤_, _<_}
+use mathlib.Core.Bool.{Bool, _&&_}
+use Prim.Native.Nat.{ℕ, suc, _^_, _≤_, _<_}
 use lib.ListN.{length, getD}
-use lib.Dec.{T}
+use lib.Dec.{T, ltb, eqb}
 use lib.IntN.{ℤ, pos, negℤ}
-use Rattle.lists.specs.Loop.{for, all}
+use Rattle.lists.specs.Loop.{for, all, some}
 use Rattle.answers.specs.Fault.{FirstFault}
 use Rattle.instance.specs.declared.Sizes.{Sizes}
+use Rattle.instance.specs.Instance.{joined, edgesBefore}
 use Rattle.formula.specs.Variables.{X, variableCount}
 use Rattle.formula.specs.Formula.{Clause}
 use Rattle.formula.specs.Blocks.{Given, blocksAt, family, block}
-use Rattle.plan.specs.Plan.{planBytes, planRow}
+use Rattle.conditions.specs.Inside.{Inside}
+use Rattle.plan.specs.Plan.{Row, planBytes, planRow, condition1}
 use Rattle.valuation.specs.Valuation.{entry, sameNumber, true?, satisfied?}
 use Rattle.valuation.specs.Satisfying.{Valuation}
 
@@ -56,13 +58,36 @@ pub record Lowest (k : ℕ) (P : ℕ → ℕ) (n r : ℕ) : Type 0 where
   pub here : r < n → (a b : ℕ) × (a < b) × (b < k) × (P a ≡ r) × (P b ≡ r)
 
 module _ (s : Sizes) where
-  open Sizes s using (n, k, m)
+  open Sizes s using (n, k, e, m)
 
   -- byte t·k + a of p is what the entries say of agent a at time t
   pub record Read (entries : List ℤ) (p : List ℕ) : Type 0 where
     pub size : length p ≡ planBytes s
     pub valid : Valuation (variableCount s) entries
     pub seen : (t a : ℕ) → t < suc m → a < k → Seen n (λ v. true? entries (X s t a v)) (planRow s p t a)
+
+  -- the words of neighbours hold e edges, and no bit from n on
+  pub record Graph (near : List ℕ) : Type 0 where
+    pub edged : e ≡ edgesBefore (joined near) n n 0
+    pub words-below : (v : ℕ) → v < 64 → getD near v 0 < 2 ^ n
+
+  -- what families C to F leave to G of the plan p, at a time t of G's: each agent is at a vertex, no two share one, and each keeps its
+  -- vertex or crosses an edge
+  pub record Sound (near : ℕ → ℕ → Bool) (p : List ℕ) (t : ℕ) : Type 0 where
+    pub size : length p ≡ planBytes s
+    pub time : t < m
+    pub bytes : Inside p
+    pub inside : (a : ℕ) → a < k → planRow s p t a < n
+    pub apart : (a b : ℕ) → a < b → b < k → planRow s p t a ≢ planRow s p t b
+    pub crosses : (a : ℕ) → a < k → T (condition1 near (planRow s p t) (planRow s p (suc t)) a)
+
+-- agent a goes from u to v
+abbrev pub goes : Row → Row → ℕ → ℕ → ℕ → Bool
+goes here next u v a = eqb (here a) u && eqb (next a) v
+
+-- of k agents, one goes from u up to v, and one from v to u
+unfoldable pub crossed : ℕ → Row → Row → ℕ → ℕ → Bool
+crossed k here next u v = ltb u v && (some k (goes here next u v) && some k (goes here next v u))
 
 module _ (g : Given) where
   -- row t of the family with a number: its blocks of time t

@@ -2,6 +2,9 @@
 // none is written out. One pass over the entries finds the wrong one and, of each agent at each time, its one vertex, or that there
 // is none or several: this is the plan where families C and D hold, and then E, F and G are asked of the plan alone, F and G by the
 // conditions of the plan check.
+mod family_g;
+
+use family_g::part_g;
 use instance::Sizes;
 use variables::Agent;
 use variables::Step;
@@ -16,7 +19,7 @@ ghost use Rattle.answers.specs.Fault.{FirstFault};
 ghost use lib.Dec.{T};
 ghost use Rattle.instance.specs.Instance.{free, joined};
 ghost use Rattle.formula.specs.Variables.{highest, variableCount, X};
-ghost use Rattle.formula.specs.Formula.{blockC, blockD, blockE, blockF, blockG};
+ghost use Rattle.formula.specs.Formula.{blockC, blockD, blockE, blockF};
 ghost use Rattle.formula.specs.Blocks.{times, family, heldIn};
 ghost use Rattle.instance.specs.Limits.{Limits};
 ghost use Rattle.instance.specs.Ready.{Ready};
@@ -28,7 +31,6 @@ ghost use Rattle.valuation.specs.Places.{Places};
 ghost use Rattle.satisfaction.specs.Rows.{Fault, Stop, Tallied, says, denies, Seen, Read, Lowest, row, Before};
 ghost use lib.IntN.{ℤ};
 ghost use mathlib.Core.List.{List};
-ghost use mathlib.Core.Logic.{_≢_};
 
 // What the entries of one agent and time say: the first wrong one, or the end; and the vertex, n for none, n + 1 for several.
 pub struct Row {
@@ -286,37 +288,6 @@ fn fault_f(s: Sizes, near: &[u64; 64], p: &[u8], t: usize) -> usize
     a * n + numbers::wide(p[t * k + a])
 }
 
-// The place of agent b among the agents other than a.
-fn other_at(a: usize, b: usize) -> usize
-    ensures { λ r. ⌜ ((b < a → r ≡ b) × (a < b → r ≡ b - 1) × (r ≤ b)) ⌝ }
-{
-    if a < b {
-        return b - 1;
-    }
-    b
-}
-
-// Family G at time t, where no two agents share a vertex then: the first agent that fails condition 2, the agent that stood where it
-// goes, and that vertex.
-fn fault_g(s: Sizes, near: &[u64; 64], p: &[u8], t: usize) -> usize
-    requires { ⌜ Limits s ⌝ }
-    requires { ⌜ (length (now p) ≡ planBytes s) × (t < s .m) × Inside (now p) ⌝ }
-    requires { ⌜ ((i j : ℕ) → i < j → j < s .k → planRow s (now p) t i ≢ planRow s (now p) t j) ⌝ }
-    ensures { λ r. ⌜ ((es : List ℤ) → Valuation (variableCount s) es → Places s (true? es) (planRow s (now (p .entry))) → Fault es (for (s .k) (blockG s t)) r) ⌝ }
-{
-    let n = s.n;
-    let k = s.k;
-    let size = (k - 1) * n;
-    let row = t * k;
-    let a = conditions::step_fault(s, near, 1, p, t);
-    if a == k {
-        return k * size;
-    }
-    let w = p[row + k + a];
-    let stander = conditions::first_on(p, row, k, w);
-    a * size + (other_at(a, stander) * n + numbers::wide(w))
-}
-
 // Row t of a family, where the families before it have a true literal in every clause.
 fn row_fault(
     s: Sizes,
@@ -331,7 +302,7 @@ fn row_fault(
     requires { ⌜ Ready s (now starts) (now goals) (now near) ⌝ }
     requires { ⌜ Read s (now entries) (now p) ⌝ }
     requires { ⌜ (which < 7) × (t < times s which) × Before (heldIn s (now starts) (now goals) (now near)) (now entries) which ⌝ }
-    ensures { λ r. ⌜ (length (row (heldIn s (now (starts .entry)) (now (goals .entry)) (now (near .entry))) which t) ≡ r .size) × (r .size ≤ 32768) ⌝ }
+    ensures { λ r. ⌜ (length (row (heldIn s (now (starts .entry)) (now (goals .entry)) (now (near .entry))) which t) ≡ r .size) × (r .size ≤ 483840) ⌝ }
     ensures { λ r. ⌜ Fault (now (entries .entry)) (row (heldIn s (now (starts .entry)) (now (goals .entry)) (now (near .entry))) which t) (r .fault) ⌝ }
 {
     let n = s.n;
@@ -361,10 +332,7 @@ fn row_fault(
             size: k * n,
             fault: fault_f(s, near, p, t),
         },
-        _ => Part {
-            size: k * ((k - 1) * n),
-            fault: fault_g(s, near, p, t),
-        },
+        _ => part_g(s, near, p, t),
     }
 }
 

@@ -12,7 +12,7 @@ use lib.IntN.{ℤ}
 use Rattle.lists.proofs.Tests.{or-iff, eqb-iff}
 use Rattle.lists.proofs.Loops.{for-all, when-all, one-all, any-one, all-append}
 use Rattle.instance.specs.declared.Sizes.{Sizes}
-use Rattle.instance.specs.Instance.{Instance, HasGoal, adjacent, Endpoints}
+use Rattle.instance.specs.Instance.{Instance, HasGoal, adjacent, Edges, Endpoints}
 use Rattle.instance.proofs.Graph.{adjacent-iff}
 use Rattle.distances.specs.Distance.{unreachable, further, within, startToGoal}
 use Rattle.distances.proofs.Within.{within-step, within-more, distance-most, further-iff}
@@ -85,13 +85,13 @@ module _ (I : Instance) where
           (or-iff (further t (fromStart I a v)) (further (m - t) (fromGoal I a v)) .0 f)))
 
   -- a valuation satisfies the pruned formula exactly when it satisfies the base formula
-  pub sat-pruned : Endpoints I → n ≤ unreachable → (es : List ℤ) → Valuation (variableCount sizes) es
+  pub sat-pruned : Endpoints I → Edges I → n ≤ unreachable → (es : List ℤ) → Valuation (variableCount sizes) es
       → Sat (true? es) (pruned I .clauses) ↔ Sat (true? es) (clauses I)
-  sat-pruned ends few es w = (
+  sat-pruned ends graph few es w = (
     (λ q. all-append _ (clauses I) (familyH I) .0 q .0),
     (λ q.
         let (x, y) = sat-CD I (true? es) q in
         let c = named-places I es w x y in
-        let o = satisfies-iff I ends (named sizes es) (true? es) c .0 q in
+        let o = satisfies-iff I ends graph (named sizes es) (true? es) c .0 q in
         all-append _ (clauses I) (familyH I) .1 (q, sat-H (named sizes es) o (c .inside) ends few (true? es) c)),
   )

@@ -22,18 +22,18 @@ pub fn say(
     mut words: Vec<i32>,
     mut plan: Vec<u8>,
 ) -> Said {
-    let m = handed.horizon;
+    let (m, rule) = (handed.horizon, handed.rule);
     let answer = match call {
-        WRITER => write_formula(instance, m, &mut words).into(),
-        CLAUSE => clause(instance, m, handed.clause.unwrap_or(0), &mut words).into(),
-        PLAN => check_plan(instance, m, handed.plan).into(),
-        DECODER => decode(instance, m, handed.entries, &mut plan).into(),
-        ENCODER => encode(instance, m, handed.plan, &mut words).into(),
-        READER => read_valuation(instance, m, handed.text, &mut words).into(),
+        WRITER => write_formula(instance, m, rule, &mut words).into(),
+        CLAUSE => clause(instance, m, rule, handed.clause.unwrap_or(0), &mut words).into(),
+        PLAN => check_plan(instance, m, rule, handed.plan).into(),
+        DECODER => decode(instance, m, rule, handed.entries, &mut plan).into(),
+        ENCODER => encode(instance, m, rule, handed.plan, &mut words).into(),
+        READER => read_valuation(instance, m, rule, handed.text, &mut words).into(),
         FLOOR => floor(instance).into(),
-        PRUNED => write_pruned(instance, m, &mut words).into(),
-        SIZE => formula_size(instance, m),
-        _ => pruned_size(instance, m),
+        PRUNED => write_pruned(instance, m, rule, &mut words).into(),
+        SIZE => formula_size(instance, m, rule),
+        _ => pruned_size(instance, m, rule),
     };
     Said {
         answer,

@@ -11,8 +11,8 @@ pub fn floor(instance: &[u8]) -> Answer {
 }
 
 fn greatest(bytes: &[u8]) -> Result<usize, Answer> {
-    // No horizon is given; with 0 question 10 says yes.
-    let instance = Instance::read(bytes, 0)?;
+    // No horizon and no rule are given; to these questions 10 and 31 say yes.
+    let instance = Instance::read(bytes, 0, 1)?;
     let mut floor = 0;
     for (a, goal) in instance.goals() {
         match distances(&instance, instance.starts[a])[usize::from(goal)] {

@@ -584,8 +584,8 @@ impl Told {
     }
 
     /// Adds a formula that the pruned writer wrote.
-    pub fn pruned(&mut self, instance: &[u8], m: u64, words: &[i32]) {
-        let first = formula_size(instance, m).second as usize;
+    pub fn pruned(&mut self, instance: &[u8], m: u64, rule: u64, words: &[i32]) {
+        let first = formula_size(instance, m, rule).second as usize;
         let map = Map::new(instance);
         let m = m as usize;
         let written = |literals: Vec<i32>| {

@@ -1,30 +1,36 @@
 //! The formulas' sizes, their writers, and one clause by number.
 
 use crate::distances::family_h;
-use crate::instance::Instance;
+use crate::instance::{Instance, Rule};
 use crate::{answer, refuse, Answer, Size};
 
 /// The size of the formula.
-pub fn formula_size(instance: &[u8], horizon: u64) -> Size {
-    size(instance, horizon, without_h)
+pub fn formula_size(instance: &[u8], horizon: u64, rule: u64) -> Size {
+    size(instance, horizon, rule, without_h)
 }
 
 /// The size of the formula with family H.
-pub fn pruned_size(instance: &[u8], horizon: u64) -> Size {
-    size(instance, horizon, family_h)
+pub fn pruned_size(instance: &[u8], horizon: u64, rule: u64) -> Size {
+    size(instance, horizon, rule, family_h)
 }
 
 /// Writes the whole formula. Family F looks the neighbours of each vertex up
 /// once in the edge arrays.
-pub fn write_formula(instance: &[u8], horizon: u64, words: &mut [i32]) -> Answer {
-    answer(write(instance, horizon, words, write_f, without_h))
+pub fn write_formula(instance: &[u8], horizon: u64, rule: u64, words: &mut [i32]) -> Answer {
+    answer(write(instance, horizon, rule, words, write_f, without_h))
 }
 
 /// The same formula, but family F searches the edge arrays anew for each clause.
-pub fn write_formula_searching(instance: &[u8], horizon: u64, words: &mut [i32]) -> Answer {
+pub fn write_formula_searching(
+    instance: &[u8],
+    horizon: u64,
+    rule: u64,
+    words: &mut [i32],
+) -> Answer {
     answer(write(
         instance,
         horizon,
+        rule,
         words,
         write_f_searching,
         without_h,
@@ -32,8 +38,8 @@ pub fn write_formula_searching(instance: &[u8], horizon: u64, words: &mut [i32])
 }
 
 /// Writes the whole formula and family H after it.
-pub fn write_pruned(instance: &[u8], horizon: u64, words: &mut [i32]) -> Answer {
-    answer(write(instance, horizon, words, write_f, family_h))
+pub fn write_pruned(instance: &[u8], horizon: u64, rule: u64, words: &mut [i32]) -> Answer {
+    answer(write(instance, horizon, rule, words, write_f, family_h))
 }
 
 type WriteF = fn(&Instance, &mut [i32]);
@@ -45,8 +51,8 @@ fn without_h(_: &Instance) -> Vec<i32> {
     Vec::new()
 }
 
-fn size(bytes: &[u8], horizon: u64, after_g: AfterG) -> Size {
-    match Instance::read(bytes, horizon) {
+fn size(bytes: &[u8], horizon: u64, rule: u64, after_g: AfterG) -> Size {
+    match Instance::read(bytes, horizon, rule) {
         Ok(instance) => {
             let added = after_g(&instance).len();
             let words: usize = instance.word_counts().iter().sum();
@@ -65,11 +71,12 @@ fn size(bytes: &[u8], horizon: u64, after_g: AfterG) -> Size {
 fn write(
     bytes: &[u8],
     horizon: u64,
+    rule: u64,
     words: &mut [i32],
     write_f: WriteF,
     after_g: AfterG,
 ) -> Result<usize, Answer> {
-    let instance = Instance::read(bytes, horizon)?;
+    let instance = Instance::read(bytes, horizon, rule)?;
     let literals = after_g(&instance);
     let first: usize = instance.word_counts().iter().sum();
     let needed = first + 2 * literals.len();
@@ -100,7 +107,10 @@ fn fill(instance: &Instance, words: &mut [i32], write_f: WriteF) {
     write_d(instance, part_d);
     write_e(instance, part_e);
     write_f(instance, part_f);
-    write_g(instance, part_g);
+    match instance.rule {
+        Rule::Vacant => write_g(instance, part_g),
+        Rule::Exchange => write_exchanges(instance, part_g),
+    }
 }
 
 /// Families A and B: agents and their vertices at time t.
@@ -210,6 +220,7 @@ fn write_f_searching(instance: &Instance, part: &mut [i32]) {
     }
 }
 
+/// Family G under rule 1.
 fn write_g(instance: &Instance, mut part: &mut [i32]) {
     let (n, k) = (instance.n, instance.k);
     for t in 0..instance.m {
@@ -229,13 +240,34 @@ fn write_g(instance: &Instance, mut part: &mut [i32]) {
     }
 }
 
-/// Writes the clause of this number and its 0.
-pub fn clause(instance: &[u8], horizon: u64, number: u64, words: &mut [i32]) -> Answer {
-    answer(one_clause(instance, horizon, number, words))
+/// Family G under rule 2.
+fn write_exchanges(instance: &Instance, part: &mut [i32]) {
+    let k = instance.k;
+    let mut clauses = part.chunks_exact_mut(5);
+    for (t, (u, v)) in instance.times_and_edges() {
+        for a in 0..k {
+            let (from_u, to_v) = (instance.x(t, a, u), instance.x(t + 1, a, v));
+            for (b, clause) in (0..k).filter(|&b| b != a).zip(&mut clauses) {
+                let (from_v, to_u) = (instance.x(t, b, v), instance.x(t + 1, b, u));
+                clause.copy_from_slice(&[-from_u, -to_v, -from_v, -to_u, 0]);
+            }
+        }
+    }
 }
 
-fn one_clause(bytes: &[u8], horizon: u64, number: u64, words: &mut [i32]) -> Result<usize, Answer> {
-    let instance = Instance::read(bytes, horizon)?;
+/// Writes the clause of this number and its 0.
+pub fn clause(instance: &[u8], horizon: u64, rule: u64, number: u64, words: &mut [i32]) -> Answer {
+    answer(one_clause(instance, horizon, rule, number, words))
+}
+
+fn one_clause(
+    bytes: &[u8],
+    horizon: u64,
+    rule: u64,
+    number: u64,
+    words: &mut [i32],
+) -> Result<usize, Answer> {
+    let instance = Instance::read(bytes, horizon, rule)?;
     let counts = instance.clause_counts();
     let count: usize = counts.iter().sum();
     if number >= count as u64 {
@@ -298,17 +330,31 @@ fn build(instance: &Instance, family: usize, index: usize) -> ([i32; 66], usize)
                 .neighbours(v)
                 .for_each(|w| push(instance.x(t + 1, a, w)));
         }
+        _ if instance.rule == Rule::Exchange => {
+            let (rest, (a, b)) = (index / (k * (k - 1)), two_agents(index, k));
+            let e = instance.edge_count();
+            let (t, (u, v)) = (rest / e, instance.edge(rest % e));
+            push(-instance.x(t, a, u));
+            push(-instance.x(t + 1, a, v));
+            push(-instance.x(t, b, v));
+            push(-instance.x(t + 1, b, u));
+        }
         _ => {
             let (rest, v) = (index / n, index % n);
-            let (row, other) = (rest / (k - 1), rest % (k - 1));
-            let (t, a) = (row / k, row % k);
-            let b = if other < a { other } else { other + 1 };
+            let (t, (a, b)) = (rest / (k * (k - 1)), two_agents(rest, k));
             push(-instance.x(t, b, v));
             push(-instance.x(t + 1, a, v));
         }
     }
     push(0);
     (clause, length)
+}
+
+/// The agents a and b at `index`, taken again and again through all that differ, a
+/// slowest.
+fn two_agents(index: usize, k: usize) -> (usize, usize) {
+    let (a, other) = (index / (k - 1) % k, index % (k - 1));
+    (a, if other < a { other } else { other + 1 })
 }
 
 /// The pair at `index` among the pairs v < w below `count`, v slowest.

@@ -5,7 +5,7 @@ use crate::calls::Said;
 use crate::costs::{runs, until_rest};
 use crate::parts::Parts;
 use crate::plain;
-use crate::questions::{failing, turn, Handed, Item, ASKED};
+use crate::questions::{failing, order, question, turn, Handed, Item, ASKED};
 use crate::questions::{CLAUSE, DECODER, ENCODER, FLOOR, PLAN, PRUNED, PRUNED_SIZE, SIZE, WRITER};
 use crate::sample::{instance_bytes, path_edges};
 use crate::{formula_size, is_free, NO_GOAL};
@@ -451,19 +451,20 @@ const COSTS: [(&str, Cost); 2] = [
     ("cost: a free agent never rests", |run| run.len() - 1),
 ];
 
-/// The wrong formulas of an instance and its horizon.
+/// The wrong formulas of an instance, its horizon and its rule.
 struct Rewritten {
     instance: Vec<u8>,
     horizon: u64,
+    rule: u64,
     formulas: Vec<Vec<Vec<i32>>>,
 }
 
 impl Rewritten {
     fn new(parts: &Parts, handed: &Handed) -> Rewritten {
-        let (instance, horizon) = (handed.instance.to_vec(), handed.horizon);
+        let (horizon, rule) = (handed.horizon, handed.rule);
         let m = horizon as usize;
-        let mut clauses = plain::clauses(&instance, horizon).into_iter();
-        let counts = parts.clause_counts(m);
+        let mut clauses = plain::clauses(handed.instance, horizon, rule).into_iter();
+        let counts = parts.clause_counts(m, rule);
         let families: Families =
             counts.map(|count| clauses.by_ref().take(count as usize).collect());
         let rewritten = |rewrite: Rewrite| {
@@ -473,8 +474,9 @@ impl Rewritten {
         };
         let formulas = FORMULAS.map(|(_, _, rewrite)| rewritten(rewrite)).to_vec();
         Rewritten {
-            instance,
+            instance: handed.instance.to_vec(),
             horizon,
+            rule,
             formulas,
         }
     }
@@ -572,12 +574,13 @@ impl Told {
             DECODER => matches!(number, 0 | 24),
             _ => false,
         };
-        let size = formula_size(handed.instance, handed.horizon);
+        let size = formula_size(handed.instance, handed.horizon, handed.rule);
         if !tells || size.second > MOST_WORDS {
             return;
         }
         let known = self.rewritten.take().filter(|known| {
-            (&known.instance[..], known.horizon) == (handed.instance, handed.horizon)
+            (&known.instance[..], known.horizon, known.rule)
+                == (handed.instance, handed.horizon, handed.rule)
         });
         let known = known.unwrap_or_else(|| Rewritten::new(parts, handed));
         for ((name, ..), clauses) in FORMULAS.iter().zip(&known.formulas) {
@@ -622,8 +625,9 @@ impl Told {
 
 /// Would a program that edits these questions' items so answer otherwise?
 fn differs(asked: &Asked, said: &Said, numbers: &[u32], edit: Edit) -> bool {
-    if matches!(said.answer.number, 8..=10) && said.answer.number < numbers[0] {
-        // They are never asked; the horizon may be any.
+    let answered = order(question(said.answer.number));
+    if matches!(said.answer.number, 8..=10 | 31) && answered < order(numbers[0]) {
+        // They are never asked; the horizon and the rule may be any.
         return false;
     }
     let items = numbers.iter().flat_map(|&number| {

@@ -1,4 +1,4 @@
-//! The instance bytes and questions 1 to 10.
+//! The instance bytes, the horizon and the rule: questions 1 to 10 and 31.
 
 use crate::{answer, refuse, Answer};
 
@@ -10,24 +10,35 @@ pub fn is_free(goal: u8) -> bool {
     goal == NO_GOAL
 }
 
-/// An accepted instance with its horizon m. The arrays are parts of the bytes.
+/// The movement rule: condition 2 and family G.
+#[derive(Clone, Copy, PartialEq, Eq, Debug)]
+pub(crate) enum Rule {
+    /// Rule 1: nobody enters a vertex that was occupied.
+    Vacant,
+    /// Rule 2: no two agents exchange vertices.
+    Exchange,
+}
+
+/// An accepted instance with its horizon m and its rule. The arrays are parts of
+/// the bytes.
 pub(crate) struct Instance<'a> {
     pub n: usize,
     pub k: usize,
     pub m: usize,
+    pub rule: Rule,
     low: &'a [u8],
     high: &'a [u8],
     pub starts: &'a [u8],
     goals: &'a [u8],
 }
 
-/// Questions 1 to 10 alone; the count is 0.
-pub fn check_instance(instance: &[u8], horizon: u64) -> Answer {
-    answer(Instance::read(instance, horizon).map(|_| 0))
+/// Questions 1 to 10 and 31 alone; the count is 0.
+pub fn check_instance(instance: &[u8], horizon: u64, rule: u64) -> Answer {
+    answer(Instance::read(instance, horizon, rule).map(|_| 0))
 }
 
 impl<'a> Instance<'a> {
-    pub fn read(bytes: &'a [u8], horizon: u64) -> Result<Instance<'a>, Answer> {
+    pub fn read(bytes: &'a [u8], horizon: u64, rule: u64) -> Result<Instance<'a>, Answer> {
         let &[n, k, e_low, e_high, ref arrays @ ..] = bytes else {
             return refuse(1, bytes.len());
         };
@@ -64,10 +75,16 @@ impl<'a> Instance<'a> {
         if horizon > 32 {
             return refuse(10, 0);
         }
+        let rule = match rule {
+            1 => Rule::Vacant,
+            2 => Rule::Exchange,
+            _ => return refuse(31, 0),
+        };
         Ok(Instance {
             n,
             k,
             m: horizon as usize,
+            rule,
             low,
             high,
             starts,
@@ -131,8 +148,19 @@ impl<'a> Instance<'a> {
             (m + 1) * k * (n * (n - 1) / 2),
             (m + 1) * n * (k * (k - 1) / 2),
             m * k * n,
-            m * k * (k - 1) * n,
+            match self.rule {
+                Rule::Vacant => m * k * (k - 1) * n,
+                Rule::Exchange => m * self.edge_count() * k * (k - 1),
+            },
         ]
+    }
+
+    /// Words of a clause of family G, its zero included.
+    pub fn g_words(&self) -> usize {
+        match self.rule {
+            Rule::Vacant => 3,
+            Rule::Exchange => 5,
+        }
     }
 
     /// Word counts of the families A to G, zeros included.
@@ -146,8 +174,20 @@ impl<'a> Instance<'a> {
             3 * d,
             3 * e,
             m * k * (3 * n + 2 * self.edge_count()),
-            3 * g,
+            self.g_words() * g,
         ]
+    }
+
+    /// The edge at this index: its low end and its high end.
+    pub fn edge(&self, j: usize) -> (usize, usize) {
+        (self.low[j].into(), self.high[j].into())
+    }
+
+    /// The times before m, each with all edges in stored order: the order of family
+    /// G under rule 2.
+    pub fn times_and_edges(&self) -> impl Iterator<Item = (usize, (usize, usize))> + '_ {
+        let edges = move |t: usize| (0..self.edge_count()).map(move |j| (t, self.edge(j)));
+        (0..self.m).flat_map(edges)
     }
 
     /// The edge indexes whose low end is v.

@@ -1,15 +1,18 @@
 //! A second, independent program for shuttle formulas, valuations and plans.
 //!
 //! The ten calls and `check_instance` work on raw bytes and never panic; `calls`
-//! makes them by number. `plain` generates the clauses slowly, `questions` asks one question at a
-//! time, `sample`, `parts` and `output` make test inputs, `costs` has plans with
-//! known costs, `floors` maps with known floors and families H, `sizes` formulas
-//! with known sizes, `free` instances with agents that have no goal, and `text`
-//! prints a formula as DIMACS CNF.
+//! makes them by number. `plain` generates the clauses slowly, `questions` asks one
+//! question at a time, `sample`, `closing`, `parts` and `output` make test inputs,
+//! `costs` has plans with known costs, `floors` maps with known floors and families
+//! H, `sizes` formulas with known sizes, `free` instances with agents that have no
+//! goal, `rules` those on which the movement rule matters, `wrong_rules` programs that
+//! are wrong about it, and `text` prints a formula as DIMACS CNF.
 
 #![forbid(unsafe_code)]
 
+mod asked;
 pub mod calls;
+pub mod closing;
 pub mod costs;
 mod distances;
 pub mod floors;
@@ -22,10 +25,14 @@ pub mod plain;
 mod plan;
 pub mod questions;
 mod reader;
+pub mod rules;
 pub mod sample;
 pub mod sizes;
 pub mod text;
+mod twice;
 mod valuation;
+pub mod wrong_rules;
+mod wrong_steps;
 
 #[cfg(test)]
 mod tests;

@@ -65,8 +65,8 @@ impl Parts {
         (0..self.n as u8).filter(|&w| self.has_edge(v, w)).collect()
     }
 
-    /// Clause counts of the families A to G.
-    pub fn clause_counts(&self, m: usize) -> [u64; 7] {
+    /// Clause counts of the families A to G under rule 1 or 2.
+    pub fn clause_counts(&self, m: usize, rule: u64) -> [u64; 7] {
         let (n, k, m) = (self.n as u64, self.k() as u64, m as u64);
         [
             k,
@@ -75,13 +75,19 @@ impl Parts {
             (m + 1) * k * n * (n - 1) / 2,
             (m + 1) * n * k * (k - 1) / 2,
             m * k * n,
-            m * k * (k - 1) * n,
+            m * k
+                * (k - 1)
+                * if rule == 1 {
+                    n
+                } else {
+                    self.edges.len() as u64
+                },
         ]
     }
 
     /// The family, from 0, that holds this clause number.
-    pub fn family(&self, m: usize, mut number: u64) -> usize {
-        let counts = self.clause_counts(m);
+    pub fn family(&self, m: usize, rule: u64, mut number: u64) -> usize {
+        let counts = self.clause_counts(m, rule);
         let mut family = 0;
         while family < 6 && number >= counts[family] {
             number -= counts[family];

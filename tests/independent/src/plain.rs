@@ -51,8 +51,9 @@ pub fn time_agent_vertex(n: usize, m: usize, variable: i32) -> (usize, usize, us
     (row % (m + 1), row / (m + 1), v)
 }
 
-/// All clauses of an accepted instance, without the closing zeros.
-pub fn clauses(instance: &[u8], horizon: u64) -> Vec<Vec<i32>> {
+/// All clauses of an accepted instance, without the closing zeros. Only rules 1 and
+/// 2 have a family G.
+pub fn clauses(instance: &[u8], horizon: u64, rule: u64) -> Vec<Vec<i32>> {
     let parts = parts(instance);
     let (n, k, m) = (parts.n, parts.k, horizon as usize);
     let x = |t: usize, a: usize, v: usize| variable(n, m, t, a, v);
@@ -116,11 +117,26 @@ pub fn clauses(instance: &[u8], horizon: u64) -> Vec<Vec<i32>> {
     }
     // G
     for t in 0..m {
-        for a in 0..k {
-            for b in 0..k {
-                if a != b {
-                    for v in 0..n {
-                        all.push(vec![-x(t, b, v), -x(t + 1, a, v)]);
+        if rule == 1 {
+            for a in 0..k {
+                for b in 0..k {
+                    if a != b {
+                        for v in 0..n {
+                            all.push(vec![-x(t, b, v), -x(t + 1, a, v)]);
+                        }
+                    }
+                }
+            }
+        }
+        if rule == 2 {
+            for (u, v) in &parts.edges {
+                for a in 0..k {
+                    for b in 0..k {
+                        if a != b {
+                            let a_goes = [-x(t, a, *u), -x(t + 1, a, *v)];
+                            let b_goes = [-x(t, b, *v), -x(t + 1, b, *u)];
+                            all.push([a_goes, b_goes].concat());
+                        }
                     }
                 }
             }
@@ -243,8 +259,8 @@ pub fn valuation(n: usize, k: usize, plan: &[u8]) -> Vec<i32> {
     entries
 }
 
-/// Does this plan of (m+1)·k bytes pass, for an accepted instance?
-pub fn passes(instance: &[u8], horizon: u64, plan: &[u8]) -> bool {
+/// Does this plan of (m+1)·k bytes pass, for an accepted instance, under rule 1 or 2?
+pub fn passes(instance: &[u8], horizon: u64, rule: u64, plan: &[u8]) -> bool {
     let parts = parts(instance);
     let (k, m) = (parts.k, horizon as usize);
     let at = |t: usize, a: usize| plan[t * k + a] as usize;
@@ -258,9 +274,16 @@ pub fn passes(instance: &[u8], horizon: u64, plan: &[u8]) -> bool {
         |t: usize, a: usize| at(t, a) == at(t + 1, a) || parts.adjacent(at(t, a), at(t + 1, a));
     let enters_vacant =
         |t: usize, a: usize| at(t, a) == at(t + 1, a) || agents().all(|b| at(t, b) != at(t + 1, a));
+    let exchanges = |t: usize, a: usize| {
+        agents().any(|b| b != a && at(t, b) == at(t + 1, a) && at(t + 1, b) == at(t, a))
+    };
+    let condition_2 = |t: usize, a: usize| match rule {
+        1 => enters_vacant(t, a),
+        _ => !exchanges(t, a),
+    };
     let alone = |t: usize, a: usize| agents().all(|b| b == a || at(t + 1, b) != at(t + 1, a));
     ends && (0..m)
-        .all(|t| agents().all(|a| keeps_or_crosses(t, a) && enters_vacant(t, a) && alone(t, a)))
+        .all(|t| agents().all(|a| keeps_or_crosses(t, a) && condition_2(t, a) && alone(t, a)))
 }
 
 /// The cost of a plan that passes: an agent is busy at a time when it is

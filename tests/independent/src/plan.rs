@@ -1,15 +1,15 @@
 //! The plan check.
 
-use crate::instance::Instance;
+use crate::instance::{Instance, Rule};
 use crate::{answer, refuse, Answer};
 
 /// The count is the cost.
-pub fn check_plan(instance: &[u8], horizon: u64, plan: &[u8]) -> Answer {
-    answer(check(instance, horizon, plan))
+pub fn check_plan(instance: &[u8], horizon: u64, rule: u64, plan: &[u8]) -> Answer {
+    answer(check(instance, horizon, rule, plan))
 }
 
-fn check(bytes: &[u8], horizon: u64, plan: &[u8]) -> Result<usize, Answer> {
-    let instance = Instance::read(bytes, horizon)?;
+fn check(bytes: &[u8], horizon: u64, rule: u64, plan: &[u8]) -> Result<usize, Answer> {
+    let instance = Instance::read(bytes, horizon, rule)?;
     check_length(&instance, plan)?;
     check_rows(&instance, plan)?;
     Ok(cost(&instance, plan))
@@ -40,14 +40,7 @@ pub(crate) fn check_rows(instance: &Instance, plan: &[u8]) -> Result<(), Answer>
         if let Some(a) = (0..k).find(|&a| moves(a) && !instance.has_edge(row[a], next[a])) {
             return refuse(19, place + a);
         }
-        let occupant = |a: usize| row.iter().position(|&v| v == next[a]);
-        let mut moving = (0..k).filter(|&a| moves(a));
-        if let Some((a, b)) = moving.find_map(|a| Some((a, occupant(a)?))) {
-            let number = match next[b] {
-                v if v == row[b] => 20,
-                v if v == row[a] => 25,
-                _ => 26,
-            };
+        if let Some((number, a)) = occupied(instance.rule, row, next) {
             return refuse(number, place + a);
         }
         if let Some(a) = (0..k).find(|&a| next[..a].contains(&next[a])) {
@@ -58,6 +51,22 @@ pub(crate) fn check_rows(instance: &Instance, plan: &[u8]) -> Result<(), Answer>
         return refuse(22, m * k + a);
     }
     Ok(())
+}
+
+/// The lowest agent that breaks condition 2 in the step between these rows, and the
+/// number for it. It enters a vertex whose occupant stays, comes the other way or
+/// moves elsewhere; rule 2 forbids the second alone.
+fn occupied(rule: Rule, row: &[u8], next: &[u8]) -> Option<(u32, usize)> {
+    let mut moving = (0..row.len()).filter(|&a| row[a] != next[a]);
+    moving.find_map(|a| {
+        let b = row.iter().position(|&v| v == next[a])?;
+        let number = match next[b] {
+            v if v == row[b] => 20,
+            v if v == row[a] => 25,
+            _ => 26,
+        };
+        (rule == Rule::Vacant || number == 25).then_some((number, a))
+    })
 }
 
 /// The time until rest, summed over the agents: an agent's is the least t such

@@ -1,6 +1,7 @@
 //! Each question by itself, whatever the others answer. Shares no code with
 //! the ten calls, but for the test whether an agent is free.
 
+pub use crate::asked::*;
 use crate::{is_free, plain};
 use std::collections::BTreeMap;
 
@@ -9,6 +10,7 @@ use std::collections::BTreeMap;
 pub struct Handed<'a> {
     pub instance: &'a [u8],
     pub horizon: u64,
+    pub rule: u64,
     /// One clause's number.
     pub clause: Option<u64>,
     pub plan: &'a [u8],
@@ -19,50 +21,6 @@ pub struct Handed<'a> {
     pub lent: usize,
     /// Does the formula have family H?
     pub pruned: bool,
-}
-
-/// The number that a no gives, and its place.
-pub type Item = (u32, u64);
-
-/// All numbers, 0 for accepted included, are below this one.
-pub const NUMBERS: usize = 31;
-
-/// The calls, by their places in `ASKED`.
-pub const WRITER: usize = 0;
-pub const CLAUSE: usize = 1;
-pub const PLAN: usize = 2;
-pub const DECODER: usize = 3;
-pub const ENCODER: usize = 4;
-pub const READER: usize = 5;
-pub const FLOOR: usize = 6;
-pub const PRUNED: usize = 7;
-pub const SIZE: usize = 8;
-pub const PRUNED_SIZE: usize = 9;
-
-/// The numbers that each call can give beside 0, in the order asked.
-pub const ASKED: [&[u32]; 10] = [
-    &[1, 2, 3, 4, 5, 6, 7, 8, 9, 10, 12],
-    &[1, 2, 3, 4, 5, 6, 7, 8, 9, 10, 11, 12],
-    &[
-        1, 2, 3, 4, 5, 6, 7, 8, 9, 10, 13, 17, 18, 19, 20, 25, 26, 21, 22,
-    ],
-    &[1, 2, 3, 4, 5, 6, 7, 8, 9, 10, 14, 15, 23, 24],
-    &[
-        1, 2, 3, 4, 5, 6, 7, 8, 9, 10, 13, 16, 17, 18, 19, 20, 25, 26, 21, 22,
-    ],
-    &[1, 2, 3, 4, 5, 6, 7, 8, 9, 10, 16, 27, 28, 29],
-    &[1, 2, 3, 4, 5, 6, 7, 8, 9, 30],
-    &[1, 2, 3, 4, 5, 6, 7, 8, 9, 10, 12],
-    &[1, 2, 3, 4, 5, 6, 7, 8, 9, 10],
-    &[1, 2, 3, 4, 5, 6, 7, 8, 9, 10],
-];
-
-/// The question whose no gives this number: 20, 25 and 26 are of one.
-pub fn question(number: u32) -> u32 {
-    match number {
-        25 | 26 => 20,
-        _ => number,
-    }
 }
 
 /// The places of all items whose no gives this number, rising. Items that the
@@ -84,8 +42,11 @@ pub fn first_no(numbers: &[u32], handed: &Handed) -> Option<Item> {
 /// Items are asked in the order of this: 19 to 21 step by step.
 pub(crate) fn turn((number, place): Item, handed: &Handed) -> (u32, u64, u32, u64) {
     match question(number) {
-        question @ 19..=21 => (19, place / u64::from(handed.instance[1]), question, place),
-        question => (question, 0, question, place),
+        question @ 19..=21 => {
+            let step = place / u64::from(handed.instance[1]);
+            (order(19), step, question, place)
+        }
+        question => (order(question), 0, question, place),
     }
 }
 
@@ -95,6 +56,7 @@ fn all_places(number: u32, handed: &Handed) -> Option<Vec<u128>> {
     let &Handed {
         instance,
         horizon,
+        rule,
         clause,
         plan,
         entries,
@@ -124,10 +86,10 @@ fn all_places(number: u32, handed: &Handed) -> Option<Vec<u128>> {
         Some(count)
     };
     let clause_count = || {
-        let all: u128 = clause_counts(n()?, k()?, m).iter().sum();
+        let all: u128 = clause_counts(n()?, k()?, e()?, m, rule).iter().sum();
         Some(all - free_count()?)
     };
-    let word_count = || Some(word_count(n()?, k()?, e()?, m) - 2 * free_count()?);
+    let word_count = || Some(word_count(n()?, k()?, e()?, m, rule) - 2 * free_count()?);
     let edges = || Some((0..e()?).filter_map(edge).collect::<Vec<_>>());
     let plan_length = || Some((m + 1) * k()?);
     let variables = || Some(n()? * plan_length()?);
@@ -179,7 +141,7 @@ fn all_places(number: u32, handed: &Handed) -> Option<Vec<u128>> {
                 Some(number) if u128::from(number) >= clause_count()? => 2,
                 Some(_) if !accepted(handed) => return None,
                 Some(number) => {
-                    let clauses = plain::clauses(instance, horizon);
+                    let clauses = plain::clauses(instance, horizon, rule);
                     clauses[number as usize].len() as u128 + 1
                 }
             };
@@ -221,9 +183,9 @@ fn all_places(number: u32, handed: &Handed) -> Option<Vec<u128>> {
                 let moves = old != new;
                 match number {
                     19 => moves && !joined(old, new),
-                    20 => moves && stays,
-                    25 => moves && exchanges,
-                    26 => moves && occupied && !stays && !exchanges,
+                    20 => rule == 1 && moves && stays,
+                    25 => matches!(rule, 1 | 2) && moves && exchanges,
+                    26 => rule == 1 && moves && occupied && !stays && !exchanges,
                     _ => ways.iter().any(|x| (x.0, x.3) == (t, new) && x.1 < a),
                 }
             });
@@ -242,7 +204,7 @@ fn all_places(number: u32, handed: &Handed) -> Option<Vec<u128>> {
         }
         24 if !accepted(handed) => return None,
         24 => {
-            let clauses = plain::clauses(instance, horizon);
+            let clauses = plain::clauses(instance, horizon, rule);
             let numbers = (0..clauses.len()).filter(|&number| {
                 let mut literals = clauses[number].iter();
                 !literals.any(|literal| entries.contains(literal))
@@ -299,6 +261,7 @@ fn all_places(number: u32, handed: &Handed) -> Option<Vec<u128>> {
             let from = goals_from()?;
             agents.map(|a| from + a).collect()
         }
+        31 => only(![1, 2].contains(&rule), 0),
         _ => panic!("there is no number {number}"),
     };
     Some(places)
@@ -383,8 +346,10 @@ fn printed_numbers(line: &[u8]) -> Option<Vec<i128>> {
     (format!("v{printed}").as_bytes() == line).then_some(numbers)
 }
 
-/// The table's counts, where every agent has a goal.
-pub(crate) fn clause_counts(n: u128, k: u128, m: u128) -> [u128; 7] {
+/// The table's counts, where every agent has a goal. Without rule 1 or 2 there is no
+/// family G.
+pub(crate) fn clause_counts(n: u128, k: u128, e: u128, m: u128, rule: u64) -> [u128; 7] {
+    let agents = k * k.saturating_sub(1);
     [
         k,
         k,
@@ -392,11 +357,16 @@ pub(crate) fn clause_counts(n: u128, k: u128, m: u128) -> [u128; 7] {
         (m + 1) * k * n * n.saturating_sub(1) / 2,
         (m + 1) * n * k * k.saturating_sub(1) / 2,
         m * k * n,
-        m * k * k.saturating_sub(1) * n,
+        match rule {
+            1 => m * agents * n,
+            2 => m * e * agents,
+            _ => 0,
+        },
     ]
 }
 
-fn word_count(n: u128, k: u128, edges: u128, m: u128) -> u128 {
-    let [_, _, _, d, e, _, g] = clause_counts(n, k, m);
-    4 * k + (m + 1) * k * (n + 1) + 3 * (d + e + g) + m * k * (3 * n + 2 * edges)
+fn word_count(n: u128, k: u128, edges: u128, m: u128, rule: u64) -> u128 {
+    let [_, _, _, d, e, _, g] = clause_counts(n, k, edges, m, rule);
+    let g_words = if rule == 2 { 5 } else { 3 };
+    4 * k + (m + 1) * k * (n + 1) + 3 * (d + e) + m * k * (3 * n + 2 * edges) + g_words * g
 }

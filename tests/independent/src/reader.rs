@@ -7,8 +7,14 @@ use crate::{answer, refuse, Answer};
 pub const LONGEST_TEXT: usize = 524_288;
 
 /// Writes the valuation that a solver printed; the count is N.
-pub fn read_valuation(instance: &[u8], horizon: u64, text: &[u8], entries: &mut [i32]) -> Answer {
-    answer(read(instance, horizon, text, entries))
+pub fn read_valuation(
+    instance: &[u8],
+    horizon: u64,
+    rule: u64,
+    text: &[u8],
+    entries: &mut [i32],
+) -> Answer {
+    answer(read(instance, horizon, rule, text, entries))
 }
 
 /// What a line of the right form holds.
@@ -26,8 +32,14 @@ enum Status {
     Unknown,
 }
 
-fn read(bytes: &[u8], horizon: u64, text: &[u8], entries: &mut [i32]) -> Result<usize, Answer> {
-    let instance = Instance::read(bytes, horizon)?;
+fn read(
+    bytes: &[u8],
+    horizon: u64,
+    rule: u64,
+    text: &[u8],
+    entries: &mut [i32],
+) -> Result<usize, Answer> {
+    let instance = Instance::read(bytes, horizon, rule)?;
     let count = instance.variable_count();
     if entries.len() < count {
         return refuse(16, count);

@@ -1,6 +1,6 @@
 //! Inputs for tests, the same for the same seed.
 
-use crate::questions::Item;
+pub use crate::twice::{refused_twice, Twice};
 use crate::NO_GOAL;
 use std::ops::Range;
 
@@ -95,10 +95,27 @@ impl Generator {
         instance_bytes(n, &edges, &starts, &goals)
     }
 
-    /// An accepted instance and a plan that passes for it: a random valid walk,
-    /// with the goals where it ends; some agents may be free.
-    pub fn walk(&mut self, n: usize, k: usize, percent: usize, m: usize) -> (Vec<u8>, Vec<u8>) {
-        self.walk_within(n, percent, m, &vec![0..m; k])
+    /// Rule 1 or 2.
+    pub fn rule(&mut self) -> u64 {
+        1 + self.below(2) as u64
+    }
+
+    /// A rule that is none.
+    pub fn wrong_rule(&mut self) -> u64 {
+        WRONG_RULES[self.below(WRONG_RULES.len())]
+    }
+
+    /// An accepted instance and a plan that passes for it under this rule: a random
+    /// valid walk, with the goals where it ends; some agents may be free.
+    pub fn walk(
+        &mut self,
+        n: usize,
+        k: usize,
+        percent: usize,
+        m: usize,
+        rule: u64,
+    ) -> (Vec<u8>, Vec<u8>) {
+        self.walk_within(n, percent, m, rule, &vec![0..m; k])
     }
 
     /// The same, where each agent moves in some stretch of the steps alone: it
@@ -109,13 +126,14 @@ impl Generator {
         k: usize,
         percent: usize,
         m: usize,
+        rule: u64,
     ) -> (Vec<u8>, Vec<u8>) {
         let stretch = |g: &mut Generator| {
             let (s, t) = (g.below(m + 1), g.below(m + 1));
             s.min(t)..s.max(t)
         };
         let stretches: Vec<Range<usize>> = (0..k).map(|_| stretch(self)).collect();
-        self.walk_within(n, percent, m, &stretches)
+        self.walk_within(n, percent, m, rule, &stretches)
     }
 
     /// A walk in which an agent may move in the steps given for it.
@@ -124,6 +142,7 @@ impl Generator {
         n: usize,
         percent: usize,
         m: usize,
+        rule: u64,
         steps: &[Range<usize>],
     ) -> (Vec<u8>, Vec<u8>) {
         let edges = self.edges(n, percent);
@@ -132,7 +151,10 @@ impl Generator {
         let mut plan = starts.clone();
         for t in 0..m {
             let moving = (0..row.len()).filter(|&a| steps[a].contains(&t)).collect();
-            row = self.step(&edges, &row, moving);
+            row = match rule {
+                1 => self.step(&edges, &row, moving),
+                _ => self.closing_step(&edges, &row, moving),
+            };
             plan.extend(&row);
         }
         let mut goals = row;
@@ -140,7 +162,7 @@ impl Generator {
         (instance_bytes(n, &edges, &starts, &goals), plan)
     }
 
-    /// A valid step from this row; these agents choose, in random order.
+    /// A valid step from this row under rule 1; these agents choose, in random order.
     fn step(&mut self, edges: &[(u8, u8)], row: &[u8], mut agents: Vec<usize>) -> Vec<u8> {
         let mut next = row.to_vec();
         self.shuffle(&mut agents);
@@ -261,6 +283,22 @@ impl Generator {
     }
 }
 
+/// Rules that are none: beside 1 and 2, those whose low bytes are 1 or 2, the largest.
+pub const WRONG_RULES: [u64; 12] = [
+    0,
+    3,
+    255,
+    256,
+    257,
+    258,
+    65_538,
+    (1 << 32) + 1,
+    (1 << 32) + 2,
+    1 << 63,
+    u64::MAX - 1,
+    u64::MAX,
+];
+
 /// All edges between vertices below `n`, in stored order.
 pub fn all_edges(n: usize) -> Vec<(u8, u8)> {
     (0..n as u8)
@@ -320,47 +358,4 @@ pub fn instance_bytes(n: usize, edges: &[(u8, u8)], starts: &[u8], goals: &[u8])
 pub fn largest_instance() -> Vec<u8> {
     let agents: Vec<u8> = (0..16).collect();
     instance_bytes(64, &all_edges(64), &agents, &agents)
-}
-
-/// Instances with their horizons on which two items fail: of neighbouring
-/// questions first, then of one question. The first item is the answer.
-pub fn refused_twice() -> Vec<(Vec<u8>, u64, [Item; 2])> {
-    let path = [(0, 1), (1, 2)];
-    let edges = |edges: &[(u8, u8)]| instance_bytes(4, edges, &[0], &[1]);
-    let ends = |starts: &[u8], goals: &[u8]| instance_bytes(3, &path, starts, goals);
-    vec![
-        (vec![0, 1, 0], 1, [(1, 3), (2, 0)]),
-        (instance_bytes(0, &[], &[0], &[0]), 1, [(2, 0), (3, 1)]),
-        (
-            instance_bytes(2, &[(0, 1), (0, 1)], &[0, 1, 0], &[0, 1, 0]),
-            1,
-            [(3, 1), (4, 2)],
-        ),
-        // Sizes for two edges, bytes for one.
-        (vec![2, 1, 2, 0, 0, 1, 0, 1], 1, [(4, 2), (5, 8)]),
-        // One byte too many, and edge 1 is 2-2.
-        (vec![3, 1, 2, 0, 0, 2, 1, 2, 0, 1, 0], 1, [(5, 11), (6, 5)]),
-        (edges(&[(1, 2), (0, 0)]), 1, [(6, 5), (7, 5)]),
-        (edges(&[(0, 1), (0, 1), (3, 3)]), 1, [(6, 6), (7, 5)]),
-        (
-            instance_bytes(4, &[(0, 1), (0, 1)], &[4], &[1]),
-            1,
-            [(7, 5), (8, 8)],
-        ),
-        (ends(&[0, 0], &[2, 2]), 1, [(8, 9), (9, 11)]),
-        (ends(&[0, 1], &[2, 2]), 33, [(9, 11), (10, 0)]),
-        (edges(&[(0, 1), (2, 1), (3, 3)]), 1, [(6, 5), (6, 6)]),
-        (edges(&[(0, 2), (0, 1), (0, 1)]), 1, [(7, 5), (7, 6)]),
-        (ends(&[0, 3, 0], &[0, 1, 2]), 1, [(8, 9), (8, 10)]),
-        (ends(&[0, 1, 2], &[1, 1, 1]), 1, [(9, 12), (9, 13)]),
-        // Free agents have a start, and no other agent has it; 255 is none. A goal of 254 is wrong, and so is one that
-        // is there twice, around a free agent or behind one.
-        (ends(&[1, 1, 0], &[255, 2, 254]), 1, [(8, 9), (9, 13)]),
-        (ends(&[255, 0], &[255, 254]), 1, [(8, 8), (9, 11)]),
-        (ends(&[255, 1, 255], &[255, 2, 255]), 1, [(8, 8), (8, 10)]),
-        (ends(&[0, 1, 2], &[1, 255, 1]), 33, [(9, 13), (10, 0)]),
-        (ends(&[2, 1, 0], &[255, 255, 254]), 33, [(9, 13), (10, 0)]),
-        (ends(&[0, 1, 2], &[255, 3, 254]), 1, [(9, 12), (9, 13)]),
-        (ends(&[0, 1, 2], &[254, 255, 254]), 1, [(9, 11), (9, 13)]),
-    ]
 }

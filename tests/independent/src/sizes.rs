@@ -5,13 +5,68 @@ use crate::questions::clause_counts;
 use crate::sample::{instance_bytes, largest_instance, path_edges};
 use crate::{Answer, Size, NO_GOAL};
 
-/// An instance, its horizon, and the words and clauses of its formula and of its
-/// pruned one.
-pub type Worked = (Vec<u8>, u64, [(u64, u64); 2]);
+/// An instance, its horizon, its rule, and the words and clauses of its formula and
+/// of its pruned one.
+pub type Worked = (Vec<u8>, u64, u64, [(u64, u64); 2]);
 
-/// Sizes, worked out by hand from the table of document 01. A clause of family H
-/// has 2 words.
+/// Sizes, worked out by hand from the table of document 01, and from request S-10
+/// for rule 2. A clause of family H has 2 words.
 pub fn worked() -> Vec<Worked> {
+    let under = |rule: u64| move |(instance, m, sizes)| (instance, m, rule, sizes);
+    let first = worked_vacant().into_iter().map(under(1));
+    first
+        .chain(worked_exchange().into_iter().map(under(2)))
+        .collect()
+}
+
+type Sizes = (Vec<u8>, u64, [(u64, u64); 2]);
+
+/// Under rule 2 family G has m·e·k(k−1) clauses of 5 words; all else is as under 1.
+fn worked_exchange() -> Vec<Sizes> {
+    let path = |n: u8, starts: &[u8], goals: &[u8]| {
+        instance_bytes(n.into(), &path_edges(n), starts, goals)
+    };
+    let all_free = || [&largest_instance()[..4_052], &[NO_GOAL; 16]].concat();
+    let triangle = instance_bytes(3, &[(0, 1), (0, 2), (1, 2)], &[0, 1, 2], &[1, 2, 0]);
+    vec![
+        // One agent: no family G.
+        (path(1, &[0], &[0]), 32, [(166, 67), (166, 67)]),
+        (path(2, &[0], &[1]), 1, [(24, 8), (28, 10)]),
+        (path(2, &[0], &[NO_GOAL]), 1, [(22, 7), (24, 8)]),
+        // The pair with two agents: 2 clauses in place of 4, 10 words in place of 12.
+        (path(2, &[0, 1], &[1, 0]), 1, [(70, 22), (78, 26)]),
+        (path(2, &[0, 1], &[NO_GOAL, 0]), 1, [(68, 21), (74, 24)]),
+        // No step; no edge: 20 clauses without G, 4 + 4 + 12 + 12 + 12 + 12 words.
+        (path(2, &[0, 1], &[1, 0]), 0, [(26, 10), (34, 14)]),
+        (
+            instance_bytes(2, &[], &[0, 1], &[0, 1]),
+            1,
+            [(56, 20), (64, 24)],
+        ),
+        // 8 clauses in place of 12, 40 words in place of 36.
+        (path(3, &[0, 1], &[1, 2]), 2, [(205, 57), (225, 67)]),
+        // 3 + 3 + 6 + 18 + 18 + 9 + 18 clauses, 6 + 6 + 24 + 54 + 54 + 45 + 90 words; 4 clauses of H for each agent.
+        (triangle, 1, [(279, 75), (303, 87)]),
+        // At m 32 15,482,880 clauses in place of 491,520, 77,414,400 words in place of 1,474,560.
+        (
+            largest_instance(),
+            0,
+            [(120_912, 39_984), (122_928, 40_992)],
+        ),
+        (
+            largest_instance(),
+            32,
+            [(83_565_136, 16_834_096), (83_569_168, 16_836_112)],
+        ),
+        (
+            all_free(),
+            32,
+            [(83_565_104, 16_834_080), (83_567_120, 16_835_088)],
+        ),
+    ]
+}
+
+fn worked_vacant() -> Vec<Sizes> {
     let path = |n: u8, starts: &[u8], goals: &[u8]| {
         instance_bytes(n.into(), &path_edges(n), starts, goals)
     };
@@ -92,6 +147,7 @@ pub fn worked() -> Vec<Worked> {
 struct Asked<'a> {
     instance: &'a [u8],
     horizon: u64,
+    rule: u64,
     size: Size,
     other: Size,
 }
@@ -114,7 +170,13 @@ impl Asked<'_> {
     /// The table's clause count for the sizes that stand there, if they do.
     fn table_count(&self) -> u64 {
         let byte = |i: usize| self.instance.get(i).map_or(0, |&byte| u128::from(byte));
-        let counts = clause_counts(byte(0), byte(1), self.horizon.into());
+        let counts = clause_counts(
+            byte(0),
+            byte(1),
+            byte(2) + 256 * byte(3),
+            self.horizon.into(),
+            self.rule,
+        );
         counts.iter().sum::<u128>() as u64
     }
 }
@@ -224,11 +286,18 @@ pub struct Told {
 
 impl Told {
     /// Adds one of the sizes of the formula and of the pruned one.
-    pub fn size(&mut self, pruned: bool, instance: &[u8], horizon: u64, sizes: [Size; 2]) {
+    pub fn size(
+        &mut self,
+        pruned: bool,
+        instance: &[u8],
+        (horizon, rule): (u64, u64),
+        sizes: [Size; 2],
+    ) {
         let formula = usize::from(pruned);
         let asked = Asked {
             instance,
             horizon,
+            rule,
             size: sizes[formula],
             other: sizes[1 - formula],
         };

@@ -7,21 +7,24 @@ use std::io::{self, Write};
 /// Bytes of input the program reads at most.
 pub const INPUT_LIMIT: u64 = 4070;
 
+/// The program keeps to this rule.
+const RULE: u64 = 1;
+
 /// Prints the formula of `input`, the byte m and then the instance.
 pub fn print_formula(input: &[u8], out: &mut impl Write) -> io::Result<()> {
     let (horizon, bytes) = match input {
         [] => (0, input),
         [m, bytes @ ..] => (u64::from(*m), bytes),
     };
-    let instance = match Instance::read(bytes, horizon) {
+    let instance = match Instance::read(bytes, horizon, RULE) {
         Ok(instance) => instance,
         Err(refusal) => {
             return writeln!(out, "c refused {} {}", refusal.number, refusal.second);
         }
     };
-    let size = formula_size(bytes, horizon);
+    let size = formula_size(bytes, horizon, RULE);
     let mut words = vec![0; size.second as usize];
-    write_formula(bytes, horizon, &mut words);
+    write_formula(bytes, horizon, RULE, &mut words);
     writeln!(out, "p cnf {} {}", instance.variable_count(), size.clauses)?;
     for &word in &words {
         if word == 0 {

@@ -1,21 +1,39 @@
 //! The decoder and the encoder.
 
-use crate::instance::Instance;
+use crate::instance::{Instance, Rule};
 use crate::plan::{check_length, check_rows};
 use crate::{answer, refuse, Answer};
 
 /// Writes the plan a satisfying valuation names; the count is its length.
-pub fn decode(instance: &[u8], horizon: u64, entries: &[i32], plan: &mut [u8]) -> Answer {
-    answer(decoded(instance, horizon, entries, plan))
+pub fn decode(
+    instance: &[u8],
+    horizon: u64,
+    rule: u64,
+    entries: &[i32],
+    plan: &mut [u8],
+) -> Answer {
+    answer(decoded(instance, horizon, rule, entries, plan))
 }
 
 /// Writes the valuation of a passing plan; the count is N.
-pub fn encode(instance: &[u8], horizon: u64, plan: &[u8], entries: &mut [i32]) -> Answer {
-    answer(encoded(instance, horizon, plan, entries))
+pub fn encode(
+    instance: &[u8],
+    horizon: u64,
+    rule: u64,
+    plan: &[u8],
+    entries: &mut [i32],
+) -> Answer {
+    answer(encoded(instance, horizon, rule, plan, entries))
 }
 
-fn decoded(bytes: &[u8], horizon: u64, entries: &[i32], plan: &mut [u8]) -> Result<usize, Answer> {
-    let instance = Instance::read(bytes, horizon)?;
+fn decoded(
+    bytes: &[u8],
+    horizon: u64,
+    rule: u64,
+    entries: &[i32],
+    plan: &mut [u8],
+) -> Result<usize, Answer> {
+    let instance = Instance::read(bytes, horizon, rule)?;
     let length = instance.plan_length();
     if entries.len() != instance.variable_count() {
         return refuse(14, entries.len());
@@ -55,8 +73,12 @@ fn rows<'a>(
 /// The lowest number of a clause without a true literal. Entry i belongs to
 /// variable i + 1, so its sign tells which literal of that variable is true.
 fn first_false(instance: &Instance, entries: &[i32]) -> Option<usize> {
+    let in_g = match instance.rule {
+        Rule::Vacant => false_in_g,
+        Rule::Exchange => false_exchange,
+    };
     let families = [
-        false_in_a, false_in_b, false_in_c, false_in_d, false_in_e, false_in_f, false_in_g,
+        false_in_a, false_in_b, false_in_c, false_in_d, false_in_e, false_in_f, in_g,
     ];
     let mut first = 0;
     for (family, count) in families.into_iter().zip(instance.clause_counts()) {
@@ -142,6 +164,7 @@ fn false_in_f(instance: &Instance, entries: &[i32]) -> Option<usize> {
     None
 }
 
+// Family G under rule 1.
 fn false_in_g(instance: &Instance, entries: &[i32]) -> Option<usize> {
     let (n, k) = (instance.n, instance.k);
     let row = |t: usize, a: usize| row(instance, entries, t, a);
@@ -163,8 +186,35 @@ fn false_in_g(instance: &Instance, entries: &[i32]) -> Option<usize> {
     None
 }
 
-fn encoded(bytes: &[u8], horizon: u64, plan: &[u8], entries: &mut [i32]) -> Result<usize, Answer> {
-    let instance = Instance::read(bytes, horizon)?;
+// Family G under rule 2.
+fn false_exchange(instance: &Instance, entries: &[i32]) -> Option<usize> {
+    let k = instance.k;
+    let crosses = |t: usize, a: usize, v: usize, w: usize| {
+        row(instance, entries, t, a)[v] > 0 && row(instance, entries, t + 1, a)[w] > 0
+    };
+    let mut index = 0;
+    for (t, (u, v)) in instance.times_and_edges() {
+        for a in 0..k {
+            if crosses(t, a, u, v) {
+                let mut others = (0..k).filter(|&b| b != a);
+                if let Some(other) = others.position(|b| crosses(t, b, v, u)) {
+                    return Some(index + other);
+                }
+            }
+            index += k - 1;
+        }
+    }
+    None
+}
+
+fn encoded(
+    bytes: &[u8],
+    horizon: u64,
+    rule: u64,
+    plan: &[u8],
+    entries: &mut [i32],
+) -> Result<usize, Answer> {
+    let instance = Instance::read(bytes, horizon, rule)?;
     let count = instance.variable_count();
     check_length(&instance, plan)?;
     if entries.len() < count {

@@ -1,5 +1,5 @@
 -- `clauses::put_few` meets its contract. The invariant: for some `from`, the literals of the bits below it are written, and `rest` has the bits from it on. Assumes nothing.
-use mathlib.Core.Path.{refl, sym, _∙_, ap}
+use mathlib.Core.Path.{_≡_, refl, sym, _∙_, ap}
 use mathlib.Core.List.{List, [], _∷_}
 use Prim.Native.Nat.{ℕ, _+_, _-_, _≤_, _<_}
 use native.Mathlib.Omega.{arith}
@@ -7,12 +7,13 @@ use mir.Facts.{toZ-ofZ}
 use borrow.Author.Needs.{sfits-of}
 use lib.Bits.{and-le-r}
 use lib.Count.{trailingZeros}
+use lib.Dec.{eqb}
 use lib.IntN.{ℤ, pos}
 use lib.ListN.{length, set, length-set}
 use Rattle.lists.specs.Loop.{for, when}
-use Rattle.lists.proofs.Slices.{Filling, filling-from, filled-set}
-use Rattle.bits.specs.Bits.{set?}
-use Rattle.bits.proofs.Lowest.{Left, left-all, low-below, near-next, left-next, near-end}
+use Rattle.lists.proofs.Slices.{Filling, filling-from, filling-set, filled-set}
+use Rattle.bits.specs.Bits.{bit, set?}
+use Rattle.bits.proofs.Lowest.{Left, left-all, low-below, low-set, left-next, filling-low, filling-end}
 use Rattle.formula.specs.Variables.{Literal, X}
 use Rattle.formula.specs.Formula.{nearby}
 use Rattle.clauses.proofs.Laws.{line-length}
@@ -34,17 +35,25 @@ literal s = X (s .args .s) (s .args .t .0) (s .args .a .0)
 room : (s : tie.Start Inv-loop μ-loop) → length (nearby (s .args .s) (set? (s .args .word)) (s .args .t .0) (s .args .a .0)) + 1 ≤ length (s .args .f .now)
 room s = omega (arith, s .pre .1 .1, line-length (nearby (s .args .s) (set? (s .args .word)) (s .args .t .0) (s .args .a .0)))
 
+-- a bit that is not set writes nothing
+unset : (s : tie.Start Inv-loop μ-loop) (u : ℕ) → bit (s .args .word) u ≡ 0 → when (set? (s .args .word) u) (literal s u ∷ []) ≡ []
+unset s u e = ap (λ (b : ℕ). when (eqb b 1) (literal s u ∷ [])) e
+
 -- the lowest bit is below n
 below : (c : tie.In-loop Inv-loop μ-loop) → trailingZeros 64 (c .before .loop .rest) < c .before .before .args .s .n
-below c = low-below (c .before .before .args .s .n) (c .before .before .args .word) (literal (c .before .before)) (c .before .before .pre .1 .0 .2) (c .before .loop .rest) (c .before .loop .inv .0) (c .before .loop .inv .1 .1) (omega arith)
+below c = low-below (c .before .before .args .s .n) (c .before .before .args .word) (c .before .before .pre .1 .0 .2) (c .before .loop .rest) (c .before .loop .inv .0) (c .before .loop .inv .1 .1) (omega arith)
 
 -- the turn
 turn : (c : tie.In-loop Inv-loop μ-loop) → Filling (λ w. when (set? (c .before .before .args .word) w) (literal (c .before .before) w ∷ [])) (c .before .before .args .s .n) (c .before .before .args .f .now) (trailingZeros 64 (c .before .loop .rest) + 1) (c .before .loop .at + 1) (set (c .before .loop .f) (c .before .loop .at) (literal (c .before .before) (trailingZeros 64 (c .before .loop .rest))))
-turn c = near-next (c .before .before .args .s .n) (c .before .before .args .word) (literal (c .before .before)) (c .before .before .pre .1 .0 .2) (c .before .loop .rest) (c .before .loop .inv .0) (c .before .loop .inv .1 .1) (omega arith) (c .before .loop .inv .1 .0)
+turn c =
+    filling-set
+    (filling-low (c .before .before .args .s .n) (c .before .before .args .word) (unset (c .before .before)) (c .before .loop .inv .1 .0) (c .before .loop .inv .1 .1) (c .before .before .pre .1 .0 .2) (omega arith))
+    (below c) (literal (c .before .before) (trailingZeros 64 (c .before .loop .rest)))
+    (ap (λ (b : ℕ). when (eqb b 1) (literal (c .before .before) (trailingZeros 64 (c .before .loop .rest)) ∷ [])) (low-set (c .before .before .args .s .n) (c .before .before .args .word) (c .before .before .pre .1 .0 .2) (c .before .loop .rest) (c .before .loop .inv .0) (c .before .loop .inv .1 .1) (omega arith)))
 
 -- all literals
 done : (c : tie.After-loop Inv-loop μ-loop) → Filling (λ w. when (set? (c .before .before .args .word) w) (literal (c .before .before) w ∷ [])) (c .before .before .args .s .n) (c .before .before .args .f .now) (c .before .before .args .s .n) (c .before .loop .at) (c .before .loop .f)
-done c = near-end (c .before .before .args .s .n) (c .before .before .args .word) (literal (c .before .before)) (c .before .loop .inv .1 .0) (c .before .loop .inv .1 .1) (c .loop-test .left)
+done c = filling-end (c .before .before .args .s .n) (c .before .before .args .word) (unset (c .before .before)) (c .before .loop .inv .1 .0) (c .before .loop .inv .1 .1) (c .loop-test .left)
 
 loop-holds : tie.Need-loop-holds Inv-loop μ-loop
 loop-holds c = (0, (filling-from 0 (omega arith) refl (omega (arith, room c)), left-all (c .args .word) (c .fits .word .fits)))
@@ -69,7 +78,7 @@ loop-again c = (
   trailingZeros 64 (c .before .before .loop .rest) + 1,
   (
     rw (toZ-ofZ (sfits-of (c .positive .ok)), c .positive .ensures) (turn (c .before)),
-    left-next (c .before .before .before .args .s .n) (c .before .before .before .args .word) (literal (c .before .before .before)) (c .before .before .before .pre .1 .0 .2) (c .before .before .loop .rest) (c .before .before .loop .inv .0) (c .before .before .loop .inv .1 .1) (omega arith),
+    left-next (c .before .before .before .args .s .n) (c .before .before .before .args .word) (c .before .before .before .pre .1 .0 .2) (c .before .before .loop .rest) (c .before .before .loop .inv .0) (c .before .before .loop .inv .1 .1) (omega arith),
   ),
 )
 

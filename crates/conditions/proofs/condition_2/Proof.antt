@@ -1,16 +1,20 @@
--- `conditions::condition_2` meets its contract: where the two places differ, no agent of the row is found on the second. Assumes nothing.
-use Rattle.conditions.proofs.Laws.{keeps-2, enters-2}
+-- `conditions::condition_2` meets its contract: where the two places differ, no agent of the row is found on the second, or none that goes from there to the first. Assumes nothing.
+use native.Mathlib.Omega.{arith}
+use Rattle.conditions.proofs.Laws.{keeps-2, enters-2, exchanges-2}
 use borrow.Author.Needs.{needs}
 use Rattle.conditions.proofs.condition_2.Statement.{statement}
 use Rattle.conditions.proofs.condition_2.Tie as tie
 
 returns : tie.Need-returns
-returns c = enters-2 _ _ (c .before .before .before .before .before .before .args .a) _ (c .before .if1 .taken) (c .first-on .result) (c .first-on .ensures)
+returns c = exchanges-2 _ _ (c .before .before .before .before .before .before .before .before .args .a) _ (c .before .if2 .taken) (c .before .before .before .if1 .taken) (c .first-going .result) (c .first-going .ensures)
 
 returns-2 : tie.Need-returns-2
-returns-2 c = keeps-2 _ _ (c .before .before .before .before .before .args .a) _ (c .if1 .left)
+returns-2 c = enters-2 _ _ (c .before .before .before .before .before .before .before .before .args .a) _ (c .before .if2 .left) (c .before .before .before .if1 .taken) (c .first-on .result) (c .first-on .ensures)
+
+returns-3 : tie.Need-returns-3
+returns-3 c = keeps-2 _ _ (c .before .before .before .before .before .args .a) _ (c .if1 .left)
 
 pub condition-2-spec : {M : Type 1} → statement M
 condition-2-spec =
     tie.close
-    (tie.spec (λ c. search needs) (λ c. search needs) (λ c κs. search needs) returns returns-2)
+    (tie.spec (λ c. search needs) (λ c. search needs) (λ c κs. search needs) returns (λ c κs. search needs) returns-2 returns-3)

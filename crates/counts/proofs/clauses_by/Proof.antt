@@ -28,22 +28,14 @@ mul-t15 c = let p = products (c .before .before .args .s) (c .before .before .pr
 mul-t16 : tie.Need-mul-t16
 mul-t16 c = let p = products (c .before .before .args .s) (c .before .before .pre) in omega arith
 
-mul-t17 : tie.Need-mul-t17
-mul-t17 c = let p = products (c .before .before .args .s) (c .before .before .pre) in omega arith
-
-mul-t19 : tie.Need-mul-t19
-mul-t19 c = let p = products (c .before .before .args .s) (c .before .before .pre) in omega arith
-
-mul-t20 : tie.Need-mul-t20
-mul-t20 c = let p = products (c .before .before .args .s) (c .before .before .pre) in omega arith
-
 returns : tie.Need-returns
 returns c =
-    let w = c .before .before .pre in
-    let p = products (c .before .before .args .s) w in
-    rw (c .before .pair-count .ensures .0, c .pair-count2 .ensures .0) (
-      rw add-one (refl, refl, refl, refl, refl, refl, refl),
-      (w .k-most, omega (arith, w .k-most, w .g-most), p .rows′, p .d, p .e, p .f, p .g),
+    let w = c .before .before .before .pre in
+    let p = products (c .before .before .before .args .s) w in
+    let g = c .clauses-of-g .ensures in
+    rw (c .before .before .pair-count .ensures .0, c .before .pair-count2 .ensures .0) (
+      rw add-one (refl, refl, refl, refl, refl, refl, g .0),
+      (w .k-most, omega (arith, w .k-most, w .g-most), p .rows′, p .d, p .e, p .f, g .1),
     )
 
 pub clauses-by-spec : {M : Type 1} → statement M
@@ -62,8 +54,5 @@ clauses-by-spec =
     mul-t14
     mul-t15
     mul-t16
-    mul-t17
-    (λ c. search needs)
-    mul-t19
-    mul-t20
+    (λ c κs. search needs)
     returns)

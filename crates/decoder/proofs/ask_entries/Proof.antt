@@ -20,10 +20,10 @@ plan-bytes-requires : tie.Need-plan-bytes-requires
 plan-bytes-requires c κs = c .before .before .pre .0 .limits
 
 returns : tie.Need-returns
-returns c = ((λ I g. (stop-14 I (c .before .before .before .before .args .s) (g .graph .sizes) (c .before .before .before .before .args .entries .now) (c .before .before .before .before .args .size) (λ e. c .if1 .taken (e ∙ sym (c .before .before .variable-count .ensures .0))), λ e. absurd (let f : ⊥ = omega arith in f))), c .before .before .before .before .pre .1)
+returns c = ((λ I g h. (stop-14 I (c .before .before .before .before .args .s) (g .graph .sizes) (c .before .before .before .before .args .entries .now) (c .before .before .before .before .args .size) (λ e. c .if1 .taken (e ∙ sym (c .before .before .variable-count .ensures .0))), λ e. absurd (let f : ⊥ = omega arith in f))), c .before .before .before .before .pre .1)
 
 returns-2 : tie.Need-returns-2
-returns-2 c = ((λ I g. (rw (c .before .before .plan-bytes .ensures .0) (stop-15 I (c .before .before .before .before .before .args .s) (g .graph .sizes) (c .before .before .before .before .before .args .entries .now) (c .before .before .before .before .before .args .size) (c .before .if1 .left ∙ c .before .before .before .variable-count .ensures .0) (omega (arith, c .before .before .plan-bytes .ensures .0, c .if2 .taken))), λ e. absurd (let f : ⊥ = omega arith in f))), c .before .before .before .before .before .pre .1)
+returns-2 c = ((λ I g h. (rw (c .before .before .plan-bytes .ensures .0) (stop-15 I (c .before .before .before .before .before .args .s) (g .graph .sizes) (c .before .before .before .before .before .args .entries .now) (c .before .before .before .before .before .args .size) (c .before .if1 .left ∙ c .before .before .before .variable-count .ensures .0) (omega (arith, c .before .before .plan-bytes .ensures .0, c .if2 .taken))), λ e. absurd (let f : ⊥ = omega arith in f))), c .before .before .before .before .before .pre .1)
 
 read-entries-requires : tie.Need-read-entries-requires
 read-entries-requires c κs = (c .before .before .before .before .before .before .pre .0 .limits, (c .before .before .if1 .left ∙ c .before .before .before .before .variable-count .ensures .0, c .before .before .before .before .before .before .pre .1))
@@ -32,7 +32,7 @@ same-length : tie.Need-same-length
 same-length c = c .before .before .before .read-entries .ensures .1 .0 ∙ sym (c .before .before .before .before .before .before .before .before .before .before .pre .1)
 
 returns-3 : tie.Need-returns-3
-returns-3 c = ((λ I g. (stop-23 I (c .before .before .before .before .before .before .before .before .before .before .args .s) (g .graph .sizes) (c .before .before .before .before .before .before .before .before .before .before .args .entries .now) (c .before .before .before .before .before .before .before .before .before .before .args .size) (c .before .before .before .before .before .before .if1 .left ∙ c .before .before .before .before .before .before .before .before .variable-count .ensures .0) (omega (arith, c .before .before .before .before .before .before .before .plan-bytes .ensures .0, c .before .before .before .before .before .if2 .left)) (c .before .before .before .read-entries .result) (c .before .before .before .read-entries .ensures .0) (omega (arith, c .before .before .before .before .before .before .before .before .variable-count .ensures .0, c .if3 .taken)), λ e. absurd (let f : ⊥ = omega arith in f))), c .before .before .before .read-entries .ensures .1 .0)
+returns-3 c = ((λ I g h. (stop-23 I (c .before .before .before .before .before .before .before .before .before .before .args .s) (g .graph .sizes) (c .before .before .before .before .before .before .before .before .before .before .args .entries .now) (c .before .before .before .before .before .before .before .before .before .before .args .size) (c .before .before .before .before .before .before .if1 .left ∙ c .before .before .before .before .before .before .before .before .variable-count .ensures .0) (omega (arith, c .before .before .before .before .before .before .before .plan-bytes .ensures .0, c .before .before .before .before .before .if2 .left)) (c .before .before .before .read-entries .result) (c .before .before .before .read-entries .ensures .0) (omega (arith, c .before .before .before .before .before .before .before .before .variable-count .ensures .0, c .if3 .taken)), λ e. absurd (let f : ⊥ = omega arith in f))), c .before .before .before .read-entries .ensures .1 .0)
 
 part-clause-fault-end : tie.Need-part-clause-fault-end
 part-clause-fault-end c = omega (arith, c .before .before .before .before .before .before .before .before .plan-bytes .ensures .1, c .before .before .before .before .read-entries .ensures .1 .0)
@@ -49,15 +49,15 @@ same-length-2 : tie.Need-same-length-2
 same-length-2 c = c .before .before .before .before .before .before .before .before .read-entries .ensures .1 .0 ∙ sym (c .before .before .before .before .before .before .before .before .before .before .before .before .before .before .before .pre .1)
 
 returns-4 : tie.Need-returns-4
-returns-4 c = ((λ I g. (stop-24 I (c .before .before .before .before .before .before .before .before .before .before .before .before .before .before .before .args .s) (g .graph .sizes) (c .before .before .before .before .before .before .before .before .before .before .before .before .before .before .before .args .entries .now) (c .before .before .before .before .before .before .before .before .before .before .before .before .before .before .before .args .size) (c .before .before .before .before .before .before .before .before .before .before .before .if1 .left ∙ c .before .before .before .before .before .before .before .before .before .before .before .before .before .variable-count .ensures .0) (omega (arith, c .before .before .before .before .before .before .before .before .before .before .before .before .plan-bytes .ensures .0, c .before .before .before .before .before .before .before .before .before .before .if2 .left)) (c .before .before .before .before .before .before .before .before .read-entries .result) (c .before .before .before .before .before .before .before .before .read-entries .ensures .0) (omega (arith, c .before .before .before .before .before .before .before .before .before .before .before .before .before .variable-count .ensures .0, c .before .before .before .before .before .if3 .left)) (c .before .before .clause-fault .result) (c .before .clause-count .result) (whole I (c .before .before .before .before .before .before .before .before .before .before .before .before .before .before .before .args .s) (c .before .before .before .before .before .before .before .before .before .before .before .before .before .before .before .args .starts .now) (c .before .before .before .before .before .before .before .before .before .before .before .before .before .before .before .args .goals .now) (c .before .before .before .before .before .before .before .before .before .before .before .before .before .before .before .args .near .now) g (c .before .before .before .before .before .before .before .before .before .before .before .before .before .before .before .args .entries .now) (c .before .before .clause-fault .result) (c .before .before .clause-fault .ensures)) (c .before .clause-count .ensures) (shown-counted I (c .before .before .before .before .before .before .before .before .before .before .before .before .before .before .before .args .s) (c .before .before .before .before .before .before .before .before .before .before .before .before .before .before .before .args .starts .now) (c .before .before .before .before .before .before .before .before .before .before .before .before .before .before .before .args .goals .now) (c .before .before .before .before .before .before .before .before .before .before .before .before .before .before .before .args .near .now) g (c .before .before .before .before .before .before .before .before .before .before .before .before .before .before .before .pre .0)) (c .if4 .taken), λ e. absurd (let f : ⊥ = omega arith in f))), c .before .before .before .before .before .before .before .before .read-entries .ensures .1 .0)
+returns-4 c = ((λ I g h. (stop-24 I (c .before .before .before .before .before .before .before .before .before .before .before .before .before .before .before .args .s) (g .graph .sizes) (c .before .before .before .before .before .before .before .before .before .before .before .before .before .before .before .args .entries .now) (c .before .before .before .before .before .before .before .before .before .before .before .before .before .before .before .args .size) (c .before .before .before .before .before .before .before .before .before .before .before .if1 .left ∙ c .before .before .before .before .before .before .before .before .before .before .before .before .before .variable-count .ensures .0) (omega (arith, c .before .before .before .before .before .before .before .before .before .before .before .before .plan-bytes .ensures .0, c .before .before .before .before .before .before .before .before .before .before .if2 .left)) (c .before .before .before .before .before .before .before .before .read-entries .result) (c .before .before .before .before .before .before .before .before .read-entries .ensures .0) (omega (arith, c .before .before .before .before .before .before .before .before .before .before .before .before .before .variable-count .ensures .0, c .before .before .before .before .before .if3 .left)) (c .before .before .clause-fault .result) (c .before .clause-count .result) (whole I (c .before .before .before .before .before .before .before .before .before .before .before .before .before .before .before .args .s) (c .before .before .before .before .before .before .before .before .before .before .before .before .before .before .before .args .starts .now) (c .before .before .before .before .before .before .before .before .before .before .before .before .before .before .before .args .goals .now) (c .before .before .before .before .before .before .before .before .before .before .before .before .before .before .before .args .near .now) g h (c .before .before .before .before .before .before .before .before .before .before .before .before .before .before .before .args .entries .now) (c .before .before .clause-fault .result) (c .before .before .clause-fault .ensures)) (c .before .clause-count .ensures) (shown-counted I (c .before .before .before .before .before .before .before .before .before .before .before .before .before .before .before .args .s) (c .before .before .before .before .before .before .before .before .before .before .before .before .before .before .before .args .starts .now) (c .before .before .before .before .before .before .before .before .before .before .before .before .before .before .before .args .goals .now) (c .before .before .before .before .before .before .before .before .before .before .before .before .before .before .before .args .near .now) g (c .before .before .before .before .before .before .before .before .before .before .before .before .before .before .before .pre .0)) (c .if4 .taken), λ e. absurd (let f : ⊥ = omega arith in f))), c .before .before .before .before .before .before .before .before .read-entries .ensures .1 .0)
 
 same-length-3 : tie.Need-same-length-3
 same-length-3 c = c .before .before .before .before .before .before .before .before .read-entries .ensures .1 .0 ∙ sym (c .before .before .before .before .before .before .before .before .before .before .before .before .before .before .before .pre .1)
 
 returns-5 : tie.Need-returns-5
 returns-5 c = (
-  (λ I g.
-      let q = pass-24 I (c .before .before .before .before .before .before .before .before .before .before .before .before .before .before .before .args .s) (g .graph .sizes) (c .before .before .before .before .before .before .before .before .before .before .before .before .before .before .before .args .entries .now) (c .before .before .before .before .before .before .before .before .before .before .before .before .before .before .before .args .size) (c .before .before .before .before .before .before .before .before .before .before .before .if1 .left ∙ c .before .before .before .before .before .before .before .before .before .before .before .before .before .variable-count .ensures .0) (omega (arith, c .before .before .before .before .before .before .before .before .before .before .before .before .plan-bytes .ensures .0, c .before .before .before .before .before .before .before .before .before .before .if2 .left)) (c .before .before .before .before .before .before .before .before .read-entries .result) (c .before .before .before .before .before .before .before .before .read-entries .ensures .0) (omega (arith, c .before .before .before .before .before .before .before .before .before .before .before .before .before .variable-count .ensures .0, c .before .before .before .before .before .if3 .left)) (c .before .before .clause-fault .result) (c .before .clause-count .result) (whole I (c .before .before .before .before .before .before .before .before .before .before .before .before .before .before .before .args .s) (c .before .before .before .before .before .before .before .before .before .before .before .before .before .before .before .args .starts .now) (c .before .before .before .before .before .before .before .before .before .before .before .before .before .before .before .args .goals .now) (c .before .before .before .before .before .before .before .before .before .before .before .before .before .before .before .args .near .now) g (c .before .before .before .before .before .before .before .before .before .before .before .before .before .before .before .args .entries .now) (c .before .before .clause-fault .result) (c .before .before .clause-fault .ensures)) (c .before .clause-count .ensures) (shown-counted I (c .before .before .before .before .before .before .before .before .before .before .before .before .before .before .before .args .s) (c .before .before .before .before .before .before .before .before .before .before .before .before .before .before .before .args .starts .now) (c .before .before .before .before .before .before .before .before .before .before .before .before .before .before .before .args .goals .now) (c .before .before .before .before .before .before .before .before .before .before .before .before .before .before .before .args .near .now) g (c .before .before .before .before .before .before .before .before .before .before .before .before .before .before .before .pre .0)) (c .if4 .left) in
+  (λ I g h.
+      let q = pass-24 I (c .before .before .before .before .before .before .before .before .before .before .before .before .before .before .before .args .s) (g .graph .sizes) (c .before .before .before .before .before .before .before .before .before .before .before .before .before .before .before .args .entries .now) (c .before .before .before .before .before .before .before .before .before .before .before .before .before .before .before .args .size) (c .before .before .before .before .before .before .before .before .before .before .before .if1 .left ∙ c .before .before .before .before .before .before .before .before .before .before .before .before .before .variable-count .ensures .0) (omega (arith, c .before .before .before .before .before .before .before .before .before .before .before .before .plan-bytes .ensures .0, c .before .before .before .before .before .before .before .before .before .before .if2 .left)) (c .before .before .before .before .before .before .before .before .read-entries .result) (c .before .before .before .before .before .before .before .before .read-entries .ensures .0) (omega (arith, c .before .before .before .before .before .before .before .before .before .before .before .before .before .variable-count .ensures .0, c .before .before .before .before .before .if3 .left)) (c .before .before .clause-fault .result) (c .before .clause-count .result) (whole I (c .before .before .before .before .before .before .before .before .before .before .before .before .before .before .before .args .s) (c .before .before .before .before .before .before .before .before .before .before .before .before .before .before .before .args .starts .now) (c .before .before .before .before .before .before .before .before .before .before .before .before .before .before .before .args .goals .now) (c .before .before .before .before .before .before .before .before .before .before .before .before .before .before .before .args .near .now) g h (c .before .before .before .before .before .before .before .before .before .before .before .before .before .before .before .args .entries .now) (c .before .before .clause-fault .result) (c .before .before .clause-fault .ensures)) (c .before .clause-count .ensures) (shown-counted I (c .before .before .before .before .before .before .before .before .before .before .before .before .before .before .before .args .s) (c .before .before .before .before .before .before .before .before .before .before .before .before .before .before .before .args .starts .now) (c .before .before .before .before .before .before .before .before .before .before .before .before .before .before .before .args .goals .now) (c .before .before .before .before .before .before .before .before .before .before .before .before .before .before .before .args .near .now) g (c .before .before .before .before .before .before .before .before .before .before .before .before .before .before .before .pre .0)) (c .if4 .left) in
       let y = accepted I (c .before .before .before .before .before .before .before .before .before .before .before .before .before .before .before .args .s) (g .graph .sizes) (c .before .before .before .before .before .before .before .before .before .before .before .before .before .before .before .args .entries .now) (c .before .before .before .before .before .before .before .before .before .before .before .before .before .before .before .args .size) (sym (ap (λ (x : Answer). x .number) q)) in
       (rw (c .before .before .before .before .before .before .before .before .before .before .before .before .plan-bytes .ensures .0) q, λ e. (c .before .before .before .before .before .before .before .before .before .before .before .before .plan-bytes .ensures .0, planned I (c .before .before .before .before .before .before .before .before .before .before .before .before .before .before .before .args .s) (g .graph .sizes) (c .before .before .before .before .before .before .before .before .before .before .before .before .before .before .before .args .entries .now) (c .before .before .before .before .before .before .before .before .before .before .before .before .before .before .before .args .size) y _ (c .before .before .before .before .before .before .before .before .read-entries .ensures .1 .1 (omega (arith, c .before .before .before .before .before .before .before .before .before .before .before .before .before .variable-count .ensures .0, c .before .before .before .before .before .if3 .left)))))),
   c .before .before .before .before .before .before .before .before .read-entries .ensures .1 .0,

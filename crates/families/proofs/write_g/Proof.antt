@@ -1,51 +1,51 @@
--- `families::write_g` meets its contract. The invariant: each turn has written its clauses behind those before it. Assumes nothing.
-use Prim.Native.Nat.{_-_}
+-- `families::write_g` meets its contract: the rule says which blocks G has. Assumes nothing.
+use mathlib.Core.Path.{refl}
+use Prim.Native.Nat.{_<_}
 use native.Mathlib.Omega.{arith}
 use borrow.Author.Needs.{needs}
-use lib.ListN.{length-take, length-drop}
-use Rattle.lists.specs.Loop.{each}
-use Rattle.lists.proofs.Slices.{Filling, each-filling, filling-room, filling-next, each-filled}
-use Rattle.formula.specs.Formula.{line}
-use Rattle.families.specs.Runs.{apart}
+use borrow.Author.Tests.{eq-eqb, ne-eqb}
+use Rattle.formula.proofs.Blocks.{blocks-agents, blocks-ends}
 use Rattle.families.proofs.write_g.Statement.{statement}
 use Rattle.families.proofs.write_g.Tie as tie
 
-abbrev Inv-loop : tie.InvT-loop
-Inv-loop f₀ s t a k at₀ b₀ f at b = Filling (λ b. each line (apart s (t .0) (a .0) b)) k f₀ b at f
+-- under rule 2 x is a vertex
+vertex : (c : tie.Then1) → c .before .before .args .x < c .before .before .args .s .n
+vertex c = omega (arith, blocks-ends (c .before .before .args .s) 6 refl (c .if1 .taken), c .before .before .pre .1 .0 .1)
 
-abbrev μ-loop : tie.MeasureT-loop
-μ-loop f₀ s t a k at₀ b₀ f at b = k - b
+-- and so there is a word of it
+inside : (c : tie.Then1) → c .before .before .args .x < 64
+inside c = omega (arith, vertex c, c .before .before .pre .0 .0 .n-most)
 
-loop-holds : tie.Need-loop-holds Inv-loop μ-loop
-loop-holds c = each-filling line (apart (c .args .s) (c .args .t .0) (c .args .a .0)) (c .pre .1 .1)
+mul-write-from : tie.Need-mul-write-from
+mul-write-from c = omega (arith, inside (c .before))
 
-write-apart-requires : tie.Need-write-apart-requires Inv-loop μ-loop
-write-apart-requires c κs = simp (length-take, length-drop) (let r = filling-room (c .before .before .loop .inv) (c .before .loop-test .taken) in search needs)
+element-copy-out-write-from : tie.Need-element-copy-out-write-from
+element-copy-out-write-from c = inside (c .before)
 
-loop-again : tie.Need-loop-again Inv-loop μ-loop
-loop-again c = filling-next (c .before .before .before .before .loop .inv) (c .before .before .before .loop-test .taken) (c .before .write-apart .ensures)
+write-from-requires : tie.Need-write-from-requires
+write-from-requires c κs =
+    (c .before .before .before .before .pre .0 .0, ((c .before .before .before .before .pre .1 .0 .0, vertex (c .before .before), c .before .before .before .before .pre .0 .1 (c .before .before .before .before .args .x) (inside (c .before .before))), rw (eq-eqb (c .before .before .before .before .args .s .rule) 2 (c .before .before .if1 .taken)) at (c .before .before .before .before .pre .1 .1)))
 
-add-at : tie.Need-add-at Inv-loop μ-loop
-add-at c = let q = loop-again c .fits in omega arith
+returns : tie.Need-returns
+returns c = rw (eq-eqb (c .before .before .before .before .before .before .args .s .rule) 2 (c .before .before .before .before .if1 .taken)) (c .before .write-from .ensures)
 
-returns : tie.Need-returns Inv-loop μ-loop
-returns c = each-filled line (apart (c .before .before .args .s) (c .before .before .args .t .0) (c .before .before .args .a .0)) (c .before .loop .inv) (omega arith)
+write-following-requires : tie.Need-write-following-requires
+write-following-requires c κs =
+    let e = blocks-agents (c .before .before .before .args .s) 6 (omega arith) (omega arith) (λ _. c .before .if1 .left) in
+    (c .before .before .before .pre .0 .0, ((c .before .before .before .pre .1 .0 .0, omega (arith, e, c .before .before .before .pre .1 .0 .1)), rw (ne-eqb (c .before .before .before .args .s .rule) 2 (c .before .if1 .left)) at (c .before .before .before .pre .1 .1)))
+
+returns-2 : tie.Need-returns-2
+returns-2 c = rw (ne-eqb (c .before .before .before .before .before .args .s .rule) 2 (c .before .before .before .if1 .left)) (c .before .write-following .ensures)
 
 pub write-g-spec : {M : Type 1} → statement M
 write-g-spec =
     tie.close
     (tie.spec
-    Inv-loop
-    μ-loop
-    loop-holds
+    mul-write-from
+    element-copy-out-write-from
+    write-from-requires
     (λ c. search needs)
+    returns
+    write-following-requires
     (λ c. search needs)
-    (λ c. search needs)
-    (λ c. search needs)
-    write-apart-requires
-    add-at
-    (λ c. search needs)
-    (λ c. search needs)
-    loop-again
-    (λ c. c .before .loop .inv .same)
-    returns)
+    returns-2)

@@ -10,7 +10,7 @@ use Rattle.floor.proofs.floor_of.Statement.{statement}
 use Rattle.floor.proofs.floor_of.Tie as tie
 
 known : (c : tie.Else1) → Ready (c .before .before .before .before .check-instance .result .checked .sizes) (c .before .before .before .before .check-instance .result .checked .starts) (c .before .before .before .before .check-instance .result .checked .goals) (c .before .before .before .before .check-instance .result .checked .near)
-known c = ready (c .before .before .before .before .before .before .args .b .now) (c .before .before .before .before .check-instance .result .checked) (passed (c .before .before .before .before .before .before .args .b .now) 0 (c .before .before .before .before .check-instance .result .answer) (c .before .before .before .before .check-instance .result .checked) (c .before .before .before .before .check-instance .ensures .0) (c .before .before .before .before .check-instance .ensures .1) (c .if1 .left))
+known c = ready (c .before .before .before .before .before .before .args .b .now) (c .before .before .before .before .check-instance .result .checked) (passed (c .before .before .before .before .before .before .args .b .now) 0 1 (c .before .before .before .before .check-instance .result .answer) (c .before .before .before .before .check-instance .result .checked) (c .before .before .before .before .check-instance .ensures .0) (c .before .before .before .before .check-instance .ensures .1) (c .if1 .left))
 
 returns : tie.Need-returns
 returns c = refused (c .before .before .before .before .before .before .args .b .now) (c .before .before .before .before .check-instance .result .answer) (c .before .before .before .before .check-instance .result .checked) (c .before .before .before .before .check-instance .ensures .0) (c .before .before .before .before .check-instance .ensures .1) (c .if1 .taken)

@@ -14,7 +14,7 @@ abbrev μ-loop : tie.MeasureT-loop
 μ-loop words₀ text₀ texts s starts goals near which gathered end at₀ t₀ words text at t = end - t
 
 times-of-requires : tie.Need-times-of-requires Inv-loop μ-loop
-times-of-requires c κs = (c .before .before .pre .1 .0 .limits, c .before .before .pre .1 .1)
+times-of-requires c κs = (c .before .before .pre .1 .0 .0 .limits, c .before .before .pre .1 .1)
 
 loop-holds : tie.Need-loop-holds Inv-loop μ-loop
 loop-holds c = record { within = omega arith; words-same = refl; text-same = refl; less = c .before .before .before .pre .0 .2 }

@@ -11,10 +11,10 @@ use Rattle.formula_printer.proofs.print_formula.Statement.{statement}
 use Rattle.formula_printer.proofs.print_formula.Tie as tie
 
 variable-count-requires : tie.Need-variable-count-requires
-variable-count-requires c κs = c .before .before .before .pre .1 .limits
+variable-count-requires c κs = c .before .before .before .pre .1 .0 .limits
 
 clause-count-requires : tie.Need-clause-count-requires
-clause-count-requires c κs = c .before .before .before .before .before .before .before .before .before .pre .1 .limits
+clause-count-requires c κs = c .before .before .before .before .before .before .before .before .before .pre .1 .0 .limits
 
 print-families-requires : tie.Need-print-families-requires
 print-families-requires c κs =

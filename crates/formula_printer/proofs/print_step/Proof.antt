@@ -14,7 +14,7 @@ abbrev μ-loop : tie.MeasureT-loop
 μ-loop words₀ text₀ texts s starts goals near which t gathered end at₀ x₀ words text at x = end - x
 
 blocks-at-requires : tie.Need-blocks-at-requires Inv-loop μ-loop
-blocks-at-requires c κs = (c .before .before .pre .1 .0 .limits, c .before .before .pre .1 .1 .0)
+blocks-at-requires c κs = (c .before .before .pre .1 .0 .0 .limits, c .before .before .pre .1 .1 .0)
 
 loop-holds : tie.Need-loop-holds Inv-loop μ-loop
 loop-holds c = record { within = omega arith; words-same = refl; text-same = refl; less = c .before .before .before .pre .0 .2 }

@@ -11,10 +11,10 @@ use Rattle.formula_size.proofs.formula_size.Statement.{statement}
 use Rattle.formula_size.proofs.formula_size.Tie as tie
 
 known : (c : tie.Else1) → Accepted (c .before .before .before .before .before .before .args .b .now) (c .before .before .before .before .check-instance .result .checked)
-known c = passed (c .before .before .before .before .before .before .args .b .now) (c .before .before .before .before .before .before .args .m) (c .before .before .before .before .check-instance .result .answer) (c .before .before .before .before .check-instance .result .checked) (c .before .before .before .before .check-instance .ensures .0) (c .before .before .before .before .check-instance .ensures .1) (c .if1 .left)
+known c = passed (c .before .before .before .before .before .before .args .b .now) (c .before .before .before .before .before .before .args .m) (c .before .before .before .before .before .before .args .rule) (c .before .before .before .before .check-instance .result .answer) (c .before .before .before .before .check-instance .result .checked) (c .before .before .before .before .check-instance .ensures .0) (c .before .before .before .before .check-instance .ensures .1) (c .if1 .left)
 
 returns : tie.Need-returns
-returns c = c .refused .ensures ∙ refuses formula (c .before .before .before .before .before .before .before .args .b .now) (c .before .before .before .before .before .before .before .args .m) (c .before .before .before .before .before .check-instance .result .answer) (c .before .before .before .before .before .check-instance .result .checked) (c .before .before .before .before .before .check-instance .ensures .0) (c .before .before .before .before .before .check-instance .ensures .1) (c .before .if1 .taken)
+returns c = c .refused .ensures ∙ refuses formula (c .before .before .before .before .before .before .before .args .b .now) (c .before .before .before .before .before .before .before .args .m) (c .before .before .before .before .before .before .before .args .rule) (c .before .before .before .before .before .check-instance .result .answer) (c .before .before .before .before .before .check-instance .result .checked) (c .before .before .before .before .before .check-instance .ensures .0) (c .before .before .before .before .before .check-instance .ensures .1) (c .before .if1 .taken)
 
 word-count-requires : tie.Need-word-count-requires
 word-count-requires c κs = limits-known _ _ (known (c .before))
@@ -26,7 +26,7 @@ returns-2 : tie.Need-returns-2
 returns-2 c =
     let w = known (c .before .before .before .before) in
     c .accepted .ensures
-    ∙ accepts formula (c .before .before .before .before .before .before .before .before .before .before .args .b .now) (c .before .before .before .before .before .before .before .before .before .before .args .m) (c .before .before .before .before .before .before .before .before .check-instance .result .answer) (c .before .before .before .before .before .before .before .before .check-instance .result .checked) (c .before .before .before .before .before .before .before .before .check-instance .ensures .0) (c .before .before .before .before .before .before .before .before .check-instance .ensures .1) (c .before .before .before .before .if1 .left) _ _
+    ∙ accepts formula (c .before .before .before .before .before .before .before .before .before .before .args .b .now) (c .before .before .before .before .before .before .before .before .before .before .args .m) (c .before .before .before .before .before .before .before .before .before .before .args .rule) (c .before .before .before .before .before .before .before .before .check-instance .result .answer) (c .before .before .before .before .before .before .before .before .check-instance .result .checked) (c .before .before .before .before .before .before .before .before .check-instance .ensures .0) (c .before .before .before .before .before .before .before .before .check-instance .ensures .1) (c .before .before .before .before .if1 .left) _ _
     (word-count-held _ _ w ∙ sym (c .before .before .word-count .ensures)) (clause-count-held _ _ w ∙ sym (c .before .clause-count .ensures))
 
 pub formula-size-spec : {M : Type 1} → statement M

@@ -12,10 +12,10 @@ use Rattle.formula_size.proofs.pruned_size.Statement.{statement}
 use Rattle.formula_size.proofs.pruned_size.Tie as tie
 
 known : (c : tie.Else1) → Accepted (c .before .before .before .before .before .before .args .b .now) (c .before .before .before .before .check-instance .result .checked)
-known c = passed (c .before .before .before .before .before .before .args .b .now) (c .before .before .before .before .before .before .args .m) (c .before .before .before .before .check-instance .result .answer) (c .before .before .before .before .check-instance .result .checked) (c .before .before .before .before .check-instance .ensures .0) (c .before .before .before .before .check-instance .ensures .1) (c .if1 .left)
+known c = passed (c .before .before .before .before .before .before .args .b .now) (c .before .before .before .before .before .before .args .m) (c .before .before .before .before .before .before .args .rule) (c .before .before .before .before .check-instance .result .answer) (c .before .before .before .before .check-instance .result .checked) (c .before .before .before .before .check-instance .ensures .0) (c .before .before .before .before .check-instance .ensures .1) (c .if1 .left)
 
 returns : tie.Need-returns
-returns c = c .refused .ensures ∙ refuses pruned (c .before .before .before .before .before .before .before .args .b .now) (c .before .before .before .before .before .before .before .args .m) (c .before .before .before .before .before .check-instance .result .answer) (c .before .before .before .before .before .check-instance .result .checked) (c .before .before .before .before .before .check-instance .ensures .0) (c .before .before .before .before .before .check-instance .ensures .1) (c .before .if1 .taken)
+returns c = c .refused .ensures ∙ refuses pruned (c .before .before .before .before .before .before .before .args .b .now) (c .before .before .before .before .before .before .before .args .m) (c .before .before .before .before .before .before .before .args .rule) (c .before .before .before .before .before .check-instance .result .answer) (c .before .before .before .before .before .check-instance .result .checked) (c .before .before .before .before .before .check-instance .ensures .0) (c .before .before .before .before .before .check-instance .ensures .1) (c .before .if1 .taken)
 
 table-of-requires : tie.Need-table-of-requires
 table-of-requires c κs = let r = ready _ _ (known (c .before .before .before)) in (r .limits .n-most, r .words-below)
@@ -36,7 +36,7 @@ returns-2 : tie.Need-returns-2
 returns-2 c =
     let w = known (c .before .before .before .before .before .before .before .before .before) in
     c .accepted .ensures
-    ∙ accepts pruned (c .before .before .before .before .before .before .before .before .before .before .before .before .before .before .before .args .b .now) (c .before .before .before .before .before .before .before .before .before .before .before .before .before .before .before .args .m) (c .before .before .before .before .before .before .before .before .before .before .before .before .before .check-instance .result .answer) (c .before .before .before .before .before .before .before .before .before .before .before .before .before .check-instance .result .checked) (c .before .before .before .before .before .before .before .before .before .before .before .before .before .check-instance .ensures .0) (c .before .before .before .before .before .before .before .before .before .before .before .before .before .check-instance .ensures .1) (c .before .before .before .before .before .before .before .before .before .if1 .left) _ _
+    ∙ accepts pruned (c .before .before .before .before .before .before .before .before .before .before .before .before .before .before .before .args .b .now) (c .before .before .before .before .before .before .before .before .before .before .before .before .before .before .before .args .m) (c .before .before .before .before .before .before .before .before .before .before .before .before .before .before .before .args .rule) (c .before .before .before .before .before .before .before .before .before .before .before .before .before .check-instance .result .answer) (c .before .before .before .before .before .before .before .before .before .before .before .before .before .check-instance .result .checked) (c .before .before .before .before .before .before .before .before .before .before .before .before .before .check-instance .ensures .0) (c .before .before .before .before .before .before .before .before .before .before .before .before .before .check-instance .ensures .1) (c .before .before .before .before .before .before .before .before .before .if1 .left) _ _
     (omega (arith, c .before .before .pruned-words .ensures, pruned-word-count-held _ _ w (c .before .before .before .before .before .table-of .result) (c .before .before .before .before .before .table-of .ensures .1) (c .before .before .before .count-h .result) (c .before .before .before .count-h .ensures .0)))
     (omega (arith, c .before .clause-count .ensures, pruned-clause-count-held _ _ w (c .before .before .before .before .before .table-of .result) (c .before .before .before .before .before .table-of .ensures .1) (c .before .before .before .count-h .result) (c .before .before .before .count-h .ensures .0)))
 

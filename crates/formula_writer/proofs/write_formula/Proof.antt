@@ -17,17 +17,17 @@ use Rattle.formula_writer.proofs.write_formula.Statement.{statement}
 use Rattle.formula_writer.proofs.write_formula.Tie as tie
 
 known : (c : tie.Else1) → Accepted (c .before .before .before .before .before .before .args .b .now) (c .before .before .before .before .check-instance .result .checked)
-known c = passed (c .before .before .before .before .before .before .args .b .now) (c .before .before .before .before .before .before .args .m) (c .before .before .before .before .check-instance .result .answer) (c .before .before .before .before .check-instance .result .checked) (c .before .before .before .before .check-instance .ensures .0) (c .before .before .before .before .check-instance .ensures .1) (c .if1 .left)
+known c = passed (c .before .before .before .before .before .before .args .b .now) (c .before .before .before .before .before .before .args .m) (c .before .before .before .before .before .before .args .rule) (c .before .before .before .before .check-instance .result .answer) (c .before .before .before .before .check-instance .result .checked) (c .before .before .before .before .check-instance .ensures .0) (c .before .before .before .before .check-instance .ensures .1) (c .if1 .left)
 
 returns : tie.Need-returns
-returns c = refuses formula (c .before .before .before .before .before .before .args .b .now) (c .before .before .before .before .before .before .args .m) (c .before .before .before .before .check-instance .result .answer) (c .before .before .before .before .check-instance .result .checked) (c .before .before .before .before .check-instance .ensures .0) (c .before .before .before .before .check-instance .ensures .1) (c .before .before .before .before .before .before .args .f .now) (c .if1 .taken)
+returns c = refuses formula (c .before .before .before .before .before .before .args .b .now) (c .before .before .before .before .before .before .args .m) (c .before .before .before .before .before .before .args .rule) (c .before .before .before .before .check-instance .result .answer) (c .before .before .before .before .check-instance .result .checked) (c .before .before .before .before .check-instance .ensures .0) (c .before .before .before .before .check-instance .ensures .1) (c .before .before .before .before .before .before .args .f .now) (c .if1 .taken)
 
 word-count-requires : tie.Need-word-count-requires
 word-count-requires c κs = limits-known _ _ (known c)
 
 returns-2 : tie.Need-returns-2
 returns-2 c =
-    stops formula (c .before .before .before .before .before .before .before .before .before .before .args .b .now) (c .before .before .before .before .before .before .before .before .before .before .args .m) (c .before .before .before .before .before .before .before .before .check-instance .result .answer) (c .before .before .before .before .before .before .before .before .check-instance .result .checked) (c .before .before .before .before .before .before .before .before .check-instance .ensures .0) (c .before .before .before .before .before .before .before .before .check-instance .ensures .1) (c .before .before .before .before .before .before .before .before .before .before .args .f .now) (c .before .before .before .before .if1 .left) (c .before .before .before .word-count .result)
+    stops formula (c .before .before .before .before .before .before .before .before .before .before .args .b .now) (c .before .before .before .before .before .before .before .before .before .before .args .m) (c .before .before .before .before .before .before .before .before .before .before .args .rule) (c .before .before .before .before .before .before .before .before .check-instance .result .answer) (c .before .before .before .before .before .before .before .before .check-instance .result .checked) (c .before .before .before .before .before .before .before .before .check-instance .ensures .0) (c .before .before .before .before .before .before .before .before .check-instance .ensures .1) (c .before .before .before .before .before .before .before .before .before .before .args .f .now) (c .before .before .before .before .if1 .left) (c .before .before .before .word-count .result)
     (word-count-held _ _ (known (c .before .before .before .before)) ∙ sym (c .before .before .before .word-count .ensures)) (c .before .before .ask-room .result) (c .before .before .ask-room .ensures) (c .if2 .taken)
 
 write-words-requires : tie.Need-write-words-requires
@@ -41,7 +41,7 @@ write-words-requires c κs =
 returns-3 : tie.Need-returns-3
 returns-3 c =
     let w = known (c .before .before .before .before .before .before .before) in
-    writes formula (c .before .before .before .before .before .before .before .before .before .before .before .before .before .args .b .now) (c .before .before .before .before .before .before .before .before .before .before .before .before .before .args .m) (c .before .before .before .before .before .before .before .before .before .before .before .check-instance .result .answer) (c .before .before .before .before .before .before .before .before .before .before .before .check-instance .result .checked) (c .before .before .before .before .before .before .before .before .before .before .before .check-instance .ensures .0) (c .before .before .before .before .before .before .before .before .before .before .before .check-instance .ensures .1) (c .before .before .before .before .before .before .before .before .before .before .before .before .before .args .f .now) (c .before .before .before .before .before .before .before .if1 .left) (c .before .before .before .before .before .before .word-count .result)
+    writes formula (c .before .before .before .before .before .before .before .before .before .before .before .before .before .args .b .now) (c .before .before .before .before .before .before .before .before .before .before .before .before .before .args .m) (c .before .before .before .before .before .before .before .before .before .before .before .before .before .args .rule) (c .before .before .before .before .before .before .before .before .before .before .before .check-instance .result .answer) (c .before .before .before .before .before .before .before .before .before .before .before .check-instance .result .checked) (c .before .before .before .before .before .before .before .before .before .before .before .check-instance .ensures .0) (c .before .before .before .before .before .before .before .before .before .before .before .check-instance .ensures .1) (c .before .before .before .before .before .before .before .before .before .before .before .before .before .args .f .now) (c .before .before .before .before .before .before .before .if1 .left) (c .before .before .before .before .before .before .word-count .result)
     (word-count-held _ _ w ∙ sym (c .before .before .before .before .before .before .word-count .ensures)) (c .before .before .before .before .before .ask-room .result) (c .before .before .before .before .before .ask-room .ensures) (c .before .before .before .if2 .left) _
     (c .before .write-words .ensures .1 ∙ ap (λ (l : List ℤ). filled l (c .before .before .before .before .before .before .before .before .before .before .before .before .before .args .f .now)) (sym (words-held (c .before .before .before .before .before .before .before .before .before .before .before .before .before .args .b .now) (c .before .before .before .before .before .before .before .before .before .before .before .check-instance .result .checked) w)))
 

@@ -1,45 +1,48 @@
 -- `goals::agent_at` meets its contract. The loop keeps how many agents so far have a goal, and they are not more than the place.
 -- Assumes nothing.
-use mathlib.Core.Path.{_≡_, refl, sym, _∙_, ap}
+use mathlib.Core.Path.{ap}
 use mathlib.Core.Logic.{⊎-elim}
-use Prim.Native.Nat.{ℕ, _-_, _≤_}
+use mathlib.Core.Bool.{not}
+use Prim.Native.Nat.{ℕ, _-_}
 use native.Mathlib.Omega.{arith}
 use borrow.Author.Needs.{needs}
 use lib.ListN.{getD}
+use Rattle.lists.proofs.Passing.{Seeking, seeking-from, seeking-found, seeking-yes, seeking-no, seeking-done}
 use Rattle.instance.specs.Instance.{goalCount}
-use Rattle.goals.proofs.Laws.{told-has, next-has, next-free}
+use Rattle.instance.proofs.Goals.{has, has-goal}
 use Rattle.goals.proofs.agent_at.Statement.{statement}
 use Rattle.goals.proofs.agent_at.Tie as tie
 
 abbrev Inv-loop : tie.InvT-loop
-Inv-loop goals k place before₀ a₀ before a = (a ≤ k) × (before ≡ goalCount a (λ i. getD goals i 0)) × (before ≤ a) × (before ≤ place)
+Inv-loop goals k place before₀ a₀ before a = Seeking (has λ i. getD goals i 0) k place a before
 
 abbrev μ-loop : tie.MeasureT-loop
 μ-loop goals k place before₀ a₀ before a = k - a
 
 loop-holds : tie.Need-loop-holds Inv-loop μ-loop
-unfolding goalCount
-loop-holds c = (omega arith, refl, omega arith, omega arith)
+loop-holds c = seeking-from _
 
 returns : tie.Need-returns Inv-loop μ-loop
+unfolding goalCount
 returns c =
     let goal : ℕ → ℕ = λ i. getD (c .before .before .before .before .before .before .args .goals .now) i 0 in
-    (c .before .before .before .before .loop-test .taken, told-has goal (c .before .before .before .before .before .loop .a) (c .before .before .is-free .ensures) (c .before .if1 .taken), sym (c .before .before .before .before .before .loop .inv .1) ∙ c .if2 .taken)
+    let (l, t, e) = seeking-found (has goal) (c .before .before .before .before .before .loop .inv) (c .before .before .before .before .loop-test .taken) (ap not (c .before .before .is-free .ensures)) (c .before .if1 .taken) (c .if2 .taken) in
+    (l, has-goal (goal (c .before .before .before .before .before .loop .a)) t, e)
 
 loop-again : tie.Need-loop-again Inv-loop μ-loop
 loop-again c =
     let goal : ℕ → ℕ = λ i. getD (c .before .before .before .before .before .args .goals .now) i 0 in
     let l = c .before .before .before .before .loop in
+    let t = c .before .before .before .loop-test .taken in
+    let e = ap not (c .before .is-free .ensures) in
     ⊎-elim
-    (λ w. (omega arith, rw (w .2) (omega (arith, next-has goal (l .a) (c .before .is-free .ensures) (w .0 .taken), l .inv .1)), rw (w .2) (omega (arith, l .inv .2)), rw (w .2) (omega (arith, w .1 .left, l .inv .3))))
-    (λ w. (omega arith, rw (w .1) (omega (arith, next-free goal (l .a) (c .before .is-free .ensures) (w .0 .left), l .inv .1)), rw (w .1) (omega (arith, l .inv .2)), rw (w .1) (l .inv .3)))
+    (λ w. rw (w .2) (seeking-yes (has goal) (l .inv) t e (w .0 .taken) (w .1 .left)))
+    (λ w. rw (w .1) (seeking-no (has goal) (l .inv) t e (w .0 .left)))
     (c .if1 .came)
 
 returns-2 : tie.Need-returns-2 Inv-loop μ-loop
-returns-2 c =
-    let e : c .before .loop .a ≡ c .before .before .args .k = omega arith in
-    let z = ap (λ (j : ℕ). goalCount j (λ i. getD (c .before .before .args .goals .now) i 0)) e in
-    absurd (omega arith)
+unfolding goalCount
+returns-2 c = absurd (seeking-done (has λ i. getD (c .before .before .args .goals .now) i 0) (c .before .loop .inv) (omega arith) (c .before .before .pre .1))
 
 pub agent-at-spec : {M : Type 1} → statement M
 agent-at-spec =

@@ -1,12 +1,14 @@
 -- `goals::count` meets its contract. The loop keeps the count of the agents so far. Assumes nothing.
 use mathlib.Core.Path.{_≡_, refl, _∙_, ap}
 use mathlib.Core.Logic.{⊎-elim}
+use mathlib.Core.Bool.{not}
 use Prim.Native.Nat.{ℕ, _-_, _≤_}
 use native.Mathlib.Omega.{arith}
 use borrow.Author.Needs.{needs}
 use lib.ListN.{getD}
+use Rattle.lists.proofs.Passing.{passing-yes, passing-no}
 use Rattle.instance.specs.Instance.{goalCount}
-use Rattle.goals.proofs.Laws.{next-has, next-free}
+use Rattle.instance.proofs.Goals.{has}
 use Rattle.goals.proofs.count.Statement.{statement}
 use Rattle.goals.proofs.count.Tie as tie
 
@@ -21,12 +23,13 @@ unfolding goalCount
 loop-holds c = (omega arith, refl, omega arith)
 
 loop-again : tie.Need-loop-again Inv-loop μ-loop
+unfolding goalCount
 loop-again c =
     let goal : ℕ → ℕ = λ i. getD (c .before .before .before .before .before .args .goals .now) i 0 in
     let l = c .before .before .before .before .loop in
     ⊎-elim
-    (λ w. (omega arith, rw (w .1) (omega (arith, next-has goal (l .a) (c .before .is-free .ensures) (w .0 .taken), l .inv .1)), rw (w .1) (omega (arith, l .inv .2))))
-    (λ w. (omega arith, rw (w .1) (omega (arith, next-free goal (l .a) (c .before .is-free .ensures) (w .0 .left), l .inv .1)), rw (w .1) (omega (arith, l .inv .2))))
+    (λ w. (omega arith, rw (w .1) (omega (arith, passing-yes (has goal) (l .a) (ap not (c .before .is-free .ensures)) (w .0 .taken), l .inv .1)), rw (w .1) (omega (arith, l .inv .2))))
+    (λ w. (omega arith, rw (w .1) (omega (arith, passing-no (has goal) (l .a) (ap not (c .before .is-free .ensures)) (w .0 .left), l .inv .1)), rw (w .1) (omega (arith, l .inv .2))))
     (c .if1 .came)
 
 returns : tie.Need-returns Inv-loop μ-loop

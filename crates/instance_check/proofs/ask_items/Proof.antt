@@ -10,7 +10,7 @@ use Rattle.lists.specs.Loop.{every}
 use Rattle.answers.specs.Answers.{Question, decide}
 use Rattle.instance.specs.Instance.{edges, starts, goals}
 use Rattle.instance.specs.Questions.{question6, question7, question8, question9, properEdge, laterEdge}
-use Rattle.instance_check.proofs.Laws.{edges-pass, vertices-stop, vertices-pass, horizon-no, horizon-yes}
+use Rattle.instance_check.proofs.Laws.{edges-pass, vertices-stop, vertices-pass, horizon-no, rule-no, rule-yes}
 use Rattle.instance_check.proofs.ask_items.Statement.{statement}
 use Rattle.instance_check.proofs.ask_items.Tie as tie
 
@@ -58,10 +58,13 @@ returns-3 c =
     ∙ starts-clear (c .before .before .before) _
 
 returns-4 : tie.Need-returns-4
-returns-4 c = c .refuse3 .ensures ∙ horizon-no _ (c .before .if4 .taken) ∙ goals-clear (c .before .before .before) _
+returns-4 c = c .refuse3 .ensures ∙ horizon-no _ _ (c .before .if4 .taken) ∙ goals-clear (c .before .before .before) _
 
 returns-5 : tie.Need-returns-5
-returns-5 c = horizon-yes _ (c .if4 .left) ∙ goals-clear (c .before .before) _
+returns-5 c = c .refuse4 .ensures ∙ rule-no _ (c .before .before .before .before .before .before .before .before .before .before .before .before .before .before .args .s .rule) (c .before .before .before .before .if4 .left) (not-true _ (c .before .if5 .taken)) ∙ goals-clear (c .before .before .before .before .before .before) _
+
+returns-6 : tie.Need-returns-6
+returns-6 c = rule-yes _ (c .before .before .before .before .before .before .before .before .before .before .before .before .before .args .s .rule) (c .before .before .before .if4 .left) (not-false _ (c .if5 .left)) ∙ goals-clear (c .before .before .before .before .before) _
 
 pub ask-items-spec : {M : Type 1} → statement M
 ask-items-spec =
@@ -84,4 +87,6 @@ ask-items-spec =
     returns-3
     (λ c κs. search needs)
     returns-4
-    returns-5)
+    (λ c κs. search needs)
+    returns-5
+    returns-6)

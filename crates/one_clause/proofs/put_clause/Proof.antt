@@ -4,6 +4,7 @@ use mathlib.Core.List.{List, []}
 use Prim.Native.Nat.{_<_}
 use native.Mathlib.Omega.{arith}
 use borrow.Author.Needs.{needs}
+use borrow.Author.Tests.{ne-eqb}
 use lib.ListN.{getD}
 use Rattle.instance.specs.Instance.{joined}
 use Rattle.formula.specs.Blocks.{times, blocksAt, block}
@@ -62,11 +63,12 @@ put-onward-requires c κs =
     let r = room-put (onward-clause (c .before .before .before .args .s) (c .before .before .before .args .t) (c .before .before .before .args .x) (joined (c .before .before .before .args .near .now)) (c .before .before .before .args .place) (q .3)) (rw (c .before .before .match .keys6) at (c .before .before .before .pre .1 .1)) in
     (c .before .before .before .pre .0 .limits, ((q .1, q .2, q .3, l), search needs))
 
-put-g-requires : tie.Need-put-g-requires
+put-following-requires : tie.Need-put-following-requires
 unfolding times blocksAt block
-put-g-requires c κs =
+put-following-requires c κs =
     let q = rw (last (c .before .before .args .which) (c .before .before .pre .1 .0 .0) (c .before .match .rest)) at (c .before .before .pre .1 .0) in
-    (c .before .before .pre .0 .limits, ((q .1, q .2, q .3), rw (last (c .before .before .args .which) (c .before .before .pre .1 .0 .0) (c .before .match .rest)) at (c .before .before .pre .1 .1)))
+    let one = ne-eqb (c .before .before .args .s .rule) 2 (q .5 refl) in
+    (c .before .before .pre .0 .limits, ((q .1, rw one at (q .2), q .3), rw (last (c .before .before .args .which) (c .before .before .pre .1 .0 .0) (c .before .match .rest), one) at (c .before .before .pre .1 .1)))
 
 returns : tie.Need-returns
 unfolding block
@@ -103,7 +105,9 @@ returns-6 c =
 
 returns-7 : tie.Need-returns-7
 unfolding block
-returns-7 c = rw (last (c .before .before .before .before .args .which) (c .before .before .before .before .pre .1 .0 .0) (c .before .before .before .match .rest)) (c .before .put-g .ensures)
+returns-7 c =
+    let six = last (c .before .before .before .before .args .which) (c .before .before .before .before .pre .1 .0 .0) (c .before .before .before .match .rest) in
+    rw (six, ne-eqb (c .before .before .before .before .args .s .rule) 2 (c .before .before .before .before .pre .1 .0 .5 six)) (c .before .put-following .ensures)
 
 pub put-clause-spec : {M : Type 1} → statement M
 put-clause-spec =
@@ -117,7 +121,7 @@ put-clause-spec =
     mul-put-onward
     element-copy-out-put-onward
     put-onward-requires
-    put-g-requires
+    put-following-requires
     (λ c. search needs)
     returns
     (λ c. search needs)

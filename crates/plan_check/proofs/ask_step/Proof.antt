@@ -19,14 +19,14 @@ add-t12 c = omega (arith, known (c .before .before .before .before .before))
 returns : tie.Need-returns
 returns c = λ I g. stop-19 I (c .before .before .before .before .before .args .s) (c .before .before .before .before .before .args .near .now) g (c .before .before .before .before .before .args .p .now) (c .before .before .before .before .before .args .t) (c .before .before .before .step-fault .result) (c .before .before .step-fault2 .result) (c .before .step-fault3 .result) (c .before .before .before .step-fault .ensures) (c .before .before .step-fault2 .ensures) (c .before .step-fault3 .ensures) (c .if1 .taken)
 
-occupied-number-requires : tie.Need-occupied-number-requires
-occupied-number-requires c κs = ((c .before .before .before .before .before .before .pre .1 .0, c .before .before .before .before .before .before .pre .1 .1, c .if2 .taken), c .before .before .before .step-fault2 .ensures .here (c .if2 .taken))
+second-number-requires : tie.Need-second-number-requires
+second-number-requires c κs = ((c .before .before .before .before .before .before .pre .1 .0, c .before .before .before .before .before .before .pre .1 .1, c .if2 .taken), c .before .before .before .step-fault2 .ensures .here (c .if2 .taken))
 
 add-t14 : tie.Need-add-t14
 add-t14 c = omega (arith, known (c .before .before .before .before .before .before .before))
 
 returns-2 : tie.Need-returns-2
-returns-2 c = λ I g. stop-20 I (c .before .before .before .before .before .before .before .args .s) (c .before .before .before .before .before .before .before .args .near .now) g (c .before .before .before .before .before .before .before .args .p .now) (c .before .before .before .before .before .before .before .args .t) (c .before .before .before .before .before .step-fault .result) (c .before .before .before .before .step-fault2 .result) (c .before .before .before .step-fault3 .result) (c .before .before .before .before .before .step-fault .ensures) (c .before .before .before .before .step-fault2 .ensures) (c .before .before .before .step-fault3 .ensures) (c .occupied-number .result) (c .occupied-number .ensures) (c .before .before .if1 .left) (c .before .if2 .taken)
+returns-2 c = λ I g. stop-20 I (c .before .before .before .before .before .before .before .args .s) (c .before .before .before .before .before .before .before .args .near .now) g (c .before .before .before .before .before .before .before .args .p .now) (c .before .before .before .before .before .before .before .args .t) (c .before .before .before .before .before .step-fault .result) (c .before .before .before .before .step-fault2 .result) (c .before .before .before .step-fault3 .result) (c .before .before .before .before .before .step-fault .ensures) (c .before .before .before .before .step-fault2 .ensures) (c .before .before .before .step-fault3 .ensures) (c .second-number .result) (c .second-number .ensures) (c .before .before .if1 .left) (c .before .if2 .taken)
 
 add-t15 : tie.Need-add-t15
 add-t15 c = omega (arith, known (c .before .before .before .before .before .before .before))
@@ -48,7 +48,7 @@ ask-step-spec =
     (λ c κs. search needs)
     add-t12
     returns
-    occupied-number-requires
+    second-number-requires
     add-t14
     returns-2
     add-t15

@@ -31,19 +31,19 @@ first-on-requires : tie.Need-first-on-requires
 first-on-requires c κs = omega (arith, known (c .before .before .before))
 
 add-end : tie.Need-add-end
-add-end c = omega (arith, known (c .before .before .before .before), occupant-below (c .before .before .before .before .args .s) (c .before .before .before .before .args .p .now) (c .before .before .before .before .args .t) (c .before .before .before .before .args .a) (c .before .before .before .before .pre .1) (c .first-on .result) (c .first-on .ensures))
+add-end c = omega (arith, known (c .before .before .before .before), occupant-below (c .before .before .before .before .args .s) (c .before .before .before .before .pre .1 .0) (c .before .before .before .before .args .p .now) (c .before .before .before .before .args .t) (c .before .before .before .before .args .a) (c .before .before .before .before .pre .1 .1) (c .first-on .result) (c .first-on .ensures))
 
 shared-slice-read-end : tie.Need-shared-slice-read-end
-shared-slice-read-end c = omega (arith, known (c .before .before .before .before .before), occupant-below (c .before .before .before .before .before .args .s) (c .before .before .before .before .before .args .p .now) (c .before .before .before .before .before .args .t) (c .before .before .before .before .before .args .a) (c .before .before .before .before .before .pre .1) (c .before .first-on .result) (c .before .first-on .ensures))
+shared-slice-read-end c = omega (arith, known (c .before .before .before .before .before), occupant-below (c .before .before .before .before .before .args .s) (c .before .before .before .before .before .pre .1 .0) (c .before .before .before .before .before .args .p .now) (c .before .before .before .before .before .args .t) (c .before .before .before .before .before .args .a) (c .before .before .before .before .before .pre .1 .1) (c .before .first-on .result) (c .before .first-on .ensures))
 
 returns : tie.Need-returns
-returns c = number-stays (c .before .before .before .before .before .before .args .s) (c .before .before .before .before .before .before .args .p .now) (c .before .before .before .before .before .before .args .t) (c .before .before .before .before .before .before .args .a) (c .before .before .before .before .before .before .pre .1) (c .before .before .first-on .result) (c .before .before .first-on .ensures) (c .if1 .taken)
+returns c = number-stays (c .before .before .before .before .before .before .args .s) (c .before .before .before .before .before .before .pre .1 .0) (c .before .before .before .before .before .before .args .p .now) (c .before .before .before .before .before .before .args .t) (c .before .before .before .before .before .before .args .a) (c .before .before .before .before .before .before .pre .1 .1) (c .before .before .first-on .result) (c .before .before .first-on .ensures) (c .if1 .taken)
 
 returns-2 : tie.Need-returns-2
-returns-2 c = number-exchanges (c .before .before .before .before .before .before .before .args .s) (c .before .before .before .before .before .before .before .args .p .now) (c .before .before .before .before .before .before .before .args .t) (c .before .before .before .before .before .before .before .args .a) (c .before .before .before .before .before .before .before .pre .1) (c .before .before .before .first-on .result) (c .before .before .before .first-on .ensures) (c .before .if1 .left) (c .if2 .taken)
+returns-2 c = number-exchanges (c .before .before .before .before .before .before .before .args .s) (c .before .before .before .before .before .before .before .pre .1 .0) (c .before .before .before .before .before .before .before .args .p .now) (c .before .before .before .before .before .before .before .args .t) (c .before .before .before .before .before .before .before .args .a) (c .before .before .before .before .before .before .before .pre .1 .1) (c .before .before .before .first-on .result) (c .before .before .before .first-on .ensures) (c .before .if1 .left) (c .if2 .taken)
 
 returns-3 : tie.Need-returns-3
-returns-3 c = number-on (c .before .before .before .before .before .before .before .args .s) (c .before .before .before .before .before .before .before .args .p .now) (c .before .before .before .before .before .before .before .args .t) (c .before .before .before .before .before .before .before .args .a) (c .before .before .before .before .before .before .before .pre .1) (c .before .before .before .first-on .result) (c .before .before .before .first-on .ensures) (c .before .if1 .left) (c .if2 .left)
+returns-3 c = number-on (c .before .before .before .before .before .before .before .args .s) (c .before .before .before .before .before .before .before .pre .1 .0) (c .before .before .before .before .before .before .before .args .p .now) (c .before .before .before .before .before .before .before .args .t) (c .before .before .before .before .before .before .before .args .a) (c .before .before .before .before .before .before .before .pre .1 .1) (c .before .before .before .first-on .result) (c .before .before .before .first-on .ensures) (c .before .if1 .left) (c .if2 .left)
 
 pub occupied-number-spec : {M : Type 1} → statement M
 occupied-number-spec =

@@ -19,14 +19,14 @@ use Rattle.pruned_writer.proofs.write_pruned.Statement.{statement}
 use Rattle.pruned_writer.proofs.write_pruned.Tie as tie
 
 known : (c : tie.Else1) → Accepted (c .before .before .before .before .before .before .args .b .now) (c .before .before .before .before .check-instance .result .checked)
-known c = passed (c .before .before .before .before .before .before .args .b .now) (c .before .before .before .before .before .before .args .m) (c .before .before .before .before .check-instance .result .answer) (c .before .before .before .before .check-instance .result .checked) (c .before .before .before .before .check-instance .ensures .0) (c .before .before .before .before .check-instance .ensures .1) (c .if1 .left)
+known c = passed (c .before .before .before .before .before .before .args .b .now) (c .before .before .before .before .before .before .args .m) (c .before .before .before .before .before .before .args .rule) (c .before .before .before .before .check-instance .result .answer) (c .before .before .before .before .check-instance .result .checked) (c .before .before .before .before .check-instance .ensures .0) (c .before .before .before .before .check-instance .ensures .1) (c .if1 .left)
 
 -- the words that are needed
 needed : (c : tie.After-pruned-words) → length (words (pruned (instanceOf (c .before .before .before .before .before .before .before .before .before .before .before .before .before .args .b .now) (c .before .before .before .before .before .before .before .before .before .before .before .check-instance .result .checked)))) ≡ c .pruned-words .result
 needed c = omega (arith, c .pruned-words .ensures, pruned-word-count-held _ _ (known (c .before .before .before .before .before .before .before)) (c .before .before .before .table-of .result) (c .before .before .before .table-of .ensures .1) (c .before .count-h .result) (c .before .count-h .ensures .0))
 
 returns : tie.Need-returns
-returns c = refuses pruned (c .before .before .before .before .before .before .args .b .now) (c .before .before .before .before .before .before .args .m) (c .before .before .before .before .check-instance .result .answer) (c .before .before .before .before .check-instance .result .checked) (c .before .before .before .before .check-instance .ensures .0) (c .before .before .before .before .check-instance .ensures .1) (c .before .before .before .before .before .before .args .f .now) (c .if1 .taken)
+returns c = refuses pruned (c .before .before .before .before .before .before .args .b .now) (c .before .before .before .before .before .before .args .m) (c .before .before .before .before .before .before .args .rule) (c .before .before .before .before .check-instance .result .answer) (c .before .before .before .before .check-instance .result .checked) (c .before .before .before .before .check-instance .ensures .0) (c .before .before .before .before .check-instance .ensures .1) (c .before .before .before .before .before .before .args .f .now) (c .if1 .taken)
 
 table-of-requires : tie.Need-table-of-requires
 table-of-requires c κs = let r = ready _ _ (known (c .before .before .before)) in (r .limits .n-most, r .words-below)
@@ -39,7 +39,7 @@ pruned-words-requires c κs = (limits-known _ _ (known (c .before .before .befor
 
 returns-2 : tie.Need-returns-2
 returns-2 c =
-    stops pruned (c .before .before .before .before .before .before .before .before .before .before .before .before .before .before .before .before .args .b .now) (c .before .before .before .before .before .before .before .before .before .before .before .before .before .before .before .before .args .m) (c .before .before .before .before .before .before .before .before .before .before .before .before .before .before .check-instance .result .answer) (c .before .before .before .before .before .before .before .before .before .before .before .before .before .before .check-instance .result .checked) (c .before .before .before .before .before .before .before .before .before .before .before .before .before .before .check-instance .ensures .0) (c .before .before .before .before .before .before .before .before .before .before .before .before .before .before .check-instance .ensures .1) (c .before .before .before .before .before .before .before .before .before .before .before .before .before .before .before .before .args .f .now) (c .before .before .before .before .before .before .before .before .before .before .if1 .left) (c .before .before .before .pruned-words .result) (needed (c .before .before .before))
+    stops pruned (c .before .before .before .before .before .before .before .before .before .before .before .before .before .before .before .before .args .b .now) (c .before .before .before .before .before .before .before .before .before .before .before .before .before .before .before .before .args .m) (c .before .before .before .before .before .before .before .before .before .before .before .before .before .before .before .before .args .rule) (c .before .before .before .before .before .before .before .before .before .before .before .before .before .before .check-instance .result .answer) (c .before .before .before .before .before .before .before .before .before .before .before .before .before .before .check-instance .result .checked) (c .before .before .before .before .before .before .before .before .before .before .before .before .before .before .check-instance .ensures .0) (c .before .before .before .before .before .before .before .before .before .before .before .before .before .before .check-instance .ensures .1) (c .before .before .before .before .before .before .before .before .before .before .before .before .before .before .before .before .args .f .now) (c .before .before .before .before .before .before .before .before .before .before .if1 .left) (c .before .before .before .pruned-words .result) (needed (c .before .before .before))
     (c .before .before .ask-room .result) (c .before .before .ask-room .ensures) (c .if2 .taken)
 
 write-all-requires : tie.Need-write-all-requires
@@ -52,7 +52,7 @@ write-all-requires c κs =
 
 returns-3 : tie.Need-returns-3
 returns-3 c =
-    writes pruned (c .before .before .before .before .before .before .before .before .before .before .before .before .before .before .before .before .before .before .before .before .args .b .now) (c .before .before .before .before .before .before .before .before .before .before .before .before .before .before .before .before .before .before .before .before .args .m) (c .before .before .before .before .before .before .before .before .before .before .before .before .before .before .before .before .before .before .check-instance .result .answer) (c .before .before .before .before .before .before .before .before .before .before .before .before .before .before .before .before .before .before .check-instance .result .checked) (c .before .before .before .before .before .before .before .before .before .before .before .before .before .before .before .before .before .before .check-instance .ensures .0) (c .before .before .before .before .before .before .before .before .before .before .before .before .before .before .before .before .before .before .check-instance .ensures .1) (c .before .before .before .before .before .before .before .before .before .before .before .before .before .before .before .before .before .before .before .before .args .f .now) (c .before .before .before .before .before .before .before .before .before .before .before .before .before .before .if1 .left) (c .before .before .before .before .before .before .before .pruned-words .result) (needed (c .before .before .before .before .before .before .before))
+    writes pruned (c .before .before .before .before .before .before .before .before .before .before .before .before .before .before .before .before .before .before .before .before .args .b .now) (c .before .before .before .before .before .before .before .before .before .before .before .before .before .before .before .before .before .before .before .before .args .m) (c .before .before .before .before .before .before .before .before .before .before .before .before .before .before .before .before .before .before .before .before .args .rule) (c .before .before .before .before .before .before .before .before .before .before .before .before .before .before .before .before .before .before .check-instance .result .answer) (c .before .before .before .before .before .before .before .before .before .before .before .before .before .before .before .before .before .before .check-instance .result .checked) (c .before .before .before .before .before .before .before .before .before .before .before .before .before .before .before .before .before .before .check-instance .ensures .0) (c .before .before .before .before .before .before .before .before .before .before .before .before .before .before .before .before .before .before .check-instance .ensures .1) (c .before .before .before .before .before .before .before .before .before .before .before .before .before .before .before .before .before .before .before .before .args .f .now) (c .before .before .before .before .before .before .before .before .before .before .before .before .before .before .if1 .left) (c .before .before .before .before .before .before .before .pruned-words .result) (needed (c .before .before .before .before .before .before .before))
     (c .before .before .before .before .before .before .ask-room .result) (c .before .before .before .before .before .before .ask-room .ensures) (c .before .before .before .before .if2 .left) _
     (c .before .write-all .ensures
     ∙ ap (λ (l : List ℤ). filled l (c .before .before .before .before .before .before .before .before .before .before .before .before .before .before .before .before .before .before .before .before .args .f .now)) (sym (words-held (c .before .before .before .before .before .before .before .before .before .before .before .before .before .before .before .before .before .before .before .before .args .b .now) (c .before .before .before .before .before .before .before .before .before .before .before .before .before .before .before .before .before .before .check-instance .result .checked) (known (c .before .before .before .before .before .before .before .before .before .before .before .before .before .before)) (c .before .before .before .before .before .before .before .before .before .before .table-of .result) (c .before .before .before .before .before .before .before .before .before .before .table-of .ensures .1))))

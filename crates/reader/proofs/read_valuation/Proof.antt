@@ -31,14 +31,14 @@ check-instance-requires c κs = search needs
 
 returns : tie.Need-returns
 unfolding readAnswer readSlice
-returns c = let e = instance-refuses (c .before .before .before .before .before .before .args .b .now) (c .before .before .before .before .before .before .args .m) (c .before .before .before .check-instance .result .answer) (c .before .before .before .check-instance .result .checked) (c .before .before .before .check-instance .ensures .0) (c .before .before .before .check-instance .ensures .1) (asks (c .before .before .before .before .before .before)) count (c .if1 .taken) in (e, slice-refused _ (c .before .before .before .check-instance .result .answer) e _ (c .before .before .before .before .before .before .args .z .now) (c .if1 .taken))
+returns c = let e = instance-refuses (c .before .before .before .before .before .before .args .b .now) (c .before .before .before .before .before .before .args .m) (c .before .before .before .before .before .before .args .rule) (c .before .before .before .check-instance .result .answer) (c .before .before .before .check-instance .result .checked) (c .before .before .before .check-instance .ensures .0) (c .before .before .before .check-instance .ensures .1) (asks (c .before .before .before .before .before .before)) count (c .if1 .taken) in (e, slice-refused _ (c .before .before .before .check-instance .result .answer) e _ (c .before .before .before .before .before .before .args .z .now) (c .if1 .taken))
 
 variable-count-requires : tie.Need-variable-count-requires
-variable-count-requires c κs = limits-known _ _ (passed (c .before .before .before .before .before .before .before .args .b .now) (c .before .before .before .before .before .before .before .args .m) (c .before .before .before .before .check-instance .result .answer) (c .before .before .before .before .check-instance .result .checked) (c .before .before .before .before .check-instance .ensures .0) (c .before .before .before .before .check-instance .ensures .1) (c .before .if1 .left))
+variable-count-requires c κs = limits-known _ _ (passed (c .before .before .before .before .before .before .before .args .b .now) (c .before .before .before .before .before .before .before .args .m) (c .before .before .before .before .before .before .before .args .rule) (c .before .before .before .before .check-instance .result .answer) (c .before .before .before .before .check-instance .result .checked) (c .before .before .before .before .check-instance .ensures .0) (c .before .before .before .before .check-instance .ensures .1) (c .before .if1 .left))
 
 returns-2 : tie.Need-returns-2
 unfolding readAnswer readSlice
-returns-2 c = let w = (passed (c .before .before .before .before .before .before .before .before .before .args .b .now) (c .before .before .before .before .before .before .before .before .before .args .m) (c .before .before .before .before .before .before .check-instance .result .answer) (c .before .before .before .before .before .before .check-instance .result .checked) (c .before .before .before .before .before .before .check-instance .ensures .0) (c .before .before .before .before .before .before .check-instance .ensures .1) (c .before .before .before .if1 .left)) in let n = c .before .variable-count .ensures .0 in let e = call-answers (c .before .before .before .before .before .before .before .before .before .args .b .now) (c .before .before .before .before .before .before .before .before .before .args .m) (c .before .before .before .before .before .before .check-instance .result .answer) (c .before .before .before .before .before .before .check-instance .result .checked) (c .before .before .before .before .before .before .check-instance .ensures .0) (c .before .before .before .before .before .before .check-instance .ensures .1) (asks (c .before .before .before .before .before .before .before .before .before)) count (c .before .before .before .if1 .left) _ (ap (refuse 16) n ∙ stop-16 (instanceOf (c .before .before .before .before .before .before .before .before .before .args .b .now) (c .before .before .before .before .before .before .check-instance .result .checked)) _ (sizes-same _ _ w) (c .before .before .before .before .before .before .before .before .before .args .text .now) (length (c .before .before .before .before .before .before .before .before .before .args .z .now)) (omega (arith, n, c .if2 .taken))) in (e, slice-refused _ (refuse 16 (c .before .variable-count .result)) e _ (c .before .before .before .before .before .before .before .before .before .args .z .now) (λ z. let f : ⊥ = omega arith in f))
+returns-2 c = let w = (passed (c .before .before .before .before .before .before .before .before .before .args .b .now) (c .before .before .before .before .before .before .before .before .before .args .m) (c .before .before .before .before .before .before .before .before .before .args .rule) (c .before .before .before .before .before .before .check-instance .result .answer) (c .before .before .before .before .before .before .check-instance .result .checked) (c .before .before .before .before .before .before .check-instance .ensures .0) (c .before .before .before .before .before .before .check-instance .ensures .1) (c .before .before .before .if1 .left)) in let n = c .before .variable-count .ensures .0 in let e = call-answers (c .before .before .before .before .before .before .before .before .before .args .b .now) (c .before .before .before .before .before .before .before .before .before .args .m) (c .before .before .before .before .before .before .before .before .before .args .rule) (c .before .before .before .before .before .before .check-instance .result .answer) (c .before .before .before .before .before .before .check-instance .result .checked) (c .before .before .before .before .before .before .check-instance .ensures .0) (c .before .before .before .before .before .before .check-instance .ensures .1) (asks (c .before .before .before .before .before .before .before .before .before)) count (c .before .before .before .if1 .left) _ (ap (refuse 16) n ∙ stop-16 (instanceOf (c .before .before .before .before .before .before .before .before .before .args .b .now) (c .before .before .before .before .before .before .check-instance .result .checked)) _ (sizes-same _ _ w) (c .before .before .before .before .before .before .before .before .before .args .text .now) (length (c .before .before .before .before .before .before .before .before .before .args .z .now)) (omega (arith, n, c .if2 .taken))) in (e, slice-refused _ (refuse 16 (c .before .variable-count .result)) e _ (c .before .before .before .before .before .before .before .before .before .args .z .now) (λ z. let f : ⊥ = omega arith in f))
 
 read-text-requires : tie.Need-read-text-requires
 read-text-requires c κs = (c .before .before .variable-count .ensures .1, omega (arith, c .before .if2 .left))
@@ -48,7 +48,7 @@ same-length c = search needs
 
 returns-3 : tie.Need-returns-3
 unfolding readAnswer readSlice
-returns-3 c = let w = (passed (c .before .before .before .before .before .before .before .before .before .before .before .before .args .b .now) (c .before .before .before .before .before .before .before .before .before .before .before .before .args .m) (c .before .before .before .before .before .before .before .before .before .check-instance .result .answer) (c .before .before .before .before .before .before .before .before .before .check-instance .result .checked) (c .before .before .before .before .before .before .before .before .before .check-instance .ensures .0) (c .before .before .before .before .before .before .before .before .before .check-instance .ensures .1) (c .before .before .before .before .before .before .if1 .left)) in let n = c .before .before .before .before .variable-count .ensures .0 in let s = sizes-same _ _ w in let e = call-answers (c .before .before .before .before .before .before .before .before .before .before .before .before .args .b .now) (c .before .before .before .before .before .before .before .before .before .before .before .before .args .m) (c .before .before .before .before .before .before .before .before .before .check-instance .result .answer) (c .before .before .before .before .before .before .before .before .before .check-instance .result .checked) (c .before .before .before .before .before .before .before .before .before .check-instance .ensures .0) (c .before .before .before .before .before .before .before .before .before .check-instance .ensures .1) (asks (c .before .before .before .before .before .before .before .before .before .before .before .before)) count (c .before .before .before .before .before .before .if1 .left) (c .before .read-text .result) (pass-16 (instanceOf (c .before .before .before .before .before .before .before .before .before .before .before .before .args .b .now) (c .before .before .before .before .before .before .before .before .before .check-instance .result .checked)) _ s (c .before .before .before .before .before .before .before .before .before .before .before .before .args .text .now) (length (c .before .before .before .before .before .before .before .before .before .before .before .before .args .z .now)) (omega (arith, n, c .before .before .before .if2 .left)) (c .before .read-text .result) (c .before .read-text .ensures .0 ∙ ap (λ (x : ℕ). decide (textQuestions x (c .before .before .before .before .before .before .before .before .before .before .before .before .args .text .now)) x) n)) in (e, c .before .read-text .ensures .1 ∙ ap₂ (λ (a : Answer) (x : ℕ). lent a (inOrder x (given (c .before .before .before .before .before .before .before .before .before .before .before .before .args .text .now))) (c .before .before .before .before .before .before .before .before .before .before .before .before .args .z .now)) e (n ∙ ap variableCount (s ∙ ap (λ (J : Instance). J .sizes) (horizon (c .before .before .before .before .before .before .before .before .before .before .before .before .args .b .now) (c .before .before .before .before .before .before .before .before .before .before .before .before .args .m) (c .before .before .before .before .before .before .before .before .before .check-instance .result .answer) (c .before .before .before .before .before .before .before .before .before .check-instance .result .checked) (c .before .before .before .before .before .before .before .before .before .check-instance .ensures .0) (c .before .before .before .before .before .before .before .before .before .check-instance .ensures .1) (c .before .before .before .before .before .before .if1 .left)))))
+returns-3 c = let w = (passed (c .before .before .before .before .before .before .before .before .before .before .before .before .args .b .now) (c .before .before .before .before .before .before .before .before .before .before .before .before .args .m) (c .before .before .before .before .before .before .before .before .before .before .before .before .args .rule) (c .before .before .before .before .before .before .before .before .before .check-instance .result .answer) (c .before .before .before .before .before .before .before .before .before .check-instance .result .checked) (c .before .before .before .before .before .before .before .before .before .check-instance .ensures .0) (c .before .before .before .before .before .before .before .before .before .check-instance .ensures .1) (c .before .before .before .before .before .before .if1 .left)) in let n = c .before .before .before .before .variable-count .ensures .0 in let s = sizes-same _ _ w in let e = call-answers (c .before .before .before .before .before .before .before .before .before .before .before .before .args .b .now) (c .before .before .before .before .before .before .before .before .before .before .before .before .args .m) (c .before .before .before .before .before .before .before .before .before .before .before .before .args .rule) (c .before .before .before .before .before .before .before .before .before .check-instance .result .answer) (c .before .before .before .before .before .before .before .before .before .check-instance .result .checked) (c .before .before .before .before .before .before .before .before .before .check-instance .ensures .0) (c .before .before .before .before .before .before .before .before .before .check-instance .ensures .1) (asks (c .before .before .before .before .before .before .before .before .before .before .before .before)) count (c .before .before .before .before .before .before .if1 .left) (c .before .read-text .result) (pass-16 (instanceOf (c .before .before .before .before .before .before .before .before .before .before .before .before .args .b .now) (c .before .before .before .before .before .before .before .before .before .check-instance .result .checked)) _ s (c .before .before .before .before .before .before .before .before .before .before .before .before .args .text .now) (length (c .before .before .before .before .before .before .before .before .before .before .before .before .args .z .now)) (omega (arith, n, c .before .before .before .if2 .left)) (c .before .read-text .result) (c .before .read-text .ensures .0 ∙ ap (λ (x : ℕ). decide (textQuestions x (c .before .before .before .before .before .before .before .before .before .before .before .before .args .text .now)) x) n)) in (e, c .before .read-text .ensures .1 ∙ ap₂ (λ (a : Answer) (x : ℕ). lent a (inOrder x (given (c .before .before .before .before .before .before .before .before .before .before .before .before .args .text .now))) (c .before .before .before .before .before .before .before .before .before .before .before .before .args .z .now)) e (n ∙ ap variableCount (s ∙ ap (λ (J : Instance). J .sizes) (horizon (c .before .before .before .before .before .before .before .before .before .before .before .before .args .b .now) (c .before .before .before .before .before .before .before .before .before .before .before .before .args .m) (c .before .before .before .before .before .before .before .before .before .before .before .before .args .rule) (c .before .before .before .before .before .before .before .before .before .check-instance .result .answer) (c .before .before .before .before .before .before .before .before .before .check-instance .result .checked) (c .before .before .before .before .before .before .before .before .before .check-instance .ensures .0) (c .before .before .before .before .before .before .before .before .before .check-instance .ensures .1) (c .before .before .before .before .before .before .if1 .left)))))
 
 pub read-valuation-spec : {M : Type 1} → statement M
 read-valuation-spec =

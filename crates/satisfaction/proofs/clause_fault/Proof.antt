@@ -18,14 +18,14 @@ use Rattle.satisfaction.proofs.clause_fault.Tie as tie
 
 abbrev Inv-loop2 : tie.InvT-loop2
 Inv-loop2 s starts goals near entries p at₀ which count t₀ at t =
-    (t ≤ count) × (at ≤ which * 1081344 + t * 32768) × (at ≡ length (for which (family (heldIn s starts goals near))) + length (for t (row (heldIn s starts goals near) which)))
+    (t ≤ count) × (at ≤ which * 15966720 + t * 483840) × (at ≡ length (for which (family (heldIn s starts goals near))) + length (for t (row (heldIn s starts goals near) which)))
     × T (all (satisfied? entries) (for t (row (heldIn s starts goals near) which)))
 
 abbrev μ-loop2 : tie.MeasureT-loop2
 μ-loop2 s starts goals near entries p at₀ which count t₀ at t = count - t
 
 abbrev Inv-loop : tie.InvT-loop
-Inv-loop s starts goals near entries p at₀ which₀ at which = (which ≤ 7) × (at ≤ which * 1081344) × (at ≡ length (for which (family (heldIn s starts goals near)))) × T (all (satisfied? entries) (for which (family (heldIn s starts goals near))))
+Inv-loop s starts goals near entries p at₀ which₀ at which = (which ≤ 7) × (at ≤ which * 15966720) × (at ≡ length (for which (family (heldIn s starts goals near)))) × T (all (satisfied? entries) (for which (family (heldIn s starts goals near))))
 
 abbrev μ-loop : tie.MeasureT-loop
 μ-loop s starts goals near entries p at₀ which₀ at which = 7 - which

@@ -11,7 +11,7 @@ use Rattle.instance.specs.Limits.{Limits}
 use Rattle.satisfaction.specs.Rows.{row}
 use Rattle.formula.proofs.Blocks.{last}
 use Rattle.satisfaction.proofs.Bounds.{Products, products}
-use Rattle.satisfaction.proofs.Families.{size-A, size-B, size-C, size-D, size-E, size-F, size-G, places, inside, apart}
+use Rattle.satisfaction.proofs.Families.{size-A, size-B, size-C, size-D, size-E, size-F, places, inside, sound}
 use Rattle.satisfaction.proofs.Units.{units, goal-units}
 use Rattle.satisfaction.proofs.row_fault.Statement.{statement}
 use Rattle.satisfaction.proofs.row_fault.Tie as tie
@@ -62,21 +62,12 @@ fault-f-requires : tie.Need-fault-f-requires
 unfolding times
 fault-f-requires c κs = (limits (c .before .before), (c .before .before .pre .1 .0 .size, (rw (c .match .keys6) at (c .before .before .pre .1 .1 .1)), inside (heldIn (c .before .before .args .s) (c .before .before .args .starts .now) (c .before .before .args .goals .now) (c .before .before .args .near .now)) (c .before .before .args .entries .now) (c .before .before .args .p .now) (c .before .before .pre .1 .0) (limits (c .before .before) .n-most) (c .before .before .args .which) (omega (arith, c .match .keys6)) (c .before .before .pre .1 .1 .2)))
 
-sub-t24 : tie.Need-sub-t24
-sub-t24 c = omega (arith, limits (c .before .before) .k-least)
-
-mul-t25 : tie.Need-mul-t25
-mul-t25 c = omega (arith, known (c .before .before) .rest)
-
-mul-t26 : tie.Need-mul-t26
-mul-t26 c = omega (arith, known (c .before .before) .G)
-
-fault-g-requires : tie.Need-fault-g-requires
+part-g-requires : tie.Need-part-g-requires
 unfolding times
-fault-g-requires c κs =
+part-g-requires c κs =
     let e : c .before .before .args .which ≡ 6 = last (c .before .before .args .which) (c .before .before .pre .1 .1 .0) (c .match .rest) in
     let h : c .before .before .args .t < c .before .before .args .s .m = rw e at (c .before .before .pre .1 .1 .1) in
-    (limits (c .before .before), ((c .before .before .pre .1 .0 .size, h, inside (heldIn (c .before .before .args .s) (c .before .before .args .starts .now) (c .before .before .args .goals .now) (c .before .before .args .near .now)) (c .before .before .args .entries .now) (c .before .before .args .p .now) (c .before .before .pre .1 .0) (limits (c .before .before) .n-most) (c .before .before .args .which) (omega (arith, e)) (c .before .before .pre .1 .1 .2)), apart (heldIn (c .before .before .args .s) (c .before .before .args .starts .now) (c .before .before .args .goals .now) (c .before .before .args .near .now)) (c .before .before .args .entries .now) (c .before .before .args .p .now) (c .before .before .pre .1 .0) (c .before .before .args .which) (omega arith) (c .before .before .pre .1 .1 .2) (c .before .before .args .t) (omega arith)))
+    ((limits (c .before .before), record { edged = c .before .before .pre .0 .edged; words-below = c .before .before .pre .0 .words-below }), sound (heldIn (c .before .before .args .s) (c .before .before .args .starts .now) (c .before .before .args .goals .now) (c .before .before .args .near .now)) (c .before .before .args .entries .now) (c .before .before .args .p .now) (c .before .before .pre .1 .0) (limits (c .before .before) .n-most) (c .before .before .args .which) (omega arith) (c .before .before .pre .1 .1 .2) (c .before .before .args .t) h)
 
 returns : tie.Need-returns
 unfolding row block blocksAt
@@ -109,7 +100,7 @@ returns-7 : tie.Need-returns-7
 unfolding row block blocksAt
 returns-7 c =
     let e : c .before .before .before .args .which ≡ 6 = last (c .before .before .before .args .which) (c .before .before .before .pre .1 .1 .0) (c .before .match .rest) in
-    rw e ((size-G (heldIn (c .before .before .before .args .s) (c .before .before .before .args .starts .now) (c .before .before .before .args .goals .now) (c .before .before .before .args .near .now)) (c .before .before .before .args .t), omega (arith, known (c .before .before .before) .G)), c .fault-g .ensures (c .before .before .before .args .entries .now) (c .before .before .before .pre .1 .0 .valid) (places (heldIn (c .before .before .before .args .s) (c .before .before .before .args .starts .now) (c .before .before .before .args .goals .now) (c .before .before .before .args .near .now)) (c .before .before .before .args .entries .now) (c .before .before .before .args .p .now) (c .before .before .before .pre .1 .0) (c .before .before .before .args .which) (omega arith) (c .before .before .before .pre .1 .1 .2)))
+    rw e (c .part-g .ensures .0, c .part-g .ensures .1 (c .before .before .before .args .entries .now) (c .before .before .before .pre .1 .0 .valid) (places (heldIn (c .before .before .before .args .s) (c .before .before .before .args .starts .now) (c .before .before .before .args .goals .now) (c .before .before .before .args .near .now)) (c .before .before .before .args .entries .now) (c .before .before .before .args .p .now) (c .before .before .before .pre .1 .0) (c .before .before .before .args .which) (omega arith) (c .before .before .before .pre .1 .1 .2)))
 
 pub row-fault-spec : {M : Type 1} → statement M
 row-fault-spec =
@@ -127,10 +118,7 @@ row-fault-spec =
     fault-e-requires
     mul-t22
     fault-f-requires
-    sub-t24
-    mul-t25
-    mul-t26
-    fault-g-requires
+    part-g-requires
     returns
     returns-2
     returns-3

@@ -103,8 +103,9 @@ fn stored() -> Vec<Vec<u8>> {
         changed(0, 33),
         changed(0, 255),
     ];
-    let twice = refused_twice().into_iter();
-    inputs.extend(twice.map(|(instance, m, _)| with_horizon(m as u8, &instance)));
+    // The program keeps to rule 1.
+    let twice = refused_twice().into_iter().filter(|twice| twice.2 == 1);
+    inputs.extend(twice.map(|(instance, m, ..)| with_horizon(m as u8, &instance)));
     inputs
 }
 

@@ -1,34 +1,42 @@
 //! The calls against the plain clause table.
 
-use super::{compare_words, says};
+use super::{compare_words, says, RULES};
 use crate::parts::Parts;
 use crate::sample::{all_edges, instance_bytes, largest_instance, Generator};
 use crate::*;
-use std::collections::BTreeSet;
 
 /// Size, writers and clause by number against the table.
-fn compare_formula(instance: &[u8], m: u64, clauses: &[Vec<i32>]) {
-    compare_words(instance, m, false, clauses);
+pub(super) fn compare_formula(instance: &[u8], m: u64, rule: u64, clauses: &[Vec<i32>]) {
+    compare_words(instance, m, rule, false, clauses);
     for (number, literals) in clauses.iter().enumerate() {
         let mut words = [7; 67];
         let length = literals.len() + 1;
-        let answer = clause(instance, m, number as u64, &mut words);
+        let answer = clause(instance, m, rule, number as u64, &mut words);
         assert_eq!(answer, says(0, length as u64));
         assert_eq!(words[..length - 1], literals[..]);
         assert_eq!(words[length - 1], 0);
         assert!(words[length..].iter().all(|&word| word == 7));
     }
     let count = clauses.len() as u64;
-    assert_eq!(clause(instance, m, count, &mut [7; 66]), says(11, count));
+    assert_eq!(
+        clause(instance, m, rule, count, &mut [7; 66]),
+        says(11, count)
+    );
 }
 
 /// The decoder on a valuation against the table; tells whether it accepted.
-fn compare_decoder(instance: &[u8], m: u64, clauses: &[Vec<i32>], entries: &[i32]) -> bool {
+pub(super) fn compare_decoder(
+    instance: &[u8],
+    m: u64,
+    rule: u64,
+    clauses: &[Vec<i32>],
+    entries: &[i32],
+) -> bool {
     let [n, k] = [0, 1].map(|size| usize::from(instance[size]));
     let length = entries.len() / n;
     let mut buffer = [7; 16 * 33 + 1];
     let plan = &mut buffer[..length + 1];
-    let answer = decode(instance, m, entries, plan);
+    let answer = decode(instance, m, rule, entries, plan);
     match plain::first_unsatisfied(clauses, entries) {
         Some(number) => {
             assert_eq!(answer, says(24, number as u64));
@@ -39,20 +47,20 @@ fn compare_decoder(instance: &[u8], m: u64, clauses: &[Vec<i32>], entries: &[i32
             assert_eq!(answer, says(0, length as u64));
             assert_eq!(plan[length], 7);
             assert_eq!(plain::valuation(n, k, &plan[..length]), entries);
-            assert!(plain::passes(instance, m, &plan[..length]));
+            assert!(plain::passes(instance, m, rule, &plan[..length]));
             true
         }
     }
 }
 
 /// Plan check and encoder against the plain meaning; tells whether they accepted.
-fn compare_plan(instance: &[u8], m: u64, plan: &[u8]) -> bool {
+pub(super) fn compare_plan(instance: &[u8], m: u64, rule: u64, plan: &[u8]) -> bool {
     let [n, k] = [0, 1].map(|size| usize::from(instance[size]));
     let count = n * plan.len();
     let mut entries = vec![7; count + 1];
-    let answer = check_plan(instance, m, plan);
-    let encoded = encode(instance, m, plan, &mut entries);
-    let passes = plain::passes(instance, m, plan);
+    let answer = check_plan(instance, m, rule, plan);
+    let encoded = encode(instance, m, rule, plan, &mut entries);
+    let passes = plain::passes(instance, m, rule, plan);
     if passes {
         let cost = plain::cost(instance, m, plan) as u64;
         assert_eq!(answer, says(0, cost), "{plan:?}");
@@ -62,6 +70,7 @@ fn compare_plan(instance: &[u8], m: u64, plan: &[u8]) -> bool {
         assert_eq!(entries[count], 7);
     } else {
         assert!(matches!(answer.number, 17..=22 | 25 | 26));
+        assert!(rule == 1 || ![20, 26].contains(&answer.number));
         assert_eq!(encoded, answer);
         assert!(entries.iter().all(|&entry| entry == 7));
     }
@@ -106,7 +115,7 @@ fn all_goals(n: usize, k: usize) -> Vec<Vec<u8>> {
 }
 
 /// All lists of `length` vertices.
-fn all_plans(n: usize, length: usize) -> Vec<Vec<u8>> {
+pub(super) fn all_plans(n: usize, length: usize) -> Vec<Vec<u8>> {
     let mut plans = vec![vec![]];
     for _ in 0..length {
         let longer = |plan: &Vec<u8>| {
@@ -127,8 +136,8 @@ fn small_sizes() -> impl Iterator<Item = (usize, usize)> {
 fn all_small_formulas() {
     for (n, k) in small_sizes() {
         for instance in all_instances(n, k) {
-            for m in 0..=2 {
-                compare_formula(&instance, m, &plain::clauses(&instance, m));
+            for (m, rule) in (0..=2).flat_map(|m| RULES.map(|rule| (m, rule))) {
+                compare_formula(&instance, m, rule, &plain::clauses(&instance, m, rule));
             }
         }
     }
@@ -137,6 +146,12 @@ fn all_small_formulas() {
 /// Every plan as a valuation, for every small instance. At m 2 row 0 is the starts.
 #[test]
 fn all_small_plans() {
+    // What passes under rule 1 passes under rule 2, and more does.
+    let [first, second] = RULES.map(small_plans);
+    assert!(0 < first && first < second);
+}
+
+fn small_plans(rule: u64) -> usize {
     let mut passing = 0;
     for (n, k) in small_sizes() {
         for m in 0..=2 {
@@ -144,60 +159,41 @@ fn all_small_plans() {
             let ends = all_plans(n, (m + 1) * k - given);
             for instance in all_instances(n, k) {
                 let starts = &instance[instance.len() - 2 * k..instance.len() - k];
-                let clauses = plain::clauses(&instance, m as u64);
+                let clauses = plain::clauses(&instance, m as u64, rule);
                 for end in &ends {
                     let plan = [&starts[..given], end].concat();
-                    let passes = compare_plan(&instance, m as u64, &plan);
+                    let passes = compare_plan(&instance, m as u64, rule, &plan);
                     let entries = plain::valuation(n, k, &plan);
-                    let decoded = compare_decoder(&instance, m as u64, &clauses, &entries);
+                    let decoded = compare_decoder(&instance, m as u64, rule, &clauses, &entries);
                     assert_eq!(passes, decoded);
                     passing += usize::from(passes);
+                    assert!(rule == 1 || passes || !plain::passes(&instance, m as u64, 1, &plan));
                 }
             }
         }
     }
-    assert!(passing > 0);
-}
-
-/// Every plan of tiny sizes, with the ends that it has and all edges. Every cost
-/// up to m·k comes; on 3 vertices only one of two agents can move in a step, so
-/// that they rest from times 2 and 3 on at the latest.
-#[test]
-fn all_tiny_costs() {
-    for (n, k, m, most) in [
-        (2, 1, 9, 9),
-        (3, 1, 6, 6),
-        (4, 1, 4, 4),
-        (3, 2, 3, 5),
-        (4, 2, 2, 4),
-    ] {
-        let mut costs = BTreeSet::new();
-        for plan in all_plans(n, (m + 1) * k) {
-            let instance = instance_bytes(n, &all_edges(n), &plan[..k], &plan[m * k..]);
-            let m = m as u64;
-            if check_instance(&instance, m) == says(0, 0) && compare_plan(&instance, m, &plan) {
-                costs.insert(plain::cost(&instance, m, &plan));
-            }
-        }
-        assert!(costs.into_iter().eq(0..=most), "{n} {k} {m}");
-    }
+    passing
 }
 
 /// Every valuation of every small instance with at most 12 variables; with
 /// more, random valuations that make A and B true.
 #[test]
 fn all_small_valuations() {
+    RULES.into_iter().for_each(small_valuations);
+}
+
+fn small_valuations(rule: u64) {
     let mut random = Generator::new(11);
     let mut accepted = 0;
     for (n, k) in small_sizes() {
         for m in 0..=2 {
             let count = n * k * (m + 1);
             for instance in all_instances(n, k) {
-                let clauses = plain::clauses(&instance, m as u64);
-                let [starts, goals, ..] = Parts::of(&instance).clause_counts(m);
+                let clauses = plain::clauses(&instance, m as u64, rule);
+                let [starts, goals, ..] = Parts::of(&instance).clause_counts(m, rule);
                 let ends = (starts + goals) as usize;
                 let mut compare = |entries: &[i32]| {
-                    let decoded = compare_decoder(&instance, m as u64, &clauses, entries);
+                    let decoded = compare_decoder(&instance, m as u64, rule, &clauses, entries);
                     accepted += usize::from(decoded);
                 };
                 if count <= 12 {
@@ -243,7 +239,13 @@ fn random_instances() {
         let m = random.below(6);
         let percent = random.below(101);
         let instance = random.instance(n, k, percent);
-        compare_formula(&instance, m as u64, &plain::clauses(&instance, m as u64));
+        let rule = random.rule();
+        compare_formula(
+            &instance,
+            m as u64,
+            rule,
+            &plain::clauses(&instance, m as u64, rule),
+        );
     }
 }
 
@@ -255,19 +257,20 @@ fn random_walks() {
         let k = 1 + random.below(n.min(16));
         let m = random.below(9);
         let percent = random.below(101);
-        let (instance, plan) = random.walk(n, k, percent, m);
+        let rule = random.rule();
+        let (instance, plan) = random.walk(n, k, percent, m, rule);
         let m = m as u64;
-        let clauses = plain::clauses(&instance, m);
-        assert!(compare_plan(&instance, m, &plan));
+        let clauses = plain::clauses(&instance, m, rule);
+        assert!(compare_plan(&instance, m, rule, &plan));
         let entries = plain::valuation(n, k, &plan);
-        assert!(compare_decoder(&instance, m, &clauses, &entries));
+        assert!(compare_decoder(&instance, m, rule, &clauses, &entries));
         for _ in 0..20 {
             // A damaged plan, both as bytes and as a valuation.
             let mut damaged = plan.clone();
             let index = random.damage(&mut damaged).unwrap();
-            let passes = compare_plan(&instance, m, &damaged);
+            let passes = compare_plan(&instance, m, rule, &damaged);
             let decoded = plain::valuation(n, k, &damaged);
-            let decoded = compare_decoder(&instance, m, &clauses, &decoded);
+            let decoded = compare_decoder(&instance, m, rule, &clauses, &decoded);
             // A byte that is no vertex becomes an agent nowhere.
             assert_eq!(passes, decoded);
             assert_ne!(damaged[index], plan[index]);
@@ -277,26 +280,9 @@ fn random_walks() {
                 let i = random.below(flipped.len());
                 flipped[i] = -flipped[i];
             }
-            compare_decoder(&instance, m, &clauses, &flipped);
+            compare_decoder(&instance, m, rule, &clauses, &flipped);
         }
     }
-}
-
-/// Plans with waits before, between and after the moves.
-#[test]
-fn random_costs() {
-    let mut random = Generator::new(19);
-    let mut told = costs::Told::default();
-    for _ in 0..3000 {
-        let n = 1 + random.below(24);
-        let k = 1 + random.below(n.min(16));
-        let m = random.below(33);
-        let percent = random.below(101);
-        let (instance, plan) = random.waiting_walk(n, k, percent, m);
-        assert!(compare_plan(&instance, m as u64, &plan));
-        told.add(k, &plan, plain::cost(&instance, m as u64, &plan) as u64);
-    }
-    assert_eq!(told.missing(), [""; 0]);
 }
 
 #[test]
@@ -308,9 +294,10 @@ fn damaged_instances() {
         let m = random.below(4) as u64;
         let percent = random.below(101);
         let mut instance = random.instance(n, k, percent);
-        assert_eq!(check_instance(&instance, m), says(0, 0));
+        let rule = random.rule();
+        assert_eq!(check_instance(&instance, m, rule), says(0, 0));
         let index = random.damage(&mut instance).unwrap();
-        let answer = check_instance(&instance, m);
+        let answer = check_instance(&instance, m, rule);
         match answer.number {
             0 => assert!(index == 0 || index >= 4),
             2..=4 => assert_eq!(answer.second, u64::from(answer.number) - 2),
@@ -322,39 +309,44 @@ fn damaged_instances() {
 
 #[test]
 fn largest_formula() {
+    let rule = 1;
     let instance = largest_instance();
-    let clauses = plain::clauses(&instance, 32);
+    let clauses = plain::clauses(&instance, 32, rule);
     assert_eq!(plain::words(&clauses).len(), 7_625_296);
-    compare_formula(&instance, 32, &clauses);
+    compare_formula(&instance, 32, rule, &clauses);
     // The same, with the first, the last and some other agents free: six fewer of two words.
     let mut parts = Parts::of(&instance);
     for a in [0, 3, 4, 9, 14, 15] {
         parts.goals[a] = NO_GOAL;
     }
-    let clauses = plain::clauses(&parts.bytes(), 32);
+    let clauses = plain::clauses(&parts.bytes(), 32, rule);
     assert_eq!(plain::words(&clauses).len(), 7_625_284);
-    compare_formula(&parts.bytes(), 32, &clauses);
+    compare_formula(&parts.bytes(), 32, rule, &clauses);
 }
 
 #[test]
 fn largest_valuations() {
+    RULES.into_iter().for_each(large_valuations);
+}
+
+fn large_valuations(rule: u64) {
     let mut random = Generator::new(13);
-    let (instance, plan) = random.walk(64, 16, 10, 32);
-    let clauses = plain::clauses(&instance, 32);
-    assert!(compare_plan(&instance, 32, &plan));
+    let (instance, plan) = random.walk(64, 16, 10, 32, rule);
+    let clauses = plain::clauses(&instance, 32, rule);
+    assert!(compare_plan(&instance, 32, rule, &plan));
     let entries = plain::valuation(64, 16, &plan);
-    assert!(compare_decoder(&instance, 32, &clauses, &entries));
+    assert!(compare_decoder(&instance, 32, rule, &clauses, &entries));
     for _ in 0..10 {
         let mut flipped = entries.clone();
         let i = random.below(flipped.len());
         flipped[i] = -flipped[i];
-        assert!(!compare_decoder(&instance, 32, &clauses, &flipped));
+        assert!(!compare_decoder(&instance, 32, rule, &clauses, &flipped));
         let mut damaged = plan.clone();
         let byte = random.below(damaged.len());
         damaged[byte] = (damaged[byte] + 1) % 64;
-        let passes = compare_plan(&instance, 32, &damaged);
+        let passes = compare_plan(&instance, 32, rule, &damaged);
         let decoded = plain::valuation(64, 16, &damaged);
-        let decoded = compare_decoder(&instance, 32, &clauses, &decoded);
+        let decoded = compare_decoder(&instance, 32, rule, &clauses, &decoded);
         assert_eq!(passes, decoded);
     }
 }
@@ -367,7 +359,7 @@ fn the_text_is_the_formula() {
         let k = 1 + random.below(n.min(5));
         let m = random.below(5);
         let instance = random.instance(n, k, 40);
-        let clauses = plain::clauses(&instance, m as u64);
+        let clauses = plain::clauses(&instance, m as u64, 1);
         let mut expected = format!("p cnf {} {}\n", n * k * (m + 1), clauses.len());
         for clause in &clauses {
             for literal in clause {

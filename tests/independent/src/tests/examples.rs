@@ -45,12 +45,12 @@ fn pair_bytes() {
 
 #[test]
 fn pair_formula() {
-    assert_eq!(formula_size(&PAIR, 1), counts(24, 8));
+    assert_eq!(formula_size(&PAIR, 1, 1), counts(24, 8));
     let mut words = [7; 24];
-    assert_eq!(write_formula(&PAIR, 1, &mut words), WROTE);
+    assert_eq!(write_formula(&PAIR, 1, 1, &mut words), WROTE);
     assert_eq!(words.to_vec(), PAIR_CLAUSES.concat());
     let mut words = [7; 23];
-    assert_eq!(write_formula(&PAIR, 1, &mut words), says(12, 24));
+    assert_eq!(write_formula(&PAIR, 1, 1, &mut words), says(12, 24));
     assert_eq!(words, [7; 23]);
 }
 
@@ -60,7 +60,7 @@ fn pair_clause_by_number() {
         let mut words = [7; 66];
         let length = expected.len();
         assert_eq!(
-            clause(&PAIR, 1, number as u64, &mut words),
+            clause(&PAIR, 1, 1, number as u64, &mut words),
             says(0, length as u64)
         );
         assert_eq!(&words[..length], *expected);
@@ -71,20 +71,23 @@ fn pair_clause_by_number() {
 #[test]
 fn pair_decoded() {
     let mut plan = [7; 3];
-    assert_eq!(decode(&PAIR, 1, &[1, -2, -3, 4], &mut plan), says(0, 2));
+    assert_eq!(decode(&PAIR, 1, 1, &[1, -2, -3, 4], &mut plan), says(0, 2));
     assert_eq!(plan, [0, 1, 7]);
 }
 
 #[test]
 fn pair_not_decoded() {
     let mut plan = [7; 2];
-    assert_eq!(decode(&PAIR, 1, &[1, -2, 3, 4], &mut plan), says(24, 5));
-    assert_eq!(decode(&PAIR, 1, &[-1, -2, -3, -4], &mut plan), says(24, 0));
-    assert_eq!(decode(&PAIR, 1, &[1, -2, -4, 3], &mut plan), says(23, 2));
+    assert_eq!(decode(&PAIR, 1, 1, &[1, -2, 3, 4], &mut plan), says(24, 5));
+    assert_eq!(
+        decode(&PAIR, 1, 1, &[-1, -2, -3, -4], &mut plan),
+        says(24, 0)
+    );
+    assert_eq!(decode(&PAIR, 1, 1, &[1, -2, -4, 3], &mut plan), says(23, 2));
     for i in 0..4 {
         let mut entries = [1, -2, -3, 4];
         entries[i] = i32::MIN;
-        assert_eq!(decode(&PAIR, 1, &entries, &mut plan), says(23, i as u64));
+        assert_eq!(decode(&PAIR, 1, 1, &entries, &mut plan), says(23, i as u64));
     }
     assert_eq!(plan, [7; 2]);
 }
@@ -92,28 +95,28 @@ fn pair_not_decoded() {
 #[test]
 fn swap() {
     let instance = instance_bytes(2, &[(0, 1)], &[0, 1], &[1, 0]);
-    assert_eq!(check_plan(&instance, 1, &[0, 1, 1, 0]), says(25, 2));
+    assert_eq!(check_plan(&instance, 1, 1, &[0, 1, 1, 0]), says(25, 2));
     assert_eq!(
-        encode(&instance, 1, &[0, 1, 1, 0], &mut [7; 8]),
+        encode(&instance, 1, 1, &[0, 1, 1, 0], &mut [7; 8]),
         says(25, 2)
     );
-    assert_eq!(formula_size(&instance, 1), counts(72, 24));
+    assert_eq!(formula_size(&instance, 1, 1), counts(72, 24));
 }
 
 #[test]
 fn following() {
     let instance = path(&[0, 1], &[1, 2]);
-    assert_eq!(check_plan(&instance, 1, &[0, 1, 1, 2]), says(26, 2));
+    assert_eq!(check_plan(&instance, 1, 1, &[0, 1, 1, 2]), says(26, 2));
     assert_eq!(
-        encode(&instance, 1, &[0, 1, 1, 2], &mut [7; 12]),
+        encode(&instance, 1, 1, &[0, 1, 1, 2], &mut [7; 12]),
         says(26, 2)
     );
-    assert_eq!(check_plan(&instance, 2, &[0, 1, 0, 2, 1, 2]), says(0, 3));
+    assert_eq!(check_plan(&instance, 2, 1, &[0, 1, 0, 2, 1, 2]), says(0, 3));
 }
 
 #[test]
 fn time_until_rest() {
-    let cost = |m: u64, plan: &[u8]| check_plan(&PAIR, m, plan);
+    let cost = |m: u64, plan: &[u8]| check_plan(&PAIR, m, 1, plan);
     assert_eq!(cost(1, &[0, 1]), says(0, 1));
     // Two waits and then the move; the move and then two waits.
     assert_eq!(cost(3, &[0, 0, 0, 1]), says(0, 3));
@@ -122,16 +125,20 @@ fn time_until_rest() {
     assert_eq!(cost(3, &[0, 1, 0, 1]), says(0, 3));
     // It leaves its start and comes back.
     let home = instance_bytes(2, &[(0, 1)], &[0], &[0]);
-    assert_eq!(check_plan(&home, 2, &[0, 1, 0]), says(0, 2));
-    assert_eq!(check_plan(&home, 3, &[0, 1, 0, 0]), says(0, 2));
-    assert_eq!(check_plan(&home, 3, &[0, 1, 1, 0]), says(0, 3));
-    assert_eq!(check_plan(&home, 3, &[0; 4]), says(0, 0));
+    assert_eq!(check_plan(&home, 2, 1, &[0, 1, 0]), says(0, 2));
+    assert_eq!(check_plan(&home, 3, 1, &[0, 1, 0, 0]), says(0, 2));
+    assert_eq!(check_plan(&home, 3, 1, &[0, 1, 1, 0]), says(0, 3));
+    assert_eq!(check_plan(&home, 3, 1, &[0; 4]), says(0, 0));
 }
 
 #[test]
 fn worked_costs() {
     for (instance, m, plan, cost) in costs::worked() {
-        assert_eq!(check_plan(&instance, m, &plan), says(0, cost), "{plan:?}");
+        assert_eq!(
+            check_plan(&instance, m, 1, &plan),
+            says(0, cost),
+            "{plan:?}"
+        );
         assert_eq!(plain::cost(&instance, m, &plan) as u64, cost, "{plan:?}");
     }
 }
@@ -149,9 +156,9 @@ fn wrong_costs() {
 #[test]
 fn standing() {
     let instance = path(&[0, 1], &[1, 2]);
-    assert_eq!(check_plan(&instance, 1, &[0, 1, 1, 1]), says(20, 2));
+    assert_eq!(check_plan(&instance, 1, 1, &[0, 1, 1, 1]), says(20, 2));
     assert_eq!(
-        encode(&instance, 1, &[0, 1, 1, 1], &mut [7; 12]),
+        encode(&instance, 1, 1, &[0, 1, 1, 1], &mut [7; 12]),
         says(20, 2)
     );
 }
@@ -159,33 +166,33 @@ fn standing() {
 #[test]
 fn meeting() {
     let instance = path(&[0, 2], &[1, 2]);
-    assert_eq!(check_plan(&instance, 1, &[0, 2, 1, 1]), says(21, 3));
+    assert_eq!(check_plan(&instance, 1, 1, &[0, 2, 1, 1]), says(21, 3));
 }
 
 #[test]
 fn jumping() {
-    assert_eq!(check_plan(&path(&[0], &[2]), 1, &[0, 2]), says(19, 1));
+    assert_eq!(check_plan(&path(&[0], &[2]), 1, 1, &[0, 2]), says(19, 1));
 }
 
 #[test]
 fn no_step() {
-    assert_eq!(check_plan(&PAIR, 0, &[0]), says(22, 0));
+    assert_eq!(check_plan(&PAIR, 0, 1, &[0]), says(22, 0));
     let instance = instance_bytes(2, &[(0, 1)], &[0], &[0]);
-    assert_eq!(check_plan(&instance, 0, &[0]), says(0, 0));
+    assert_eq!(check_plan(&instance, 0, 1, &[0]), says(0, 0));
 }
 
 #[test]
 fn limits() {
-    assert_eq!(check_instance(&PAIR, 32), says(0, 0));
-    assert_eq!(check_instance(&PAIR, 33), says(10, 0));
+    assert_eq!(check_instance(&PAIR, 32, 1), says(0, 0));
+    assert_eq!(check_instance(&PAIR, 33, 1), says(10, 0));
     let vertices = |n| instance_bytes(n, &[(0, 1)], &[0], &[1]);
-    assert_eq!(check_instance(&vertices(64), 1), says(0, 0));
-    assert_eq!(check_instance(&vertices(0), 1), says(2, 0));
-    assert_eq!(check_instance(&vertices(65), 1), says(2, 0));
+    assert_eq!(check_instance(&vertices(64), 1, 1), says(0, 0));
+    assert_eq!(check_instance(&vertices(0), 1, 1), says(2, 0));
+    assert_eq!(check_instance(&vertices(65), 1, 1), says(2, 0));
     let loop_edge = instance_bytes(2, &[(0, 0)], &[0], &[1]);
-    assert_eq!(check_instance(&loop_edge, 1), says(6, 4));
+    assert_eq!(check_instance(&loop_edge, 1, 1), says(6, 4));
     let twice = instance_bytes(3, &[(0, 1), (0, 1)], &[0], &[1]);
-    assert_eq!(check_instance(&twice, 1), says(7, 5));
+    assert_eq!(check_instance(&twice, 1, 1), says(7, 5));
 }
 
 #[test]

@@ -1,6 +1,6 @@
 //! The floor and the pruned formula.
 
-use super::{compare_words, counts, says, uncounted, WROTE};
+use super::{compare_words, counts, says, uncounted, RULES, WROTE};
 use crate::floors::{worked, worked_h, Told};
 use crate::questions::{failing, Handed};
 use crate::sample::Generator;
@@ -24,42 +24,52 @@ fn worked_floors() {
     for (instance, m, literals) in worked_h() {
         let clauses = literals.iter().map(|&literal| vec![literal]);
         assert_eq!(plain::family_h(&instance, m), clauses.collect::<Vec<_>>());
-        told.pruned(&instance, m, &compare_pruned(&instance, m));
+        for rule in RULES {
+            told.pruned(&instance, m, rule, &compare_pruned(&instance, m, rule));
+        }
     }
     assert_eq!(told.missing(), [""; 0]);
 }
 
+/// One agent alone has the same formula under both rules.
 #[test]
 fn the_pair_pruned() {
+    RULES.into_iter().for_each(pair_pruned);
+}
+
+fn pair_pruned(rule: u64) {
     let formula = [
         1, 0, 4, 0, 1, 2, 0, 3, 4, 0, -1, -2, 0, -3, -4, 0, -1, 3, 4, 0, -2, 4, 3, 0,
     ];
     let mut words = [7; 29];
-    assert_eq!(pruned_size(&PAIR, 1), counts(28, 10));
-    assert_eq!(write_pruned(&PAIR, 1, &mut words), WROTE);
+    assert_eq!(pruned_size(&PAIR, 1, rule), counts(28, 10));
+    assert_eq!(write_pruned(&PAIR, 1, rule, &mut words), WROTE);
     assert_eq!(words[..24], formula);
     assert_eq!(words[24..], [-2, 0, -3, 0, 7]);
     // Without family H it would fit.
     for length in [0, 24, 27] {
         let mut words = [7; 27];
-        let refused = write_pruned(&PAIR, 1, &mut words[..length]);
+        let refused = write_pruned(&PAIR, 1, rule, &mut words[..length]);
         assert_eq!(refused, says(12, 28));
         assert_eq!(words, [7; 27]);
     }
-    assert_eq!(write_pruned(&PAIR, 33, &mut words), says(10, 0));
-    assert_eq!(pruned_size(&PAIR, 33), uncounted(says(10, 0)));
+    assert_eq!(write_pruned(&PAIR, 33, rule, &mut words), says(10, 0));
+    assert_eq!(pruned_size(&PAIR, 33, rule), uncounted(says(10, 0)));
     // At m 0 it should be at 0 and at 1: all is ruled out.
     let mut words = [7; 14];
-    assert_eq!(pruned_size(&PAIR, 0), counts(14, 6));
-    assert_eq!(write_pruned(&PAIR, 0, &mut words), WROTE);
+    assert_eq!(pruned_size(&PAIR, 0, rule), counts(14, 6));
+    assert_eq!(write_pruned(&PAIR, 0, rule, &mut words), WROTE);
     assert_eq!(words, [1, 0, 2, 0, 1, 2, 0, -1, -2, 0, -1, 0, -2, 0]);
 }
 
 /// How many clauses of family H there are, after seeing that all is as in the
 /// plain table.
 fn count_h(instance: &[u8], m: u64) -> usize {
-    let words = compare_pruned(instance, m);
-    let formula = formula_size(instance, m).second as usize;
+    let words = compare_pruned(instance, m, 1);
+    let formula = formula_size(instance, m, 1).second as usize;
+    let added =
+        |rule: u64| pruned_size(instance, m, rule).second - formula_size(instance, m, rule).second;
+    assert_eq!(added(1), added(2));
     (words.len() - formula) / 2
 }
 
@@ -84,7 +94,8 @@ fn counts_of_family_h() {
     // All edges: at time 0 and at time m all vertices but one, for each of 16 agents.
     let largest = largest_instance();
     assert_eq!(count_h(&largest, 32), 2 * 16 * 63);
-    assert_eq!(pruned_size(&largest, 32).second, 7_629_328);
+    assert_eq!(pruned_size(&largest, 32, 1).second, 7_629_328);
+    assert_eq!(pruned_size(&largest, 32, 2).second, 83_569_168);
     assert_eq!(count_h(&largest, 0), 16 * 63);
     // No edges: all vertices but one at all times; with another goal all.
     assert_eq!(count_h(&instance_bytes(64, &[], &[5], &[5]), 32), 33 * 63);
@@ -93,10 +104,10 @@ fn counts_of_family_h() {
 
 /// Size and writer of the pruned formula against the plain table; gives the
 /// words.
-fn compare_pruned(instance: &[u8], m: u64) -> Vec<i32> {
-    let mut clauses = plain::clauses(instance, m);
+fn compare_pruned(instance: &[u8], m: u64, rule: u64) -> Vec<i32> {
+    let mut clauses = plain::clauses(instance, m, rule);
     clauses.extend(plain::family_h(instance, m));
-    compare_words(instance, m, true, &clauses)
+    compare_words(instance, m, rule, true, &clauses)
 }
 
 /// The floor against both slower ways; gives the answer.
@@ -134,7 +145,7 @@ fn all_small_floors() {
                     let answer = compare_floor(&instance);
                     floors.insert((answer.number, answer.second));
                     for m in [0, 1, 2, 3, 5] {
-                        compare_pruned(&instance, m);
+                        compare_pruned(&instance, m, 1 + m % 2);
                     }
                 }
             }
@@ -162,7 +173,7 @@ fn one_agent_needs_the_floor() {
                     };
                     let m = u64::from(m);
                     let mut plans = (0..count).map(plan);
-                    let comes = plans.any(|plan| plain::passes(&instance, m, &plan));
+                    let comes = plans.any(|plan| plain::passes(&instance, m, 1 + m % 2, &plan));
                     assert_eq!(comes, answer.number == 0 && answer.second <= m);
                 }
             }
@@ -171,9 +182,13 @@ fn one_agent_needs_the_floor() {
 }
 
 /// Family H rules out no valuation that satisfies the formula: every valuation of
-/// every instance on up to 3 vertices with at most 12 variables.
+/// every instance on up to 3 vertices with at most 12 variables, under either rule.
 #[test]
 fn family_h_changes_no_meaning() {
+    RULES.into_iter().for_each(no_meaning_changed);
+}
+
+fn no_meaning_changed(rule: u64) {
     let mut satisfying = 0;
     for n in 1..=3u8 {
         for edges in all_maps(n.into()) {
@@ -193,7 +208,7 @@ fn family_h_changes_no_meaning() {
                     if count > 12 {
                         continue;
                     }
-                    let clauses = plain::clauses(&instance, m);
+                    let clauses = plain::clauses(&instance, m, rule);
                     let family_h = plain::family_h(&instance, m);
                     for bits in 0..1u32 << count {
                         let sign = |i: usize| 2 * (bits >> i & 1) as i32 - 1;
@@ -230,7 +245,8 @@ fn random_walks_keep_to_floor_and_family_h() {
         let k = 1 + random.below(n.min(16));
         let m = random.below(12);
         let percent = random.below(40);
-        let (instance, plan) = random.walk(n, k, percent, m);
+        let rule = random.rule();
+        let (instance, plan) = random.walk(n, k, percent, m, rule);
         let answer = compare_floor(&instance);
         assert!(answer.number == 0 && answer.second <= m as u64);
         at_floor += usize::from(answer.second == m as u64);
@@ -251,14 +267,19 @@ fn random_maps() {
         let n = 1 + random.below(if i % 4 == 0 { 64 } else { 12 });
         let k = 1 + random.below(n.min(if i % 2 == 0 { 3 } else { 16 }));
         let instance = random.mapped(n, k);
-        assert_eq!(check_instance(&instance, 0), says(0, 0), "{instance:?}");
+        let rule = random.rule();
+        assert_eq!(
+            check_instance(&instance, 0, rule),
+            says(0, 0),
+            "{instance:?}"
+        );
         let answer = compare_floor(&instance);
         told.floor(&instance, (answer.number, answer.second));
         if answer.number == 0 {
             floors.insert(answer.second);
         }
         let m = random.below(if n > 16 { 3 } else { 12 }) as u64;
-        told.pruned(&instance, m, &compare_pruned(&instance, m));
+        told.pruned(&instance, m, rule, &compare_pruned(&instance, m, rule));
     }
     // That one takes the path of 64 from end to end.
     let missing = told.missing();

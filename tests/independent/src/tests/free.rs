@@ -35,9 +35,9 @@ fn only_255_is_free() {
 #[test]
 fn formula_behind_a_free_agent() {
     let (instance, clauses) = (free_first(), clauses());
-    assert_eq!(plain::clauses(&instance, 1), clauses);
-    assert_eq!(formula_size(&instance, 1), counts(120, 37));
-    let words = compare_words(&instance, 1, false, &clauses);
+    assert_eq!(plain::clauses(&instance, 1, 1), clauses);
+    assert_eq!(formula_size(&instance, 1, 1), counts(120, 37));
+    let words = compare_words(&instance, 1, 1, false, &clauses);
     assert_eq!(
         words[..22],
         [1, 0, 9, 0, 11, 0, 1, 2, 3, 0, 7, 8, 9, 0, 4, 5, 6, 0, 10, 11, 12, 0]
@@ -45,13 +45,13 @@ fn formula_behind_a_free_agent() {
     for (number, literals) in clauses.iter().enumerate() {
         let mut words = [UNWRITTEN; 6];
         let length = literals.len() + 1;
-        let answer = clause(&instance, 1, number as u64, &mut words);
+        let answer = clause(&instance, 1, 1, number as u64, &mut words);
         assert_eq!(answer, says(0, length as u64));
         assert_eq!(words[..length], [&literals[..], &[0]].concat());
         assert!(words[length..].iter().all(|&word| word == UNWRITTEN));
     }
-    assert_eq!(clause(&instance, 1, 37, &mut [7; 66]), says(11, 37));
-    assert_eq!(clause(&instance, 1, 2, &mut [7; 1]), says(12, 2));
+    assert_eq!(clause(&instance, 1, 1, 37, &mut [7; 66]), says(11, 37));
+    assert_eq!(clause(&instance, 1, 1, 2, &mut [7; 1]), says(12, 2));
 }
 
 /// The clauses of B, and the first one of C, for goals all over the path 0-1-2-3 at
@@ -74,19 +74,19 @@ fn family_b() {
         // 3 clauses of A, 3 of C, 18 of D, 12 of E; 6, 15, 54 and 36 words.
         let added = literals.len() as u64;
         assert_eq!(
-            formula_size(&instance, 0),
+            formula_size(&instance, 0, 1),
             counts(111 + 2 * added, 36 + added)
         );
         for (number, &literal) in (3..).zip(literals) {
             let mut words = [7; 3];
-            assert_eq!(clause(&instance, 0, number, &mut words), says(0, 2));
+            assert_eq!(clause(&instance, 0, 1, number, &mut words), says(0, 2));
             assert_eq!(words, [literal, 0, 7], "{goals:?}");
         }
         let mut words = [7; 5];
-        assert_eq!(clause(&instance, 0, 3 + added, &mut words), says(0, 5));
+        assert_eq!(clause(&instance, 0, 1, 3 + added, &mut words), says(0, 5));
         assert_eq!(words, [1, 2, 3, 4, 0], "{goals:?}");
         let mut words = vec![7; (111 + 2 * added) as usize];
-        assert_eq!(write_formula(&instance, 0, &mut words), WROTE);
+        assert_eq!(write_formula(&instance, 0, 1, &mut words), WROTE);
         let b: Vec<i32> = literals.iter().flat_map(|&x| [x, 0]).collect();
         let c = [1, 2, 3, 4, 0];
         assert_eq!(words[6..11 + b.len()], [&b[..], &c].concat(), "{goals:?}");
@@ -98,9 +98,9 @@ fn family_h_and_floor() {
     let instance = free_first();
     // The free agent: at time 0 not at 1 and 2, at time 1 not at 2. The other: at 2 and then at 1.
     let h = [-2, -3, -7, -8, -6, -10, -12];
-    assert_eq!(pruned_size(&instance, 1), counts(134, 44));
+    assert_eq!(pruned_size(&instance, 1, 1), counts(134, 44));
     let mut words = [7; 135];
-    assert_eq!(write_pruned(&instance, 1, &mut words), WROTE);
+    assert_eq!(write_pruned(&instance, 1, 1, &mut words), WROTE);
     assert_eq!(words[..120], plain::words(&clauses()));
     assert_eq!(words[120..134], h.map(|literal| [literal, 0]).concat());
     assert_eq!(words[134], 7);
@@ -118,21 +118,24 @@ fn valuations() {
     let plan = [0, 2, 1, 2];
     let mut entries = [7; 12];
     // The free agent has moved, the other one has not: 22, at its own place.
-    assert_eq!(check_plan(&instance, 1, &plan), says(22, 3));
-    assert_eq!(encode(&instance, 1, &plan, &mut entries), says(22, 3));
+    assert_eq!(check_plan(&instance, 1, 1, &plan), says(22, 3));
+    assert_eq!(encode(&instance, 1, 1, &plan, &mut entries), says(22, 3));
     assert_eq!(entries, [7; 12]);
     let plan = [0, 2, 0, 1];
     let valuation = [1, -2, -3, 4, -5, -6, -7, -8, 9, -10, 11, -12];
-    assert_eq!(check_plan(&instance, 1, &plan), says(0, 1));
-    assert_eq!(encode(&instance, 1, &plan, &mut entries), says(0, 12));
+    assert_eq!(check_plan(&instance, 1, 1, &plan), says(0, 1));
+    assert_eq!(encode(&instance, 1, 1, &plan, &mut entries), says(0, 12));
     assert_eq!(entries, valuation);
     let mut decoded = [7; 5];
-    assert_eq!(decode(&instance, 1, &valuation, &mut decoded), says(0, 4));
+    assert_eq!(
+        decode(&instance, 1, 1, &valuation, &mut decoded),
+        says(0, 4)
+    );
     assert_eq!(decoded, [0, 2, 0, 1, 7]);
 
     let refused = |entries: [i32; 12]| {
         let mut plan = [7; 4];
-        let answer = decode(&instance, 1, &entries, &mut plan);
+        let answer = decode(&instance, 1, 1, &entries, &mut plan);
         assert_eq!(plan, [7; 4]);
         answer
     };
@@ -158,27 +161,27 @@ fn valuations() {
 fn all_free() {
     let pair = [2, 1, 1, 0, 0, 1, 0, NO_GOAL];
     let mut words = [7; 23];
-    assert_eq!(formula_size(&pair, 1), counts(22, 7));
-    assert_eq!(write_formula(&pair, 1, &mut words), WROTE);
+    assert_eq!(formula_size(&pair, 1, 1), counts(22, 7));
+    assert_eq!(write_formula(&pair, 1, 1, &mut words), WROTE);
     assert_eq!(
         words,
         [1, 0, 1, 2, 0, 3, 4, 0, -1, -2, 0, -3, -4, 0, -1, 3, 4, 0, -2, 4, 3, 0, 7]
     );
-    assert_eq!(pruned_size(&pair, 1), counts(24, 8));
+    assert_eq!(pruned_size(&pair, 1, 1), counts(24, 8));
     assert_eq!(floor(&pair), says(0, 0));
     for (plan, cost) in [([0, 0], 0), ([0, 1], 1)] {
-        assert_eq!(check_plan(&pair, 1, &plan), says(0, cost));
+        assert_eq!(check_plan(&pair, 1, 1, &plan), says(0, cost));
     }
-    assert_eq!(check_plan(&pair, 1, &[1, 0]), says(18, 0));
-    assert_eq!(check_plan(&pair, 0, &[0]), says(0, 0));
+    assert_eq!(check_plan(&pair, 1, 1, &[1, 0]), says(18, 0));
+    assert_eq!(check_plan(&pair, 0, 1, &[0]), says(0, 0));
     let alone = [1, 1, 0, 0, 0, NO_GOAL];
-    assert_eq!(formula_size(&alone, 0), counts(4, 2));
-    assert_eq!(pruned_size(&alone, 0), counts(4, 2));
-    assert_eq!(check_plan(&alone, 32, &[0; 33]), says(0, 0));
+    assert_eq!(formula_size(&alone, 0, 1), counts(4, 2));
+    assert_eq!(pruned_size(&alone, 0, 1), counts(4, 2));
+    assert_eq!(check_plan(&alone, 32, 1, &[0; 33]), says(0, 0));
     // 16 of them, in the middle of the largest map: 32 words fewer.
     let agents: Vec<u8> = (24..40).collect();
     let sixteen = instance_bytes(64, &[], &agents, &[NO_GOAL; 16]);
-    assert_eq!(check_instance(&sixteen, 32), says(0, 0));
+    assert_eq!(check_instance(&sixteen, 32, 1), says(0, 0));
     assert_eq!(floor(&sixteen), says(0, 0));
 }
 
@@ -186,7 +189,7 @@ fn all_free() {
 #[test]
 fn cost_of_a_free_agent() {
     let instance = path(4, &[0, 3], &[NO_GOAL, 3]);
-    let cost = |plan: &[u8]| check_plan(&instance, plan.len() as u64 / 2 - 1, plan);
+    let cost = |plan: &[u8]| check_plan(&instance, plan.len() as u64 / 2 - 1, 1, plan);
     assert_eq!(cost(&[0, 3]), says(0, 0));
     assert_eq!(cost(&[0, 3, 0, 3, 0, 3]), says(0, 0));
     assert_eq!(cost(&[0, 3, 1, 3, 1, 3]), says(0, 1));
@@ -202,9 +205,9 @@ fn cost_of_a_free_agent() {
 fn questions_8_and_9() {
     let check = |starts: &[u8], goals: &[u8]| {
         let instance = path(4, starts, goals);
-        let answer = check_instance(&instance, 0);
+        let answer = check_instance(&instance, 0, 1);
         for (size, _) in FORMULAS {
-            let said = size(&instance, 0);
+            let said = size(&instance, 0, 1);
             assert!(answer.number == 0 && said.number == 0 || said == uncounted(answer));
         }
         answer
@@ -242,13 +245,14 @@ fn add(told: &mut Told, call: usize, handed: &Handed) {
 }
 
 /// Adds what every call says of one instance and plan.
-fn add_all(told: &mut Told, instance: &[u8], horizon: u64, plan: &[u8], clause: u64) {
+fn add_all(told: &mut Told, instance: &[u8], horizon: u64, rule: u64, plan: &[u8], clause: u64) {
     let [n, k] = [0, 1].map(|size| usize::from(instance[size]));
     let entries = plain::valuation(n, k.max(1), plan);
     for call in 0..ASKED.len() {
         let handed = Handed {
             instance,
             horizon: if call == FLOOR { 0 } else { horizon },
+            rule,
             clause: (call == CLAUSE).then_some(clause),
             plan,
             entries: &entries,
@@ -269,41 +273,42 @@ fn worked_plans() {
         let (instance, m) = (&worked.instance, worked.m);
         let [n, k] = [0, 1].map(|size| usize::from(instance[size]));
         for &(plan, checked, decoded) in worked.plans {
-            assert_eq!(check_plan(instance, m, plan), says(checked.0, checked.1));
+            assert_eq!(check_plan(instance, m, 1, plan), says(checked.0, checked.1));
             let count = n * plan.len();
             let mut entries = vec![7; count];
             let encoded = match checked.0 {
                 0 => says(0, count as u64),
                 _ => says(checked.0, checked.1),
             };
-            assert_eq!(encode(instance, m, plan, &mut entries), encoded);
+            assert_eq!(encode(instance, m, 1, plan, &mut entries), encoded);
             let valuation = plain::valuation(n, k, plan);
             if checked.0 == 0 {
                 assert_eq!(entries, valuation);
             }
             let mut bytes = vec![7; plan.len()];
-            let answer = decode(instance, m, &valuation, &mut bytes);
+            let answer = decode(instance, m, 1, &valuation, &mut bytes);
             assert_eq!(answer, says(decoded.0, decoded.1), "{plan:?}");
             if decoded.0 == 0 {
                 assert_eq!(bytes, plan);
             }
-            for number in 0..=formula_size(instance, m).clauses {
-                add_all(&mut told, instance, m, plan, number);
+            for number in 0..=formula_size(instance, m, 1).clauses {
+                add_all(&mut told, instance, m, 1, plan, number);
             }
         }
     }
-    for (instance, m, _) in refused_twice() {
-        add_all(&mut told, &instance, m, &[0, 1, 0], 0);
+    for (instance, m, rule, _) in refused_twice() {
+        add_all(&mut told, &instance, m, rule, &[0, 1, 0], 0);
     }
     // Out of reach, with a goal on vertex 0.
     let apart = instance_bytes(3, &[], &[1, 2], &[NO_GOAL, 0]);
-    add_all(&mut told, &apart, 0, &[1, 2], 0);
+    add_all(&mut told, &apart, 0, 1, &[1, 2], 0);
     // D: a free agent at two vertices.
     let twice = [1, -2, -3, 4, -5, 6, -7, -8, 9, -10, 11, -12];
     let instance = free_first();
     let handed = Handed {
         instance: &instance,
         horizon: 1,
+        rule: 1,
         entries: &twice,
         lent: 4,
         ..Handed::default()

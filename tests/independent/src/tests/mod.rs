@@ -1,10 +1,13 @@
+mod costs;
 mod cross;
 mod examples;
 mod floors;
 mod free;
 mod numbering;
+mod occupied;
 mod questions;
 mod reader;
+mod rules;
 mod sizes;
 
 use crate::questions::{failing, Handed};
@@ -36,8 +39,10 @@ fn uncounted(refusal: Answer) -> Size {
     refusal.into()
 }
 
-type SizeCall = fn(&[u8], u64) -> Size;
-type Writer = fn(&[u8], u64, &mut [i32]) -> Answer;
+type SizeCall = fn(&[u8], u64, u64) -> Size;
+type Writer = fn(&[u8], u64, u64, &mut [i32]) -> Answer;
+
+const RULES: [u64; 2] = [1, 2];
 
 /// The size call and the writers of the formula, and of the pruned one.
 const FORMULAS: [(SizeCall, &[Writer]); 2] = [
@@ -50,20 +55,29 @@ const UNWRITTEN: i32 = i32::MIN;
 
 /// Size call and writers of an accepted instance against the list of the
 /// clauses; gives the words.
-fn compare_words(instance: &[u8], m: u64, pruned: bool, clauses: &[Vec<i32>]) -> Vec<i32> {
+fn compare_words(
+    instance: &[u8],
+    m: u64,
+    rule: u64,
+    pruned: bool,
+    clauses: &[Vec<i32>],
+) -> Vec<i32> {
     let expected = plain::words(clauses);
     let needed = expected.len();
     let (size, writers) = FORMULAS[usize::from(pruned)];
-    let size = size(instance, m);
+    let size = size(instance, m, rule);
     assert_eq!(size, counts(needed as u64, clauses.len() as u64));
-    assert_eq!(size, closed_counts(instance, m, pruned));
+    assert_eq!(size, closed_counts(instance, m, rule, pruned));
     for writer in writers {
         let mut words = vec![UNWRITTEN; needed + 3];
-        let refused = writer(instance, m, &mut words[..needed - 1]);
+        let refused = writer(instance, m, rule, &mut words[..needed - 1]);
         assert_eq!(refused, says(12, needed as u64));
         assert!(words.iter().all(|&word| word == UNWRITTEN));
-        assert_eq!(writer(instance, m, &mut words), WROTE);
-        assert!(words[..needed] == expected, "{instance:?}, m {m}");
+        assert_eq!(writer(instance, m, rule, &mut words), WROTE);
+        assert!(
+            words[..needed] == expected,
+            "{instance:?}, m {m}, rule {rule}"
+        );
         assert_eq!(words[needed..], [UNWRITTEN; 3]);
     }
     expected
@@ -71,11 +85,12 @@ fn compare_words(instance: &[u8], m: u64, pruned: bool, clauses: &[Vec<i32>]) ->
 
 /// The size by the counts of the questions: 12 is asked of an empty slice and 11
 /// of the highest number. Two words more than the formula has are a clause of H.
-fn closed_counts(instance: &[u8], horizon: u64, pruned: bool) -> Size {
+fn closed_counts(instance: &[u8], horizon: u64, rule: u64, pruned: bool) -> Size {
     let place = |number: u32, clause: Option<u64>, pruned: bool| {
         let handed = Handed {
             instance,
             horizon,
+            rule,
             clause,
             pruned,
             ..Handed::default()

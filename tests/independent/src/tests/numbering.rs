@@ -27,7 +27,7 @@ fn numbers() {
     for ([n, m, t, a, v], number) in NUMBERS {
         let agents: Vec<u8> = (0..n.min(16) as u8).collect();
         let bytes = instance_bytes(n, &[], &agents, &agents);
-        let instance = Instance::read(&bytes, m as u64).unwrap_or_else(|no| panic!("{no:?}"));
+        let instance = Instance::read(&bytes, m as u64, 1).unwrap_or_else(|no| panic!("{no:?}"));
         assert_eq!(instance.x(t, a, v), number);
         assert_eq!(plain::variable(n, m, t, a, v), number);
         assert_eq!(plain::time_agent_vertex(n, m, number), (t, a, v));
@@ -57,12 +57,12 @@ pub(super) const CLAUSES: [&[i32]; 38] = [
 fn formula_of_two_agents() {
     let instance = two_agents();
     let clauses: Vec<Vec<i32>> = CLAUSES.map(<[i32]>::to_vec).to_vec();
-    assert_eq!(plain::clauses(&instance, 1), clauses);
-    compare_words(&instance, 1, false, &clauses);
+    assert_eq!(plain::clauses(&instance, 1, 1), clauses);
+    compare_words(&instance, 1, 1, false, &clauses);
     for (number, literals) in CLAUSES.into_iter().enumerate() {
         let mut words = [UNWRITTEN; 6];
         let mut expected = [literals, &[0]].concat();
-        let answer = clause(&instance, 1, number as u64, &mut words);
+        let answer = clause(&instance, 1, 1, number as u64, &mut words);
         assert_eq!(answer, says(0, expected.len() as u64));
         expected.resize(words.len(), UNWRITTEN);
         assert_eq!(words[..], expected);
@@ -76,14 +76,17 @@ fn valuation_of_two_agents() {
     let valuation = [1, -2, -3, -4, 5, -6, -7, -8, 9, -10, -11, 12];
     assert_eq!(plain::valuation(3, 2, &plan), valuation);
     let mut entries = [7; 12];
-    assert_eq!(encode(&instance, 1, &plan, &mut entries), says(0, 12));
+    assert_eq!(encode(&instance, 1, 1, &plan, &mut entries), says(0, 12));
     assert_eq!(entries, valuation);
     let mut decoded = [7; 4];
-    assert_eq!(decode(&instance, 1, &valuation, &mut decoded), says(0, 4));
+    assert_eq!(
+        decode(&instance, 1, 1, &valuation, &mut decoded),
+        says(0, 4)
+    );
     assert_eq!(decoded, plan);
     // With the variables of one time together: agent 1 is then at 1 at time 0.
     let by_time = [1, -2, -3, -4, -5, 6, -7, 8, -9, -10, -11, 12];
     let mut lent = [7; 4];
-    assert_eq!(decode(&instance, 1, &by_time, &mut lent), says(24, 1));
+    assert_eq!(decode(&instance, 1, 1, &by_time, &mut lent), says(24, 1));
     assert_eq!(lent, [7; 4]);
 }

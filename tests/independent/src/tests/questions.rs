@@ -4,11 +4,10 @@ use super::{closed_counts, counts, says, uncounted, FORMULAS, WROTE};
 use crate::calls::say;
 use crate::output::{some_text, some_valuation};
 use crate::parts::{enter_occupied, malform, Parts};
-use crate::questions::{failing, first_no, Handed, Item, ASKED, NUMBERS};
+use crate::questions::{first_no, Handed, ASKED, NUMBERS};
 use crate::questions::{CLAUSE, DECODER, FLOOR, PRUNED, PRUNED_SIZE, SIZE, WRITER};
 use crate::sample::{all_edges, instance_bytes, largest_instance, Generator};
 use crate::*;
-use std::collections::BTreeSet;
 
 const PAIR: [u8; 8] = [2, 1, 1, 0, 0, 1, 0, 1];
 
@@ -30,25 +29,36 @@ const WAYS: [(u32, u8); 3] = [(20, 1), (25, 0), (26, 2)];
 /// The answer of `check_instance`, after seeing that all ten calls refuse alike
 /// and change nothing.
 fn refused(instance: &[u8], horizon: u64) -> Answer {
-    let answer = check_instance(instance, horizon);
+    // The rule is asked after all of these.
+    for rule in [0, 2, 3, u64::MAX] {
+        refused_under(instance, horizon, rule);
+    }
+    refused_under(instance, horizon, 1)
+}
+
+pub(super) fn refused_under(instance: &[u8], horizon: u64, rule: u64) -> Answer {
+    let answer = check_instance(instance, horizon, rule);
     assert_ne!(answer.number, 0);
     let mut words = [7; 9];
     let mut bytes = [7; 9];
     for (size, writers) in FORMULAS {
-        assert_eq!(size(instance, horizon), uncounted(answer));
+        assert_eq!(size(instance, horizon, rule), uncounted(answer));
         for writer in writers {
-            assert_eq!(writer(instance, horizon, &mut words), answer);
+            assert_eq!(writer(instance, horizon, rule, &mut words), answer);
         }
     }
-    assert_eq!(clause(instance, horizon, 0, &mut words), answer);
-    assert_eq!(check_plan(instance, horizon, &[0, 1]), answer);
+    assert_eq!(clause(instance, horizon, rule, 0, &mut words), answer);
+    assert_eq!(check_plan(instance, horizon, rule, &[0, 1]), answer);
     assert_eq!(
-        decode(instance, horizon, &[1, -2, -3, 4], &mut bytes),
+        decode(instance, horizon, rule, &[1, -2, -3, 4], &mut bytes),
         answer
     );
-    assert_eq!(encode(instance, horizon, &[0, 1], &mut words), answer);
+    assert_eq!(encode(instance, horizon, rule, &[0, 1], &mut words), answer);
     let text = b"s SATISFIABLE\nv 1 -2 -3 4 0\n";
-    assert_eq!(read_valuation(instance, horizon, text, &mut words), answer);
+    assert_eq!(
+        read_valuation(instance, horizon, rule, text, &mut words),
+        answer
+    );
     if answer.number < 10 {
         assert_eq!(floor(instance), answer);
     } else {
@@ -122,23 +132,23 @@ fn questions_8_to_10() {
 #[test]
 fn questions_11_and_12() {
     let mut words = [7; 3];
-    assert_eq!(clause(&PAIR, 1, 8, &mut words[..0]), says(11, 8));
-    assert_eq!(clause(&PAIR, 1, u64::MAX, &mut words), says(11, 8));
-    assert_eq!(clause(&PAIR, 1, 1 << 32, &mut words), says(11, 8));
-    assert_eq!(clause(&PAIR, 1, 7, &mut words), says(12, 4));
-    assert_eq!(clause(&PAIR, 1, 0, &mut words[..1]), says(12, 2));
-    assert_eq!(write_formula(&PAIR, 1, &mut []), says(12, 24));
+    assert_eq!(clause(&PAIR, 1, 1, 8, &mut words[..0]), says(11, 8));
+    assert_eq!(clause(&PAIR, 1, 1, u64::MAX, &mut words), says(11, 8));
+    assert_eq!(clause(&PAIR, 1, 1, 1 << 32, &mut words), says(11, 8));
+    assert_eq!(clause(&PAIR, 1, 1, 7, &mut words), says(12, 4));
+    assert_eq!(clause(&PAIR, 1, 1, 0, &mut words[..1]), says(12, 2));
+    assert_eq!(write_formula(&PAIR, 1, 1, &mut []), says(12, 24));
     assert_eq!(words, [7; 3]);
     // The longest clause: 64 vertices, all of them neighbours, and the 0.
     let largest = largest_instance();
     let first_f = 16 + 16 + 528 + 1_064_448 + 253_440;
     let mut words = [7; 66];
     assert_eq!(
-        clause(&largest, 32, first_f, &mut words[..65]),
+        clause(&largest, 32, 1, first_f, &mut words[..65]),
         says(12, 66)
     );
     assert_eq!(words, [7; 66]);
-    assert_eq!(clause(&largest, 32, first_f, &mut words), says(0, 66));
+    assert_eq!(clause(&largest, 32, 1, first_f, &mut words), says(0, 66));
     assert_eq!(words[..3], [-1, 65, 66]);
     assert_eq!(words[64..], [128, 0]);
 }
@@ -146,44 +156,52 @@ fn questions_11_and_12() {
 #[test]
 fn questions_13_and_16() {
     let mut entries = [7; 4];
-    assert_eq!(check_plan(&PAIR, 1, &[]), says(13, 0));
-    assert_eq!(check_plan(&PAIR, 1, &[9; 3]), says(13, 3));
-    assert_eq!(encode(&PAIR, 1, &[0, 1, 1], &mut []), says(13, 3));
-    assert_eq!(encode(&PAIR, 1, &[9, 9], &mut entries[..3]), says(16, 4));
-    assert_eq!(encode(&PAIR, 1, &[9, 9], &mut entries), says(17, 0));
+    assert_eq!(check_plan(&PAIR, 1, 1, &[]), says(13, 0));
+    assert_eq!(check_plan(&PAIR, 1, 1, &[9; 3]), says(13, 3));
+    assert_eq!(encode(&PAIR, 1, 1, &[0, 1, 1], &mut []), says(13, 3));
+    assert_eq!(encode(&PAIR, 1, 1, &[9, 9], &mut entries[..3]), says(16, 4));
+    assert_eq!(encode(&PAIR, 1, 1, &[9, 9], &mut entries), says(17, 0));
     assert_eq!(entries, [7; 4]);
-    assert_eq!(encode(&PAIR, 1, &[0, 1], &mut entries), says(0, 4));
+    assert_eq!(encode(&PAIR, 1, 1, &[0, 1], &mut entries), says(0, 4));
     assert_eq!(entries, [1, -2, -3, 4]);
 }
 
 #[test]
 fn questions_14_and_15() {
     let mut plan = [7; 2];
-    assert_eq!(decode(&PAIR, 1, &[], &mut []), says(14, 0));
-    assert_eq!(decode(&PAIR, 1, &[0; 5], &mut plan), says(14, 5));
-    assert_eq!(decode(&PAIR, 1, &[0; 4], &mut plan[..1]), says(15, 2));
-    assert_eq!(decode(&PAIR, 1, &[0; 4], &mut plan), says(23, 0));
+    assert_eq!(decode(&PAIR, 1, 1, &[], &mut []), says(14, 0));
+    assert_eq!(decode(&PAIR, 1, 1, &[0; 5], &mut plan), says(14, 5));
+    assert_eq!(decode(&PAIR, 1, 1, &[0; 4], &mut plan[..1]), says(15, 2));
+    assert_eq!(decode(&PAIR, 1, 1, &[0; 4], &mut plan), says(23, 0));
     assert_eq!(
-        decode(&PAIR, 1, &[1, -2, i32::MAX, i32::MIN], &mut plan),
+        decode(&PAIR, 1, 1, &[1, -2, i32::MAX, i32::MIN], &mut plan),
         says(23, 2)
     );
     // 23 is asked of all entries before 24.
-    assert_eq!(decode(&PAIR, 1, &[-1, -2, -3, 5], &mut plan), says(23, 3));
+    assert_eq!(
+        decode(&PAIR, 1, 1, &[-1, -2, -3, 5], &mut plan),
+        says(23, 3)
+    );
     assert_eq!(plan, [7; 2]);
     // The lowest index, though it is of a later time: X(1,0,1) and X(0,1,0) are 4 and 5.
     let apart = instance_bytes(2, &[], &[0, 1], &[0, 1]);
     let exchanged = [1, -2, 3, -5, -4, 6, -7, 8];
     let mut plan = [7; 4];
-    assert_eq!(decode(&apart, 1, &exchanged, &mut plan), says(23, 3));
+    assert_eq!(decode(&apart, 1, 1, &exchanged, &mut plan), says(23, 3));
     assert_eq!(plan, [7; 4]);
 }
 
 /// The answer of the plan check, after seeing that the encoder refuses alike.
 fn plan_refused(instance: &[u8], horizon: u64, plan: &[u8]) -> Answer {
-    let answer = check_plan(instance, horizon, plan);
+    refused_plan(instance, horizon, 1, plan)
+}
+
+/// The same under this rule.
+pub(super) fn refused_plan(instance: &[u8], horizon: u64, rule: u64, plan: &[u8]) -> Answer {
+    let answer = check_plan(instance, horizon, rule, plan);
     assert_ne!(answer.number, 0);
     let mut entries = vec![7; usize::from(instance[0]) * plan.len()];
-    assert_eq!(encode(instance, horizon, plan, &mut entries), answer);
+    assert_eq!(encode(instance, horizon, rule, plan, &mut entries), answer);
     assert!(entries.iter().all(|&entry| entry == 7));
     answer
 }
@@ -267,7 +285,7 @@ fn the_lowest_agent_at_fault_decides() {
             }
             let (instance, plan) = (three_paths(&row), [&row[..], &next].concat());
             let Some(pair) = numbers.iter().position(|&number| number != 0) else {
-                assert_eq!(check_plan(&instance, 1, &plan), says(0, 0));
+                assert_eq!(check_plan(&instance, 1, 1, &plan), says(0, 0));
                 continue;
             };
             let number = numbers[pair];
@@ -366,7 +384,7 @@ fn question_22() {
     let instance = path(&[0, 3], &[1, 2]);
     assert_eq!(plan_refused(&instance, 1, &[0, 3, 1, 3]), says(22, 3));
     assert_eq!(plan_refused(&instance, 1, &[0, 3, 0, 3]), says(22, 2));
-    assert_eq!(check_plan(&instance, 1, &[0, 3, 1, 2]), says(0, 2));
+    assert_eq!(check_plan(&instance, 1, 1, &[0, 3, 1, 2]), says(0, 2));
     assert_eq!(
         plan_refused(&path(&[0, 3], &[0, 2]), 0, &[0, 3]),
         says(22, 1)
@@ -380,7 +398,7 @@ fn question_24_in_each_family() {
     // Variables: X(0,0,·) 1 2, X(1,0,·) 3 4, X(0,1,·) 5 6, X(1,1,·) 7 8.
     let answer = |entries: [i32; 8]| {
         let mut plan = [7; 4];
-        let answer = decode(&instance, 1, &entries, &mut plan);
+        let answer = decode(&instance, 1, 1, &entries, &mut plan);
         assert_eq!(
             plan,
             if answer.number == 0 {
@@ -405,19 +423,19 @@ fn question_24_in_each_family() {
     // The same goals at m 2, with an agent nowhere at time 1: C 4 to 9.
     let mut plan = [7; 6];
     let nowhere = [1, -2, -3, -4, 5, -6, -7, 8, -9, 10, -11, 12];
-    assert_eq!(decode(&instance, 2, &nowhere, &mut plan), says(24, 6));
+    assert_eq!(decode(&instance, 2, 1, &nowhere, &mut plan), says(24, 6));
     // Both on vertex 1 at time 1: E begins at 16; t 1, v 1 is its fourth.
     let sharing = [1, -2, -3, 4, 5, -6, -7, 8, -9, 10, -11, 12];
-    assert_eq!(decode(&instance, 2, &sharing, &mut plan), says(24, 19));
+    assert_eq!(decode(&instance, 2, 1, &sharing, &mut plan), says(24, 19));
 
     // The swap is refused by G: it begins at 20, and agent 0 enters vertex 1.
     let swap = instance_bytes(2, &[(0, 1)], &[0, 1], &[1, 0]);
     let crossed = [1, -2, -3, 4, -5, 6, 7, -8];
-    assert_eq!(decode(&swap, 1, &crossed, &mut plan), says(24, 21));
+    assert_eq!(decode(&swap, 1, 1, &crossed, &mut plan), says(24, 21));
 
     // Without the edge the same is refused by F, which begins at 16.
     let apart = instance_bytes(2, &[], &[0, 1], &[1, 0]);
-    assert_eq!(decode(&apart, 1, &crossed, &mut plan), says(24, 16));
+    assert_eq!(decode(&apart, 1, 1, &crossed, &mut plan), says(24, 16));
     assert_eq!(plan, [7; 6]);
 }
 
@@ -425,13 +443,13 @@ fn question_24_in_each_family() {
 fn smallest_instance() {
     let instance = [1, 1, 0, 0, 0, 0];
     let mut words = [7; 99];
-    assert_eq!(formula_size(&instance, 0), counts(6, 3));
-    assert_eq!(write_formula(&instance, 0, &mut words), WROTE);
+    assert_eq!(formula_size(&instance, 0, 1), counts(6, 3));
+    assert_eq!(write_formula(&instance, 0, 1, &mut words), WROTE);
     assert_eq!(words[..7], [1, 0, 1, 0, 1, 0, 7]);
-    assert_eq!(formula_size(&instance, 1), counts(11, 5));
-    assert_eq!(write_formula(&instance, 1, &mut words), WROTE);
+    assert_eq!(formula_size(&instance, 1, 1), counts(11, 5));
+    assert_eq!(write_formula(&instance, 1, 1, &mut words), WROTE);
     assert_eq!(words[..12], [1, 0, 2, 0, 1, 0, 2, 0, -1, 2, 0, 7]);
-    assert_eq!(check_plan(&instance, 32, &[0; 33]), says(0, 0));
+    assert_eq!(check_plan(&instance, 32, 1, &[0; 33]), says(0, 0));
 }
 
 #[test]
@@ -448,6 +466,10 @@ fn any_bytes_get_an_answer() {
             }
         }
         let horizon = numbers[random.below(numbers.len())];
+        let rule = match random.chance(50) {
+            true => random.rule(),
+            false => numbers[random.below(numbers.len())],
+        };
         let number = numbers[random.below(numbers.len())];
         let length = random.below(24);
         let entries: Vec<i32> = (0..length).map(|_| random.draw() as i32).collect();
@@ -455,18 +477,18 @@ fn any_bytes_get_an_answer() {
         let mut words = [7; 40];
         let mut bytes = [7; 40];
         for (size, writers) in FORMULAS {
-            size(&instance, horizon);
+            size(&instance, horizon, rule);
             for writer in writers {
-                writer(&instance, horizon, &mut words);
+                writer(&instance, horizon, rule, &mut words);
             }
         }
-        clause(&instance, horizon, number, &mut words);
-        check_plan(&instance, horizon, &plan);
-        decode(&instance, horizon, &entries, &mut bytes);
-        encode(&instance, horizon, &plan, &mut words);
-        read_valuation(&instance, horizon, &plan, &mut words);
+        clause(&instance, horizon, rule, number, &mut words);
+        check_plan(&instance, horizon, rule, &plan);
+        decode(&instance, horizon, rule, &entries, &mut bytes);
+        encode(&instance, horizon, rule, &plan, &mut words);
+        read_valuation(&instance, horizon, rule, &plan, &mut words);
         let text = some_text(&mut random, &[1, -2, -3, 4]);
-        read_valuation(&instance, horizon, &text, &mut words);
+        read_valuation(&instance, horizon, rule, &text, &mut words);
         floor(&instance);
     }
 }
@@ -474,10 +496,10 @@ fn any_bytes_get_an_answer() {
 #[test]
 fn size_limits_are_accepted() {
     assert_eq!(largest_instance().len(), 4068);
-    assert_eq!(check_instance(&largest_instance(), 32), says(0, 0));
+    assert_eq!(check_instance(&largest_instance(), 32, 1), says(0, 0));
     let full: Vec<u8> = (0..16).collect();
     let instance = instance_bytes(16, &all_edges(16), &full, &full);
-    assert_eq!(check_instance(&instance, 0), says(0, 0));
+    assert_eq!(check_instance(&instance, 0, 1), says(0, 0));
 }
 
 /// Each call answers the first no of its questions, asked one by one.
@@ -490,7 +512,8 @@ fn calls_answer_the_first_no() {
         let k = 1 + random.below(n.min(3));
         let m = random.below(4);
         let percent = random.below(101);
-        let (mut instance, mut plan) = random.walk(n, k, percent, m);
+        let rule = random.rule();
+        let (mut instance, mut plan) = random.walk(n, k, percent, m, rule);
         let mut horizon = m as u64;
         let mut entries = plain::valuation(n, k, &plan);
         if random.chance(20) {
@@ -499,7 +522,7 @@ fn calls_answer_the_first_no() {
             let from = instance.len() - k;
             instance[from..].copy_from_slice(&goals);
         }
-        let total = clause(&instance, horizon, u64::MAX, &mut []).second;
+        let total = clause(&instance, horizon, rule, u64::MAX, &mut []).second;
         let number = random.below(total as usize + 2) as u64;
         if random.chance(20) {
             let occupied = [20, 25, 26][random.below(3)];
@@ -513,6 +536,11 @@ fn calls_answer_the_first_no() {
         if random.chance(10) {
             horizon = [0, 32, 33, 1 << 32, u64::MAX][random.below(5)];
         }
+        let rule = match random.below(10) {
+            0 => random.wrong_rule(),
+            1 => 3 - rule,
+            _ => rule,
+        };
         for _ in 0..random.below(3) {
             random.damage(&mut plan);
             let vertex = random.below(n) as u8;
@@ -541,6 +569,7 @@ fn calls_answer_the_first_no() {
             let handed = Handed {
                 instance: &instance,
                 horizon: if call == FLOOR { 0 } else { horizon },
+                rule,
                 clause: (call == CLAUSE).then_some(number),
                 plan: &plan,
                 entries: &entries,
@@ -553,7 +582,7 @@ fn calls_answer_the_first_no() {
                 (Some((number, place)), _) => assert_eq!(answer, says(number, place).into()),
                 (None, WRITER | PRUNED) => assert_eq!(answer, WROTE.into()),
                 (None, SIZE | PRUNED_SIZE) => {
-                    assert_eq!(answer, closed_counts(&instance, horizon, pruned));
+                    assert_eq!(answer, closed_counts(&instance, horizon, rule, pruned));
                 }
                 (None, _) => assert_eq!(answer.number, 0),
             }
@@ -562,111 +591,5 @@ fn calls_answer_the_first_no() {
     }
     for (seen, numbers) in seen.iter().zip(ASKED) {
         assert!(seen[0] && numbers.iter().all(|&number| seen[number as usize]));
-    }
-}
-
-/// Compares plan check and encoder with the questions asked one by one; gives
-/// the items of 20, 25 and 26, by place.
-fn compare_occupied(instance: &[u8], horizon: u64, plan: &[u8]) -> (Answer, Vec<Item>) {
-    let handed = Handed {
-        instance,
-        horizon,
-        clause: None,
-        plan,
-        entries: &[],
-        text: &[],
-        lent: usize::from(instance[0]) * plan.len(),
-        pruned: false,
-    };
-    let answer = check_plan(instance, horizon, plan);
-    for numbers in [ASKED[2], ASKED[4]] {
-        match first_no(numbers, &handed) {
-            Some((number, place)) => assert_eq!(answer, says(number, place)),
-            None => assert_eq!(answer.number, 0),
-        }
-    }
-    if answer.number != 0 {
-        assert_eq!(plan_refused(instance, horizon, plan), answer);
-    }
-    let numbers = [20, 25, 26].into_iter();
-    let mut items: Vec<Item> = numbers
-        .flat_map(|number| {
-            let places = failing(number, &handed).into_iter();
-            places.map(move |place| (number, place))
-        })
-        .collect();
-    items.sort_by_key(|item| item.1);
-    (answer, items)
-}
-
-/// Every step of three agents from some rows, on every graph of four vertices.
-#[test]
-fn all_steps_of_three_agents() {
-    let possible = all_edges(4);
-    let mut times = [0; NUMBERS];
-    for graph in 0..1 << possible.len() {
-        let chosen = (0..possible.len()).filter(|j| graph >> j & 1 == 1);
-        let edges: Vec<(u8, u8)> = chosen.map(|j| possible[j]).collect();
-        for starts in [[0, 1, 2], [3, 1, 0], [2, 3, 1], [1, 0, 3]] {
-            let instance = instance_bytes(4, &edges, &starts, &starts);
-            for next in 0..64 {
-                let next = [next >> 4, next >> 2 & 3, next & 3];
-                let (answer, items) = compare_occupied(&instance, 1, &[starts, next].concat());
-                times[answer.number as usize] += 1;
-                // One item, of one number, for each agent that enters an occupied vertex.
-                let enters = |&a: &usize| next[a] != starts[a] && starts.contains(&next[a]);
-                let places: Vec<u64> = items.iter().map(|item| item.1).collect();
-                let agents = (0..3).filter(enters).map(|a| 3 + a as u64);
-                assert_eq!(places, agents.collect::<Vec<_>>());
-            }
-        }
-    }
-    for number in [0, 19, 20, 25, 26, 21, 22] {
-        assert!(times[number] > 0, "{number} was never answered");
-    }
-}
-
-/// 2 to 16 agents of which some enter occupied vertices. With every number of
-/// agents each of the three comes, and with four or more each of them decides
-/// while a higher agent is at fault in each of the other ways.
-#[test]
-fn crowded_plans_answer_the_first_no() {
-    let mut random = Generator::new(29);
-    for k in 2..=16 {
-        let mut decided = BTreeSet::new();
-        let mut times = [0; NUMBERS];
-        for i in 0..900 {
-            let n = k + 1 + random.below(8);
-            let m = 1 + random.below(3);
-            let percent = 20 + random.below(81);
-            let (instance, plan) = random.walk(n, k, percent, m);
-            let parts = Parts::of(&instance);
-            let wanted = [20, 25, 26][i % 3];
-            let Some(plan) = enter_occupied(&mut random, wanted, &parts, &plan) else {
-                continue;
-            };
-            let (answer, items) = compare_occupied(&instance, m as u64, &plan);
-            times[answer.number as usize] += 1;
-            // All steps before are valid, and the agents only cross edges there.
-            assert!(matches!(answer.number, 20 | 25 | 26));
-            assert_eq!(items[0], (answer.number, answer.second));
-            let step = |item: &&Item| item.1 / k as u64 == answer.second / k as u64;
-            assert!(items.iter().filter(step).any(|item| item.0 == wanted));
-            let others = items.iter().filter(step).map(|item| item.0);
-            decided.extend(others.map(|other| (answer.number, other)));
-        }
-        for number in [20, 25, 26] {
-            assert!(
-                times[number] > 100,
-                "{k} agents: {number} came {} times",
-                times[number]
-            );
-            for other in [20, 25, 26] {
-                assert!(
-                    k < 4 || decided.contains(&(number as u32, other)),
-                    "{k} agents: {number} never decided over {other}"
-                );
-            }
-        }
     }
 }

@@ -15,11 +15,14 @@ const S: &str = "s SATISFIABLE\n";
 /// What the reader answers and what it writes. The questions, asked one by one,
 /// must say the same, and nothing else may change.
 fn read(instance: &[u8], m: u64, text: &[u8], lent: usize) -> (Answer, Vec<i32>) {
+    // The rule changes nothing here, as long as it is one.
+    let rule = 1 + text.len() as u64 % 2;
     let mut entries = vec![7; lent];
-    let answer = read_valuation(instance, m, text, &mut entries);
+    let answer = read_valuation(instance, m, rule, text, &mut entries);
     let handed = Handed {
         instance,
         horizon: m,
+        rule,
         clause: None,
         plan: &[],
         entries: &[],

@@ -1,12 +1,12 @@
--- `one_clause::put_g` meets its contract. Place p / n names the other agent, p % n the vertex. Assumes nothing.
+-- `one_clause::put_following` meets its contract. Place p / n names the other agent, p % n the vertex. Assumes nothing.
 use Prim.Native.Nat.{_-_}
 use native.Mathlib.Numerals.{add-one}
 use mir.Facts.{toZ-ofZ}
 use borrow.Author.Needs.{needs, sfits-of}
 use Rattle.lists.proofs.Blocks.{cell-at}
 use Rattle.one_clause.proofs.Clauses.{room-put, wrote-put, other-clause}
-use Rattle.one_clause.proofs.put_g.Statement.{statement}
-use Rattle.one_clause.proofs.put_g.Tie as tie
+use Rattle.one_clause.proofs.put_following.Statement.{statement}
+use Rattle.one_clause.proofs.put_following.Tie as tie
 
 other-requires : tie.Need-other-requires
 other-requires c κs = let i = cell-at (c .before .args .s .k - 1) (c .before .args .s .n) (c .before .args .p) (c .before .pre .1 .0 .2) in search needs
@@ -28,8 +28,8 @@ returns c =
     _
     (rw (add-one (c .before .before .before .before .before .before .before .before .before .args .t .0)) at (rw (toZ-ofZ (sfits-of (c .before .before .before .negative .ok)), c .before .before .before .negative .ensures, toZ-ofZ (sfits-of (c .before .before .negative2 .ok)), c .before .before .negative2 .ensures) at (c .before .put-pair .ensures)))
 
-pub put-g-spec : {M : Type 1} → statement M
-put-g-spec =
+pub put-following-spec : {M : Type 1} → statement M
+put-following-spec =
     tie.close
     (tie.spec
     (λ c. search needs)
