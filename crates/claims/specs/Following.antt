@@ -5,7 +5,7 @@ use lib.ListN.{replicate}
 use lib.IntN.{ℤ, pos}
 use Rattle.answers.specs.Answers.{accept, refuse}
 use Rattle.instance.specs.Instance.{noGoal}
-use Rattle.claims.specs.Examples.{pair, exchange, pathTwo, pairTwo, Call, size, prunedSize, write, clause, check, decode, encode, read, floor, Seen, answer, words, plan, valuation, Example, Holds, neg, sevens, lentPlan, sized, unsized, exchangeUnits, exchangeShared, pairWords}
+use Rattle.claims.specs.Examples.{pair, exchange, pathTwo, Call, size, prunedSize, write, clause, check, decode, encode, read, floor, Seen, answer, words, plan, valuation, Example, Holds, neg, sevens, lentPlan, sized, unsized, exchangeUnits, exchangeShared, pairWords}
 
 -- the triangle, an agent on each vertex; each goes to the next
 abbrev pub triangle : List ℕ

@@ -61,7 +61,7 @@ fn ask_entries(
     }
 }
 
-// The call, for every byte string, every number, every list of entries and every slice.
+// The call, for every byte string, every two numbers, every list of entries and every slice.
 pub fn decode(b: &[u8], m: usize, rule: usize, entries: &[i32], plan: &mut [u8]) -> Answer
     ensures { λ r. ⌜ r ≡ decodeAnswer (now (b .entry)) m rule (now (entries .entry)) (length (now (plan .entry))) ⌝ }
     ensures { λ _. ⌜ now (plan .exit) ≡ decodeSlice (now (b .entry)) m rule (now (entries .entry)) (now (plan .entry)) ⌝ }

@@ -94,7 +94,7 @@ fn ask_encoding(
     }
 }
 
-// The call, for every byte string, every number, all bytes given as a plan and every slice.
+// The call, for every byte string, every two numbers, all bytes given as a plan and every slice.
 pub fn encode(b: &[u8], m: usize, rule: usize, p: &[u8], z: &mut [i32]) -> Answer
     ensures { λ r. ⌜ r ≡ encodeAnswer (now (b .entry)) m rule (now (p .entry)) (length (now (z .entry))) ⌝ }
     ensures { λ _. ⌜ now (z .exit) ≡ encodeSlice (now (b .entry)) m rule (now (p .entry)) (now (z .entry)) ⌝ }

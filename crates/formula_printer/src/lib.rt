@@ -212,7 +212,7 @@ fn status_of(written: bool, status: u32) -> u32
     FAILED
 }
 
-// Asks 1 to 10 of the instance, and prints the refusal or the formula. Answers the exit status.
+// Asks 1 to 10 of the instance, under rule 1, and prints the refusal or the formula. Answers the exit status.
 fn print_answer(words: &mut [i32], text: &mut [u8], texts: &mut [u8], b: &[u8], m: usize) -> u32
     requires { ⌜ Room (now words) (now text) (now texts) ⌝ }
     ensures { λ r. ⌜ Ends (answerStatus (now (b .entry)) m) r ⌝ }

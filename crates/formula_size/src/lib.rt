@@ -39,7 +39,7 @@ fn accepted(words: usize, clauses: usize) -> Size
     }
 }
 
-// Questions 1 to 10.
+// Questions 1 to 10 and 31.
 pub fn formula_size(b: &[u8], m: usize, rule: usize) -> Size
     ensures { λ r. ⌜ r ≡ sizeAnswer formula (now (b .entry)) m rule ⌝ }
 {
@@ -105,7 +105,7 @@ pub fn pruned_words(s: Sizes, more: usize) -> usize
     counts::word_count(s) + 2 * more
 }
 
-// Questions 1 to 10.
+// Questions 1 to 10 and 31.
 pub fn pruned_size(b: &[u8], m: usize, rule: usize) -> Size
     ensures { λ r. ⌜ r ≡ sizeAnswer pruned (now (b .entry)) m rule ⌝ }
 {

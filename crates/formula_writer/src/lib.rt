@@ -1,4 +1,4 @@
-// The formula writer: instance bytes, a horizon and a lent slice in, the words of the formula out.
+// The formula writer: instance bytes, a horizon, a movement rule and a lent slice in, the words of the formula out.
 use answers::Answer;
 use instance::Checked;
 use instance::Sizes;
@@ -81,7 +81,7 @@ pub fn ask_room(needed: usize, room: usize) -> Answer
     }
 }
 
-// Questions 1 to 10 and 12. A refusal changes no word of the slice.
+// Questions 1 to 10, 31 and 12. A refusal changes no word of the slice.
 pub fn write_formula(b: &[u8], m: usize, rule: usize, f: &mut [i32]) -> Answer
     ensures { λ r. ⌜ r ≡ writeAnswer formula (now (b .entry)) m rule (length (now (f .entry))) ⌝ }
     ensures { λ _. ⌜ now (f .exit) ≡ writeSlice formula (now (b .entry)) m rule (now (f .entry)) ⌝ }

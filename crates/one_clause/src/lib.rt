@@ -291,7 +291,7 @@ fn copy_words(f: &mut [i32], from: &[i32], count: usize)
     }
 }
 
-// One clause by number: questions 1 to 12. A refusal changes no word of the slice.
+// One clause by number: questions 1 to 10, 31, 11 and 12. A refusal changes no word of the slice.
 pub fn clause(b: &[u8], m: usize, rule: usize, number: usize, f: &mut [i32]) -> Answer
     ensures { λ r. ⌜ r ≡ clauseAnswer (now (b .entry)) m rule number (length (now (f .entry))) ⌝ }
     ensures { λ _. ⌜ now (f .exit) ≡ clauseSlice (now (b .entry)) m rule number (now (f .entry)) ⌝ }

@@ -116,7 +116,7 @@ fn write_all(f: &mut [i32], c: Checked, table: &[[u8; 64]])
     write_h(&mut f[at..], c.sizes, &starts, &goals, table);
 }
 
-// Questions 1 to 10 and 12. A refusal changes no word of the slice.
+// Questions 1 to 10, 31 and 12. A refusal changes no word of the slice.
 pub fn write_pruned(b: &[u8], m: usize, rule: usize, f: &mut [i32]) -> Answer
     ensures { λ r. ⌜ r ≡ writeAnswer pruned (now (b .entry)) m rule (length (now (f .entry))) ⌝ }
     ensures { λ _. ⌜ now (f .exit) ≡ writeSlice pruned (now (b .entry)) m rule (now (f .entry)) ⌝ }

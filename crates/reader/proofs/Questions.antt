@@ -1,4 +1,4 @@
--- Questions 27 to 29 one after another, and the reader's after 1 to 10.
+-- Questions 27 to 29 one after another, and the reader's after 1 to 10 and 31.
 use mathlib.Core.Path.{_≡_, refl, sym, _∙_, ap, subst}
 use mathlib.Core.Logic.{_≢_}
 use mathlib.Core.List.{List, [], _∷_}

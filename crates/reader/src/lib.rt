@@ -160,7 +160,7 @@ fn read_text(text: &[u8], n: usize, z: &mut [i32]) -> Answer
     answer
 }
 
-// The call, for every byte string, every number, all bytes given as a text and every slice.
+// The call, for every byte string, every two numbers, all bytes given as a text and every slice.
 pub fn read_valuation(b: &[u8], m: usize, rule: usize, text: &[u8], z: &mut [i32]) -> Answer
     ensures { λ r. ⌜ r ≡ readAnswer (now (b .entry)) m rule (now (text .entry)) (length (now (z .entry))) ⌝ }
     ensures { λ _. ⌜ now (z .exit) ≡ readSlice (now (b .entry)) m rule (now (text .entry)) (now (z .entry)) ⌝ }

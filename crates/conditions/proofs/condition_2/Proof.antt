@@ -1,5 +1,4 @@
 -- `conditions::condition_2` meets its contract: where the two places differ, no agent of the row is found on the second, or none that goes from there to the first. Assumes nothing.
-use native.Mathlib.Omega.{arith}
 use Rattle.conditions.proofs.Laws.{keeps-2, enters-2, exchanges-2}
 use borrow.Author.Needs.{needs}
 use Rattle.conditions.proofs.condition_2.Statement.{statement}

@@ -18,7 +18,7 @@ use borrow.Author.Needs.{needs}
 use Rattle.encoder.proofs.encode.Statement.{statement}
 use Rattle.encoder.proofs.encode.Tie as tie
 
--- the questions after 1 to 10, and the count
+-- the questions after 1 to 10 and 31, and the count
 abbrev asks : tie.Start → Instance → List Question
 asks s I = encodeRest I (s .args .p .now) (length (s .args .z .now))
 

@@ -16,7 +16,7 @@ use borrow.Author.Needs.{needs}
 use Rattle.one_clause.proofs.clause.Statement.{statement}
 use Rattle.one_clause.proofs.clause.Tie as tie
 
--- the questions after 1 to 10, and the count
+-- the questions after 1 to 10 and 31, and the count
 abbrev asks : tie.Start → Instance → List Question
 asks s I = clauseRest I (s .args .number) (length (s .args .f .now))
 

@@ -13,7 +13,7 @@ use borrow.Author.Needs.{needs}
 use Rattle.plan_check.proofs.check_plan.Statement.{statement}
 use Rattle.plan_check.proofs.check_plan.Tie as tie
 
--- the questions after 1 to 10, and the count
+-- the questions after 1 to 10 and 31, and the count
 abbrev asks : tie.Start → Instance → List Question
 asks s I = checkRest I (s .args .p .now)
 

@@ -19,7 +19,7 @@ use borrow.Author.Needs.{needs}
 use Rattle.reader.proofs.read_valuation.Statement.{statement}
 use Rattle.reader.proofs.read_valuation.Tie as tie
 
--- the questions after 1 to 10, and the count
+-- the questions after 1 to 10 and 31, and the count
 abbrev asks : tie.Start → Instance → List Question
 asks s I = readRest I (s .args .text .now) (length (s .args .z .now))
 
