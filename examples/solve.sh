@@ -1,17 +1,19 @@
 #!/usr/bin/env bash
-# solve.sh DESCRIPTION [HORIZON]: from a description to a checked plan, by way of a SAT solver.
+# solve.sh [--rule R] DESCRIPTION [HORIZON]: from a description to a checked plan, by way of a SAT solver.
 #
+# The movement rule R is 1 where none is given: an agent enters only a vertex on which none stood as the step began. Under
+# rule 2 it may follow another in the same step, and every line says so.
 # Without a horizon it begins at the floor, below which no plan passes, and climbs to 32 until there is a plan: a line a
 # horizon, which tells its outcome when the solver has ended. The solver gets the formula with family H, from the tool.
-# With a horizon it asks for a plan of that makespan alone, by the formula of the formula program. What comes back is
-# read, decoded and checked in the same way.
+# With a horizon it asks for a plan of that makespan alone, by the formula without family H: that of the formula program,
+# which keeps to rule 1, or under rule 2 that of the tool. What comes back is read, decoded and checked in the same way.
 #
 # SOLVER            the solver to use; otherwise the first one installed, in the order of solver_commands.sh
 # LIMIT             the seconds that the solver may take at each horizon; otherwise as long as it needs
 # RUNGLAET_LIB      the static library; otherwise the repository's own
-# RUNGLAET_PROGRAM  the formula program; otherwise the repository's own; needed only where a horizon is given
-# KEEP              a folder for instance.bin, formula.cnf and output.txt, the last two of the last horizon, and where a
-#                   horizon is given also input.bin; otherwise they are removed
+# RUNGLAET_PROGRAM  the formula program; otherwise the repository's own; needed only with a horizon under rule 1
+# KEEP              a folder for instance.bin, formula.cnf and output.txt, the last two of the last horizon, and where the
+#                   formula program is asked also input.bin; otherwise they are removed
 #
 # Exit status: 0 a plan that passes; 1 refused by the library; 3 no plan of this makespan, or without a horizon of any up
 # to 32; 2 anything else, a signal too.
@@ -78,9 +80,26 @@ for signal in HUP INT TERM; do
 done
 { true 9>&1; } 2>/dev/null || stop "standard output is closed, so no result could be shown"
 
-# What was given.
-[ $# -eq 1 ] || [ $# -eq 2 ] || stop "a description is needed, and a horizon may follow; words given: $#"
+# What was given. `rule` has the tool's words for it, `under` what is said of it.
+given=$# words=() rule=()
+while [ $# -gt 0 ]; do
+    if [ "$1" = --rule ] && [ $# -ge 2 ] && [ ${#rule[@]} -eq 0 ]; then
+        rule=(--rule "$2")
+        shift
+    else
+        words+=("$1")
+    fi
+    shift
+done
+set -- "${words[@]}"
+if [ $# -lt 1 ] || [ $# -gt 2 ] || [ "$1" = --rule ] || [ "${2:-}" = --rule ]; then
+    stop "a description is needed, and a horizon may follow, and --rule R once; words given: $given"
+fi
 description=$1
+under=
+[ "${rule[1]:-1}" = 1 ] || under=" under rule ${rule[1]}"
+# by_program: the formula program is asked for the formula.
+by_program() { [ $# -eq 2 ] && [ -z "$under" ]; }
 limit=()
 if [ -n "${LIMIT:-}" ]; then
     [[ $LIMIT =~ ^[1-9][0-9]{0,8}$ ]] || stop "LIMIT must be a whole number of seconds, 1 or more: $LIMIT"
@@ -98,7 +117,7 @@ fi
 
 # What is needed. The scripts that build it say themselves what went wrong.
 shuttles=$("$root/tools/shuttles/build.sh") || exit 2
-if [ $# -eq 2 ]; then
+if by_program "$@"; then
     if [ -z "${RUNGLAET_PROGRAM:-}" ]; then
         RUNGLAET_PROGRAM=$("$root/tools/formula_program/build.sh") || exit 2
     fi
@@ -121,7 +140,7 @@ input=$folder/input.bin
 formula=$folder/formula.cnf
 output=$folder/output.txt
 files=("$instance" "$formula" "$output")
-[ $# -eq 1 ] || files+=("$input")
+! by_program "$@" || files+=("$input")
 for file in "${files[@]}"; do
     { true >"$file"; } 2>/dev/null || stop "the files of this run cannot be written into their folder: $folder"
 done
@@ -160,6 +179,13 @@ write() {
     judged "$status" "$answer"
 }
 
+# known_rule: goes on where the rule is one. The floor is the same under both, and does not ask.
+known_rule() {
+    local status=0 answer
+    answer=$(quietly "$shuttles" size "$description" 0 "${rule[@]}" 2>&1) || status=$?
+    judged "$status" "$answer"
+}
+
 # find_floor: sets `floor`.
 find_floor() {
     local status=0 answer
@@ -169,10 +195,10 @@ find_floor() {
     floor=${BASH_REMATCH[1]}
 }
 
-# base_formula: from the program. It refuses nothing that the library accepts, but it is asked all the same.
+# base_formula: without family H, from the program. It refuses nothing that the library accepts, but it is asked all the same.
 base_formula() {
     local status=0 first='' second='' number='' place=''
-    write "$input" input "$description" "$horizon"
+    write "$input" input "$description" "$horizon" "${rule[@]}"
     quietly "$RUNGLAET_PROGRAM" <"$input" >"$formula" || status=$?
     room
     [ "$status" -le 1 ] || stop "the formula program failed, so there is no formula: status $status: $RUNGLAET_PROGRAM"
@@ -187,9 +213,9 @@ base_formula() {
     esac
 }
 
-# pruned_formula: with family H, from the tool.
-pruned_formula() {
-    write "$formula" pruned "$description" "$horizon"
+# tool_formula WORD: from the tool: `formula`, or `pruned` with family H.
+tool_formula() {
+    write "$formula" "$1" "$description" "$horizon" "${rule[@]}"
 }
 
 # whole CLAUSES LINES: some solvers take a formula that was cut short. It is whole when every clause of the header has a
@@ -250,7 +276,7 @@ notes=$'\n'
 read_back() {
     local note='' outcome
     status=0
-    answer=$(quietly "$shuttles" decode "$description" "$horizon" 2>&1 <"$output") || status=$?
+    answer=$(quietly "$shuttles" decode "$description" "$horizon" "${rule[@]}" 2>&1 <"$output") || status=$?
     # There is one note at most, and it comes first.
     if [[ $answer == "note: "* ]]; then
         note=${answer%%$'\n'*}
@@ -287,9 +313,14 @@ write "$instance" instance "$description"
 # One horizon.
 if [ $# -eq 2 ]; then
     horizon=$2
-    base_formula
-    measure "$RUNGLAET_PROGRAM"
-    say "$name, horizon $horizon: $sizes, $SOLVER"
+    if by_program "$@"; then
+        base_formula
+        measure "$RUNGLAET_PROGRAM"
+    else
+        tool_formula formula
+        measure "$shuttles"
+    fi
+    say "$name$under, horizon $horizon: $sizes, $SOLVER"
     run_solver
     read_back
     say "$answer"
@@ -297,20 +328,21 @@ if [ $# -eq 2 ]; then
 fi
 
 # From the floor on.
+[ ${#rule[@]} -eq 0 ] || known_rule
 find_floor
 if [ "$floor" -gt "$highest" ]; then
     say "no plan of makespan 0 to $highest: the floor is $floor, the greatest distance from a start to its goal"
     exit 3
 fi
 for ((horizon = floor; horizon <= highest; horizon++)); do
-    pruned_formula
+    tool_formula pruned
     measure "$shuttles"
-    begin "$name, horizon $horizon: $sizes, $SOLVER"
+    begin "$name$under, horizon $horizon: $sizes, $SOLVER"
     run_solver
     read_back
     [ "$status" -ne 3 ] || continue
     say "$answer"
     exit "$status"
 done
-say "no plan of makespan 0 to $highest"
+say "no plan of makespan 0 to $highest$under"
 exit 3

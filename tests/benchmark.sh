@@ -1,7 +1,7 @@
 #!/usr/bin/env bash
 # The library's times beside those of plain Rust: tests/benchmark.sh [--before LIBRARY] [--write]. With --before, also
-# beside those of an earlier commit's library, from S-7 on, in the same run. With --write, what is printed also replaces
-# the table in docs/BENCHMARK.md.
+# beside those of an earlier commit's library, from S-7 on, in the same run, under rule 1; one from before S-10 is called
+# without a rule. With --write, what is printed also replaces the table in docs/BENCHMARK.md.
 # RUNGLAET_LIB, RUNGLAET_PROGRAM: the library and the formula program, if they are not in target/.
 set -euo pipefail
 usage() {

@@ -44,7 +44,7 @@ awk '{ times[$1, $2] += $3 }
         kinds = split("writer clause plan decoder encoder reader floor pruned size pruned-size", name, " ")
         for (kind = 1; kind <= kinds; kind++) {
             line = ""
-            for (number = 0; number <= 30; number++)
+            for (number = 0; number <= 31; number++)
                 if ((kind, number) in times) line = line " " number ":" times[kind, number]
             print name[kind] line
         }

@@ -3,10 +3,12 @@
 #
 # Solves every example of the table in examples/README.md and the cases below with each solver installed, and compares
 # with the answer known beforehand: at single horizons by the base formula and by the formula with family H, which must
-# get the same verdict, and without a horizon, from the floor on. A plan must pass the plan check, and its own valuation
-# must decode to it again. What cadical and picosat print is read as it is, and kissat is held to that where it is
-# installed. Of minisat's output, and of cryptominisat's where a v line ends with a space, a note says that it was brought
-# into the form that is read. Nothing else is said on standard error.
+# get the same verdict, and without a horizon, from the floor on. Under rule 2 likewise, but the formula with family H is
+# solved only from the floor on. A plan must pass the plan check, and its own valuation must decode to it again. One of
+# rule 1 must pass under rule 2 too; one of rule 2 must pass under rule 1 or get 26. What cadical and picosat print is
+# read as it is, and kissat is held to that where it is installed. Of minisat's output, and of cryptominisat's where a v
+# line ends with a space, a note says that it was brought into the form that is read. Nothing else is said on standard
+# error.
 # INSTALL=yes installs the solvers first (as root). RUNGLAET_LIB and RUNGLAET_PROGRAM as in examples/solve.sh.
 # Status 77: no solver is installed, and the table alone was read.
 set -u
@@ -32,6 +34,8 @@ printf '%s\n' 'vertices 2' 'edge 0 1' 'agent 1 -' 'agent 0 1' >"$folder/blocked.
 ring=('vertices 4' 'edge 0 1' 'edge 1 2' 'edge 2 3' 'edge 0 3')
 printf '%s\n' "${ring[@]}" 'agent 0 1' 'agent 1 2' 'agent 2 3' >"$folder/ring.txt"
 printf '%s\n' "${ring[@]}" 'agent 0 1' 'agent 1 -' 'agent 2 -' >"$folder/push.txt"
+printf '%s\n' "${ring[@]}" 'agent 0 1' 'agent 1 2' 'agent 2 3' 'agent 3 0' >"$folder/turn.txt"
+printf '%s\n' "${ring[@]}" 'agent 0 1' 'agent 1 0' 'agent 2 2' 'agent 3 3' >"$folder/knot.txt"
 {
     echo 'vertices 64'
     for ((v = 0; v < 64; v++)); do for ((w = v + 1; w < 64; w++)); do echo "edge $v $w"; done; done
@@ -40,37 +44,47 @@ printf '%s\n' "${ring[@]}" 'agent 0 1' 'agent 1 -' 'agent 2 -' >"$folder/push.tx
 
 # The table's lines under its heading.
 table() {
-    awk '/^\| *Description *\|.*Has a plan at horizon *\|$/ { inside = 1; next }
+    awk '/^\| *Description *\|.*Has a plan at horizon *\| *Under rule 2 *\|$/ { inside = 1; next }
         inside && !/^\|/ { exit }
         inside && !/^[-| ]*$/' "$root/examples/README.md"
 }
 
-# table_cases: for each line of the table, example, horizon and answer in "$folder/cases", and in "$folder/climbs" example,
-# floor (or "unreachable") and first horizon (or "none").
-# "h and above": no plan at any horizon below h, one at h, at h + 1 and at the highest. "none": none at some, up to it.
+# table_cases: for each line of the table, rule, example, horizon and answer in "$folder/cases", and in "$folder/climbs"
+# rule, example, floor (or "unreachable") and first horizon (or "none").
+# "h and above": no plan at any horizon below h, one at h, at h + 1 and at the highest; under rule 2 none just below h and
+# one at h. "none": none at some, up to the highest.
 table_cases() {
-    local line example horizon floor first
+    local line example horizon floor first second
     local number='0|[1-9][0-9]?'
+    local horizons="(none|($number) and above)"
     # shellcheck disable=SC2016  # The backquotes are the table's.
-    local pattern='^\| `([A-Za-z0-9_-]+)\.txt` \| [^|]+ \| ('$number'|unreachable) \| (none|('$number') and above) \|$'
+    local pattern='^\| `([A-Za-z0-9_-]+)\.txt` \| [^|]+ \| ('$number'|unreachable) \| '$horizons' \| '$horizons' \|$'
     while IFS= read -r line; do
-        if ! [[ $line =~ $pattern ]] || [ "${BASH_REMATCH[4]:-0}" -gt 32 ]; then
+        if ! [[ $line =~ $pattern ]] || [ "${BASH_REMATCH[4]:-0}" -gt 32 ] || [ "${BASH_REMATCH[6]:-0}" -gt 32 ]; then
             fail "examples/README.md: this line of the table cannot be read: $line"
             continue
         fi
-        example=${BASH_REMATCH[1]} floor=${BASH_REMATCH[2]} first=${BASH_REMATCH[4]}
+        example=${BASH_REMATCH[1]} floor=${BASH_REMATCH[2]} first=${BASH_REMATCH[4]} second=${BASH_REMATCH[6]}
         echo "$example" >>"$folder/named"
-        echo "$example $floor ${first:-none}" >>"$folder/climbs"
+        printf '%s\n' "1 $example $floor ${first:-none}" "2 $example $floor ${second:-none}" >>"$folder/climbs"
         if [ ! -f "$root/examples/$example.txt" ]; then
             fail "examples/README.md: the table names $example.txt, which is not there"
             continue
         fi
-        if [ -z "$first" ]; then
-            for horizon in 0 1 2 5 12 32; do echo "$example $horizon UNSAT"; done
-        else
-            for ((horizon = 0; horizon < first; horizon++)); do echo "$example $horizon UNSAT"; done
-            printf '%s\n' "$first" $((first < 32 ? first + 1 : 32)) 32 | sort -nu | sed "s/.*/$example & SAT/"
-        fi >>"$folder/cases"
+        {
+            if [ -z "$first" ]; then
+                for horizon in 0 1 2 5 12 32; do echo "1 $example $horizon UNSAT"; done
+            else
+                for ((horizon = 0; horizon < first; horizon++)); do echo "1 $example $horizon UNSAT"; done
+                printf '%s\n' "$first" $((first < 32 ? first + 1 : 32)) 32 | sort -nu | sed "s/.*/1 $example & SAT/"
+            fi
+            if [ -z "$second" ]; then
+                for horizon in 1 32; do echo "2 $example $horizon UNSAT"; done
+            else
+                [ "$second" -eq 0 ] || echo "2 $example $((second - 1)) UNSAT"
+                echo "2 $example $second SAT"
+            fi
+        } >>"$folder/cases"
     done < <(table)
 }
 
@@ -78,7 +92,7 @@ table_cases() {
 : >"$folder/cases"
 : >"$folder/climbs"
 table_cases
-[ -s "$folder/named" ] || fail "examples/README.md: no table with the column 'Has a plan at horizon'"
+[ -s "$folder/named" ] || fail "examples/README.md: no table with the columns 'Has a plan at horizon' and 'Under rule 2'"
 for file in "$root"/examples/*.txt; do
     example=$(basename "$file" .txt)
     times=$(grep -cxF -e "$example" "$folder/named")
@@ -89,28 +103,59 @@ echo "table: $(wc -l <"$folder/named") examples, $failed failed"
 # Cases that the table does not have.
 grep -v '^ *#' >>"$folder/cases" <<'END'
 # The start is the goal.
-stay 0 SAT
-stay 32 SAT
+1 stay 0 SAT
+1 stay 32 SAT
+2 stay 32 SAT
 # No agent has a destination.
-waiting 0 SAT
-waiting 32 SAT
+1 waiting 0 SAT
+1 waiting 32 SAT
+2 waiting 32 SAT
 # The other one cannot leave the goal, although it has no destination: both vertices are always occupied.
-blocked 1 UNSAT
-blocked 32 UNSAT
-# Four vertices in a ring, three agents move on by one: only one can move in a step, so three steps.
-ring 1 UNSAT
-ring 2 UNSAT
-ring 3 SAT
+1 blocked 1 UNSAT
+1 blocked 32 UNSAT
+2 blocked 32 UNSAT
+# Four vertices in a ring, three agents move on by one: only one can move in a step, so three steps. Under rule 2 one.
+1 ring 1 UNSAT
+1 ring 2 UNSAT
+1 ring 3 SAT
+2 ring 0 UNSAT
+2 ring 1 SAT
 # The same ring, and the two in front have no destination: each must make room for the one behind it all the same.
-push 1 UNSAT
-push 2 UNSAT
-push 3 SAT
-# The largest formula. Every vertex is one step from every other, and all goals are vacant.
-complete 0 UNSAT
-complete 1 SAT
-complete 32 SAT
+1 push 1 UNSAT
+1 push 2 UNSAT
+1 push 3 SAT
+2 push 0 UNSAT
+2 push 1 SAT
+# The same ring with four agents: under rule 1 none can ever move, under rule 2 only all at once, the same way round.
+1 turn 1 UNSAT
+1 turn 32 UNSAT
+2 turn 0 UNSAT
+2 turn 1 SAT
+2 turn 2 SAT
+2 turn 32 SAT
+1 knot 32 UNSAT
+2 knot 1 UNSAT
+2 knot 32 UNSAT
+# The largest formula of rule 1. Every vertex is one step from every other, and all goals are vacant.
+1 complete 0 UNSAT
+1 complete 1 SAT
+1 complete 32 SAT
+2 complete 1 SAT
 END
-printf '%s\n' 'stay 0 0' 'waiting 0 0' 'blocked 1 none' 'ring 1 3' 'push 1 3' 'complete 1 1' >>"$folder/climbs"
+cat >>"$folder/climbs" <<'END'
+1 stay 0 0
+1 waiting 0 0
+1 blocked 1 none
+2 blocked 1 none
+1 ring 1 3
+2 ring 1 1
+1 push 1 3
+2 push 1 1
+1 turn 1 none
+2 turn 1 1
+1 complete 1 1
+2 complete 1 1
+END
 
 if [ "${INSTALL:-no}" = yes ]; then
     export DEBIAN_FRONTEND=noninteractive
@@ -174,7 +219,7 @@ noted() {
     fi
 }
 
-# solve FOLDER EXAMPLE [HORIZON]: runs solve.sh with the solver; sets `run`, `status`, `took`, `last` and `form`.
+# solve FOLDER EXAMPLE [HORIZON]: runs solve.sh with the solver, under `rule`; sets `run`, `status`, `took`, `last`, `form`.
 solve() {
     local begin
     run=$1
@@ -182,7 +227,7 @@ solve() {
     mkdir "$run"
     begin=$(date +%s%N)
     status=0
-    SOLVER=$solver LIMIT=$limit KEEP=$run "$root/examples/solve.sh" "$folder/$2.txt" "${@:3}" \
+    SOLVER=$solver LIMIT=$limit KEEP=$run "$root/examples/solve.sh" --rule "$rule" "$folder/$2.txt" "${@:3}" \
         </dev/null >"$run/shown" 2>"$run/errors" || status=$?
     took=$((($(date +%s%N) - begin) / 1000000))
     last=$(tail -n 1 "$run/shown")
@@ -190,17 +235,26 @@ solve() {
     ran=$((ran + 1))
 }
 
+# What is said of a formula or a plan of the rule.
+under() { [ "$rule" = 1 ] || echo " under rule $rule"; }
+
 # plan_fault HORIZON: what is wrong with the plan of the run, if something is.
 plan_fault() {
-    local instance=$run/instance.bin
-    [[ $last == "plan passes: makespan $1, cost "* ]] || echo "wrong last line"
-    "$shuttles" decode --numbers "$instance" "$1" <"$run/output.txt" >"$run/plan" 2>"$run/said" || echo "does not decode"
+    local given=("$run/instance.bin" "$1" --rule "$rule") other
+    [[ $last == "plan passes$(under): makespan $1, cost "* ]] || echo "wrong last line"
+    "$shuttles" decode --numbers "${given[@]}" <"$run/output.txt" >"$run/plan" 2>"$run/said" || echo "does not decode"
     noted "$form" "$run/said"
-    [ "$("$shuttles" check "$instance" "$1" - <"$run/plan")" = "$last" ] || echo "does not pass"
-    "$shuttles" encode "$instance" "$1" - <"$run/plan" >"$run/valuation" || echo "does not encode"
-    "$shuttles" decode --numbers "$instance" "$1" <"$run/valuation" 2>"$run/said" |
+    [ "$("$shuttles" check "${given[@]}" - <"$run/plan")" = "$last" ] || echo "does not pass"
+    "$shuttles" encode "${given[@]}" - <"$run/plan" >"$run/valuation" || echo "does not encode"
+    "$shuttles" decode --numbers "${given[@]}" <"$run/valuation" 2>"$run/said" |
         cmp -s - "$run/plan" || echo "decodes to another plan"
     noted '' "$run/said"
+    other=$("$shuttles" check "${given[@]:0:3}" $((3 - rule)) - <"$run/plan")
+    case "$rule $other" in
+    "1 ${last/passes/passes under rule 2}" | "2 ${last/ under rule 2/}") ;;
+    "2 refused 26: "*) echo "$solver $example $1" >>"$folder/following" ;;
+    *) echo "by the other rule: $other" ;;
+    esac
 }
 
 # told WHAT FAULT: a line for the run that was made.
@@ -224,12 +278,12 @@ at_horizon() {
     elif [ -n "$fault" ]; then
         :
     elif [ "$answer" = UNSAT ]; then
-        [ "$last" = "no plan of makespan $3" ] || fault="wrong last line"
+        [ "$last" = "no plan of makespan $3$(under)" ] || fault="wrong last line"
     else
         plans=$((plans + 1))
         fault=$(plan_fault "$3")
     fi
-    told "$1 $2 $3: $answer" "$fault"
+    told "$1 $2 $3$(under): $answer" "$fault"
     if [ -n "$form" ]; then brought=$((brought + 1)); fi
 }
 
@@ -248,7 +302,7 @@ climb() {
     solve "$folder/run" "$1"
     [ "$3" != none ] || top=32
     # What each line tells: the horizon and its outcome.
-    sed -n "s/^$1\.txt, horizon \([0-9]*\): .* clauses, $solver: \(.*\)\$/\1 \2/p" "$run/shown" >"$run/outcomes"
+    sed -n "s/^$1\.txt$(under), horizon \([0-9]*\): .* clauses, $solver: \(.*\)\$/\1 \2/p" "$run/shown" >"$run/outcomes"
     if [ "$2" = unreachable ]; then
         expected=1
         [[ $last == "refused 30: "* ]] && [ "$(wc -l <"$run/shown")" -eq 1 ] || fault="not refused 30 alone"
@@ -261,14 +315,14 @@ climb() {
         case $solver in minisat) own=minisat ;; cryptominisat5) own=$form ;; esac
         fault=$fault$(noted "$own" "$run/errors" 2)
         if [ "$3" = none ]; then
-            [ "$last" = "no plan of makespan 0 to 32" ] || fault="wrong last line"
+            [ "$last" = "no plan of makespan 0 to 32$(under)" ] || fault="wrong last line"
         elif [ -z "$fault" ]; then
             plans=$((plans + 1))
             fault=$(plan_fault "$3")
         fi
     fi
     [ "$status" -eq "$expected" ] || fault="status $status, not $expected"
-    told "climb $1: $(wc -l <"$run/outcomes") horizons from $2, $3" "$fault"
+    told "climb $1$(under): $(wc -l <"$run/outcomes") horizons from $2, $3" "$fault"
 }
 
 ran=0
@@ -279,16 +333,20 @@ one=${installed# }
 one=${one%% *}
 for solver in $installed; do
     brought=0
-    while read -r example horizon expected; do
+    while read -r rule example horizon expected; do
         at_horizon base "$example" "$horizon" "$expected"
-        RUNGLAET_PROGRAM=$folder/with-h at_horizon with-h "$example" "$horizon" "$expected"
+        if [ "$rule" = 1 ]; then
+            RUNGLAET_PROGRAM=$folder/with-h at_horizon with-h "$example" "$horizon" "$expected"
+        elif [ "$solver" = "$one" ]; then
+            "$shuttles" pruned --rule 2 "$folder/$example.txt" "$horizon" >"$folder/with-h.run/formula.cnf"
+        fi
         if [ "$solver" = "$one" ]; then
             compared=$((compared + 1))
             fault=$(extends)
-            [ -z "$fault" ] || fail "$example $horizon: ${fault//$'\n'/, }"
+            [ -z "$fault" ] || fail "$example $horizon$(under): ${fault//$'\n'/, }"
         fi
     done <"$folder/cases"
-    while read -r example floor first; do
+    while read -r rule example floor first; do
         climb "$example" "$floor" "$first"
     done <"$folder/climbs"
     case $solver in
@@ -298,5 +356,6 @@ for solver in $installed; do
         ;;
     esac
 done
+[ -s "$folder/following" ] || fail "no plan of rule 2 was refused under rule 1"
 echo "solvers:$installed; $ran runs, $plans plans, $compared pairs of formulas, $failed failed"
 [ "$failed" -eq 0 ]

@@ -86,6 +86,7 @@ expect Usage 2 "$shuttles" floor path.txt 2
 expect Usage 2 "$shuttles" size path.txt
 expect Usage 2 "$shuttles" size path.txt 2 3
 expect Usage 2 "$shuttles" pruned path.txt
+expect Usage 2 "$shuttles" formula path.txt
 expect Usage 2 "$shuttles" refusal 8 9 path.txt 2 3
 expect Word 2 "$shuttles" instance $'Fl\344che.txt'
 expect Word 2 "$shuttles" check path.txt $'\377'
@@ -104,6 +105,7 @@ expect Output 2 full "$shuttles" check path.txt 33
 expect Output 2 full "$shuttles" floor path.txt
 expect Output 2 full "$shuttles" size path.txt 2
 expect Output 2 full "$shuttles" pruned path.txt 2
+expect Output 2 full "$shuttles" formula path.txt 2 --rule 2
 expect Output 2 gone "$shuttles" instance path.txt
 expect Output 2 gone "$shuttles" pruned path.txt 32
 
@@ -171,13 +173,14 @@ aside() {
     refuse "$@"
     result "$(head -c 100 said)" "nothing on standard output: ${*:3}"
 }
-# unfit NUMBER TERMS FILE: no call takes this instance, with a horizon or without.
+# unfit NUMBER TERMS FILE: no call takes this instance, with a horizon and a rule or without.
 unfit() {
     refuse "$1" "$2" "$shuttles" check "$3" 1
     refuse "$1" "$2" "$shuttles" encode "$3" x
     refuse "$1" "$2" "$shuttles" floor "$3"
-    refuse "$1" "$2" "$shuttles" size "$3" 33
+    refuse "$1" "$2" "$shuttles" size "$3" 33 --rule 3
     aside "$1" "$2" "$shuttles" input "$3" 1
+    aside "$1" "$2" "$shuttles" formula "$3" 1 --rule 3
     aside "$1" "$2" "$shuttles" pruned "$3" 33
 }
 # bytes OCTAL...: a file of instance bytes.
@@ -233,7 +236,8 @@ done
 for horizon in 33 256 02 ''; do
     refuse 10 "\"$horizon\" was given" "$shuttles" size path.txt "$horizon"
     aside 10 "\"$horizon\" was given" "$shuttles" input path.txt "$horizon"
-    aside 10 "\"$horizon\" was given" "$shuttles" pruned path.txt "$horizon"
+    aside 10 "\"$horizon\" was given" "$shuttles" formula path.txt "$horizon"
+    aside 10 "\"$horizon\" was given" "$shuttles" pruned path.txt "$horizon" --rule 3
 done
 refuse 10 '"-1" was given' "$shuttles" encode path.txt -1 0 1
 refuse 10 '"02" was given' fed 's UNSATISFIABLE\n' "$shuttles" decode path.txt 02
@@ -469,7 +473,7 @@ costs 7 4 "$idle" 0 1  0 3  1 3  2 3  2 1
 costs 0 0 all.txt 2 0 1
 costs 2 2 roam.txt 0 1 0
 refuse 17 'agent 0 (line 3) at time 1: at vertex 255, the map has only vertices 0 to 1' "$shuttles" check free.txt 1  0 1  255 1
-refuse 22 'agent 0 (line 9) at time 1: at vertex 0, its goal is vertex 2' "$shuttles" check "$idle" 1  0 1  0 3
+refuse 22 'agent 0 (line 10) at time 1: at vertex 0, its goal is vertex 2' "$shuttles" check "$idle" 1  0 1  0 3
 description r.txt 'grid 1 3' 'agent 0 -' 'agent 1 2'
 refuse 22 'agent 1 (line 3) at time 1: at vertex 1, its goal is vertex 2' "$shuttles" encode r.txt 1  0 1  0 1
 # Their goals are at no distance, and none is out of reach: agent 0 stands alone.
@@ -834,6 +838,9 @@ expect solve-room 2 small 1 with "$plan" "$solve" pair.txt 1
 expect solve-room 2 small 7 with "$plan" "$solve" path.txt 2
 expect solve-room 2 small 7 with "$plan" "$solve" path.txt
 expect Output 2 small 9 with "$plan" "$solve" "$root/examples/grid4.txt"
+
+# shellcheck source=tests/words_rule.sh
+. "$root/tests/words_rule.sh"
 
 # tools/shuttles/build.sh. The tool that is built needs no cargo; a copy of the sources has nothing built.
 solves 0 '' "$shuttles" "$root/tools/shuttles/build.sh"

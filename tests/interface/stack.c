@@ -2,8 +2,8 @@
  *
  * The inputs are the largest ones: 64 vertices, all 2016 edges, 16 agents, horizon 32. Each call is made with inputs
  * that it accepts and with some that it refuses late, and its answers are compared with those of documents 01 and 02.
- * For the floor and the pruned formula there are also the longest path, and the same in two parts. At last all agents are
- * free. */
+ * For the floor and the pruned formula there are also the longest path, and the same in two parts. Then all agents are
+ * free; at last they have their goals again, and the rule is 2. */
 #define _POSIX_C_SOURCE 200809L
 #include "runglaet.h"
 
@@ -28,6 +28,10 @@ enum {
     WORDS = 2 * K + 2 * K + C * (N + 1) + 3 * D + 3 * EE + M * K * (3 * N + 2 * E) + 3 * G,
     /* The lowest clause that SWAPS below falsifies: of family G with t M-1, a K-2, b K-1, and v the goal of a. */
     SWAPPED = CLAUSES - G + (((M - 1) * K + K - 2) * (K - 1) + K - 2) * N + N - 1 - (K - 2),
+    /* Under rule 2: G has a clause for each edge. SWAPS exchanges over the edge 48-49, agent K-2 on its low end. */
+    CLOSING_G = M * E * K * (K - 1), CLOSING_CLAUSES = CLAUSES - G + CLOSING_G,
+    CLOSING_WORDS = WORDS - 3 * G + 5 * CLOSING_G, LOW = N - K, EDGE = LOW * (2 * N - LOW - 1) / 2,
+    CLOSING_SWAPPED = CLAUSES - G + (((M - 1) * E + EDGE) * K + K - 2) * (K - 1) + K - 2,
     /* Family H: all vertices are one step from each other, so that only time 0 and time M rule some out. */
     H = 2 * K * (N - 1),
     /* The path 0-1-..-63: as many clauses, but shorter ones in family F. From a to 63-a is further than M for every
@@ -38,18 +42,20 @@ enum {
 static uint8_t instance[4 + 2 * E + 2 * K], decoded[PLAN];
 /* Agents without a goal: none, or all. Family B has no clause for them, and at time M family H rules out nothing. */
 static int idle = 0;
-static int32_t words[WORDS + 2 * H], encoded[VARIABLES];
+static uint64_t rule = 1;
+static int32_t words[CLOSING_WORDS + 2 * H], encoded[VARIABLES];
 
 /* The path, and the same without its middle edge. */
 enum { PATH, CUT };
 static uint8_t paths[2][4 + 2 * PATH_E + 2 * K];
 static const size_t path_lengths[2] = {4 + 2 * PATH_E + 2 * K, 4 + 2 * (PATH_E - 1) + 2 * K};
 
-/* Two plans and their valuations. PASSES: every vertex is one step from every other, so all agents go to their goals in
- * the first step and wait there. SWAPS: the last two go to each other's goal and exchange places in the last step. */
-enum { PASSES, SWAPS };
-static uint8_t plans[2][PLAN];
-static int32_t valuations[2][VARIABLES];
+/* Plans and their valuations. PASSES: every vertex is one step from every other, so all agents go to their goals in the
+ * first step and wait there. SWAPS: the last two go to each other's goal and exchange places in the last step. TURNS, for
+ * rule 2: they go to the goal of the next and turn in a ring, each to where another was. */
+enum { PASSES, SWAPS, TURNS, PLANS };
+static uint8_t plans[PLANS][PLAN];
+static int32_t valuations[PLANS][VARIABLES];
 
 /* Texts of the valuation of PASSES: v lines of at most 78 bytes, after an s line. ENDS_WRONG: a wrong line follows.
  * SAYS_UNKNOWN: the s line is another, and comes last. LACKS: without the last variable. LONGEST: empty lines make it as
@@ -130,10 +136,11 @@ static void fill(void) {
         for (int t = 0; t < ROWS; t++) {
             plans[PASSES][t * K + a] = (uint8_t)(t == 0 ? a : N - 1 - a);
             plans[SWAPS][t * K + a] = (uint8_t)(t == 0 ? a : t < M ? N - 1 - other : N - 1 - a);
+            plans[TURNS][t * K + a] = (uint8_t)(t == 0 ? a : N - 1 - (a + t) % K);
         }
     }
     /* Variable i + 1 is that of agent i / N / ROWS at time i / N % ROWS. */
-    for (int p = 0; p < 2; p++)
+    for (int p = 0; p < PLANS; p++)
         for (int i = 0; i < VARIABLES; i++) {
             int at = plans[p][i / N % ROWS * K + i / N / ROWS];
             valuations[p][i] = at == i % N ? i + 1 : -(i + 1);
@@ -157,34 +164,34 @@ typedef struct {
 } run;
 
 static runglaet_size make(const run *r) {
-    const uint8_t *plan = plans[r->chosen == SWAPS];
-    const int32_t *entries = valuations[r->chosen == SWAPS];
+    const uint8_t *plan = plans[r->chosen < PLANS ? r->chosen : PASSES];
+    const int32_t *entries = valuations[r->chosen < PLANS ? r->chosen : PASSES];
     runglaet_answer answer = {0, 0};
     switch (r->which) {
-    case WRITER: answer = runglaet_write_formula(instance, sizeof instance, r->horizon, words, r->length); break;
+    case WRITER: answer = runglaet_write_formula(instance, sizeof instance, r->horizon, rule, words, r->length); break;
     case CLAUSE:
-        answer = runglaet_clause(instance, sizeof instance, r->horizon, r->chosen, words, r->length);
+        answer = runglaet_clause(instance, sizeof instance, r->horizon, rule, r->chosen, words, r->length);
         break;
-    case CHECK: answer = runglaet_check_plan(instance, sizeof instance, r->horizon, plan, r->length); break;
+    case CHECK: answer = runglaet_check_plan(instance, sizeof instance, r->horizon, rule, plan, r->length); break;
     case DECODER:
-        answer = runglaet_decode(instance, sizeof instance, r->horizon, entries, VARIABLES, decoded, r->length);
+        answer = runglaet_decode(instance, sizeof instance, r->horizon, rule, entries, VARIABLES, decoded, r->length);
         break;
     case ENCODER:
-        answer = runglaet_encode(instance, sizeof instance, r->horizon, plan, PLAN, encoded, r->length);
+        answer = runglaet_encode(instance, sizeof instance, r->horizon, rule, plan, PLAN, encoded, r->length);
         break;
     case READER:
-        answer = runglaet_read_valuation(instance, sizeof instance, r->horizon, (const uint8_t *)texts[r->chosen],
+        answer = runglaet_read_valuation(instance, sizeof instance, r->horizon, rule, (const uint8_t *)texts[r->chosen],
                                          lengths[r->chosen], encoded, r->length);
         break;
     case FLOOR: answer = runglaet_floor(instance, sizeof instance); break;
-    case PRUNED: answer = runglaet_write_pruned(instance, sizeof instance, r->horizon, words, r->length); break;
+    case PRUNED: answer = runglaet_write_pruned(instance, sizeof instance, r->horizon, rule, words, r->length); break;
     case PATH_FLOOR: answer = runglaet_floor(paths[r->chosen], path_lengths[r->chosen]); break;
     case PATH_PRUNED:
-        answer = runglaet_write_pruned(paths[r->chosen], path_lengths[r->chosen], r->horizon, words, r->length);
+        answer = runglaet_write_pruned(paths[r->chosen], path_lengths[r->chosen], r->horizon, rule, words, r->length);
         break;
-    case FORMULA_SIZE: return runglaet_formula_size(instance, sizeof instance, r->horizon);
-    case PRUNED_SIZE: return runglaet_pruned_size(instance, sizeof instance, r->horizon);
-    case PATH_SIZE: return runglaet_pruned_size(paths[r->chosen], path_lengths[r->chosen], r->horizon);
+    case FORMULA_SIZE: return runglaet_formula_size(instance, sizeof instance, r->horizon, rule);
+    case PRUNED_SIZE: return runglaet_pruned_size(instance, sizeof instance, r->horizon, rule);
+    case PATH_SIZE: return runglaet_pruned_size(paths[r->chosen], path_lengths[r->chosen], r->horizon, rule);
     }
     return (runglaet_size){answer.number, answer.second, 0};
 }
@@ -228,8 +235,9 @@ static size_t used(const run *r, unsigned char paint) {
         pthread_create(&thread, &attributes, measure, &m) != 0 || pthread_join(thread, NULL) != 0)
         stop("no thread with a stack of its own");
     pthread_attr_destroy(&attributes);
-    uint64_t clauses = r->which == FORMULA_SIZE  ? CLAUSES - idle
-                       : r->which == PRUNED_SIZE ? CLAUSES - idle + (idle ? H / 2 : H)
+    uint64_t all = rule == 1 ? CLAUSES - idle : CLOSING_CLAUSES;
+    uint64_t clauses = r->which == FORMULA_SIZE  ? all
+                       : r->which == PRUNED_SIZE ? all + (idle ? H / 2 : H)
                        : r->which == PATH_SIZE   ? CLAUSES + PATH_H
                                                  : 0;
     if (r->number != 0) clauses = 0;
@@ -352,6 +360,33 @@ int main(void) {
         {PRUNED, "pruned writer, all agents free", M, 0, FREE_WORDS + H, 0, 0},
     };
     measure_all(free_runs, sizeof free_runs / sizeof *free_runs, most);
+    for (int a = 0; a < K; a++) instance[goals + a] = (uint8_t)(N - 1 - a);
+    idle = 0;
+    rule = 2;
+    const run closing_runs[] = {
+        {FORMULA_SIZE, "formula size, rule 2", M, 0, 0, 0, CLOSING_WORDS},
+        {WRITER, "writer, rule 2", M, 0, CLOSING_WORDS, 0, 0},
+        {WRITER, "writer, rule 2, slice too short", M, 0, CLOSING_WORDS - 1, 12, CLOSING_WORDS},
+        {CLAUSE, "clause of family F, rule 2", M, A + B + C + D + EE + F - 1, WORDS, 0, N + 2},
+        {CLAUSE, "clause of family G, rule 2", M, CLOSING_CLAUSES - 1, WORDS, 0, 5},
+        {CLAUSE, "clause, rule 2, no such number", M, CLOSING_CLAUSES, WORDS, 11, CLOSING_CLAUSES},
+        {CHECK, "plan check, rule 2, a ring turns", M, TURNS, PLAN, 0, M * K},
+        {CHECK, "plan check, rule 2, exchange in the last step", M, SWAPS, PLAN, 25, M * K + K - 2},
+        {DECODER, "decoder, rule 2, a ring turns", M, TURNS, PLAN, 0, PLAN},
+        {DECODER, "decoder, rule 2, clause of family G", M, SWAPS, PLAN, 24, CLOSING_SWAPPED},
+        {ENCODER, "encoder, rule 2, a ring turns", M, TURNS, VARIABLES, 0, VARIABLES},
+        {ENCODER, "encoder, rule 2, exchange in the last step", M, SWAPS, VARIABLES, 25, M * K + K - 2},
+        {READER, "reader, rule 2", M, RIGHT, VARIABLES, 0, VARIABLES},
+        {PRUNED_SIZE, "pruned size, rule 2", M, 0, 0, 0, CLOSING_WORDS + 2 * H},
+        {PRUNED, "pruned writer, rule 2", M, 0, CLOSING_WORDS + 2 * H, 0, 0},
+    };
+    measure_all(closing_runs, sizeof closing_runs / sizeof *closing_runs, most);
+    rule = 3;
+    const run refused_runs[] = {
+        {FORMULA_SIZE, "formula size, rule 3", M, 0, 0, 31, 0},
+        {DECODER, "decoder, rule 3", M, PASSES, PLAN, 31, 0},
+    };
+    measure_all(refused_runs, sizeof refused_runs / sizeof *refused_runs, most);
     static const char *const calls[3] = {"", "reader ", "pruned writer and size "};
     static const size_t promised[3] = {PROMISED, READER_PROMISED, PRUNED_PROMISED};
     int failed = 0;

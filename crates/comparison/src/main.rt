@@ -1,4 +1,4 @@
-// Runs the ten calls on cases made elsewhere, at most a million of them. A case: the kind of call (1 byte: 1 the formula writer,
+// Runs the ten calls on cases made elsewhere, at most two million of them. A case: the kind of call (1 byte: 1 the formula writer,
 // 2 one clause, 3 the plan check, 4 the decoder, 5 the encoder, 6 the reader, 7 the floor, 8 the pruned writer, 9 the formula's size,
 // 10 the pruned formula's size), the horizon, the rule and the clause number (8 bytes each), the instance's length (2 bytes), the payload's
 // length in bytes and the lent slice's length in elements (4 bytes each), low bytes first; then the instance, then the payload: a
@@ -79,7 +79,7 @@ fn left_after(input: &mut [u8], words: &mut [i32], plan: &mut [u8], left: usize)
 fn run(input: &mut [u8], words: &mut [i32], plan: &mut [u8])
     requires { ⌜ (35 ≤ length (now input)) × (40000 ≤ length (now words)) ⌝ }
 {
-    let mut left: usize = 1000000;
+    let mut left: usize = 2000000;
     while 0 < left {
         left = left_after(input, words, plan, left);
     }

@@ -7,11 +7,11 @@ use variables::Variable;
 use variables::Vertex;
 ghost use mathlib.Core.Path.{_≡_};
 ghost use mathlib.Core.List.{[], _∷_};
-ghost use Prim.Native.Nat.{ℕ, _+_, _*_, _^_, _≤_, _<_};
+ghost use Prim.Native.Nat.{ℕ, suc, _+_, _*_, _^_, _≤_, _<_};
 ghost use lib.ListN.{length, getD};
 ghost use Rattle.lists.specs.Loop.{for, each};
 ghost use Rattle.lists.specs.Slice.{Wrote};
-ghost use Rattle.formula.specs.Variables.{X, highest};
+ghost use Rattle.formula.specs.Variables.{X, ¬X, highest};
 ghost use Rattle.bits.specs.Bits.{set?};
 ghost use Rattle.formula.specs.Formula.{line, noTwo, blockB, blockD, blockE, blockF, noFollowing, noExchange};
 ghost use Rattle.formula.specs.Blocks.{times, blocksAt, noExchangeFrom, blockG, heldIn, block, family};
@@ -182,7 +182,33 @@ fn write_following(f: &mut [i32], s: Sizes, t: Step, a: Agent) -> usize
     at
 }
 
-// Of G under rule 2, time t and agent a: with no other agent it exchanges u and v.
+// Of G under rule 2, time t and agent b: the clause that begins with x and y, which say that another agent does not go from u to v.
+fn put_partner(
+    f: &mut [i32],
+    s: Sizes,
+    t: Step,
+    u: Vertex,
+    v: Vertex,
+    x: i32,
+    y: i32,
+    b: usize,
+) -> usize
+    requires { ⌜ Limits s ⌝ }
+    requires { ⌜ (t .0 < s .m) × (u .0 < s .n) × (v .0 < s .n) × (b < s .k) × (5 ≤ length (now f)) ⌝ }
+    ensures { λ r. ⌜ Wrote (line (x ∷ y ∷ ¬X s (t .0) b (v .0) ∷ ¬X s (suc (t .0)) b (u .0) ∷ [])) (now (f .entry)) (now (f .exit)) r ⌝ }
+{
+    let next = Step(t.0 + 1);
+    clauses::put_four(
+        f,
+        x,
+        y,
+        clauses::negative(s, t, Agent(b), v),
+        clauses::negative(s, next, Agent(b), u),
+    )
+}
+
+// Of G under rule 2, time t and agent a: with no other agent it exchanges u and v. Those below it and those above it have loops of their
+// own, without a test.
 fn write_exchanges(f: &mut [i32], s: Sizes, t: Step, u: Vertex, v: Vertex, a: Agent) -> usize
     requires { ⌜ Limits s ⌝ }
     requires { ⌜ (t .0 < s .m) × (u .0 < s .n) × (v .0 < s .n) × (a .0 < s .k) ⌝ }
@@ -193,17 +219,14 @@ fn write_exchanges(f: &mut [i32], s: Sizes, t: Step, u: Vertex, v: Vertex, a: Ag
     let next = Step(t.0 + 1);
     let x = clauses::negative(s, t, a, u);
     let y = clauses::negative(s, next, a, v);
+    let below = a.0;
     let mut at: usize = 0;
-    for b in 0..k {
-        if a.0 != b {
-            at += clauses::put_four(
-                &mut f[at..],
-                x,
-                y,
-                clauses::negative(s, t, Agent(b), v),
-                clauses::negative(s, next, Agent(b), u),
-            );
-        }
+    for b in 0..below {
+        at += put_partner(&mut f[at..], s, t, u, v, x, y, b);
+    }
+    let above = below + 1;
+    for b in above..k {
+        at += put_partner(&mut f[at..], s, t, u, v, x, y, b);
     }
     at
 }

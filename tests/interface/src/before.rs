@@ -1,12 +1,13 @@
-//! The library beside an earlier one. Both export the same names, so this program is linked with each of them, and the
-//! two run in turn. Where an agent of an instance is free and the earlier library, from before S-9, takes no such agents,
-//! it gets the same instance with goals for all, and the clauses of these goals are left out of what is compared.
+//! The library beside an earlier one, under rule 1. Both export the same names, so this program is linked with each of
+//! them, and the two run in turn. A library from before S-10 takes no rule, and is called as it was then.
 
-use crate::{inputs, time, times_within, Input, Table};
+use crate::clock::{time, times_within, Table};
+use crate::earlier;
+use crate::inputs::{inputs, Input};
 use independent::output::output;
-use independent::NO_GOAL;
 use interface as library;
 use interface::input::Parts;
+use runglaet::{Answer, Size};
 use std::fmt::Debug;
 use std::hash::{DefaultHasher, Hash, Hasher};
 use std::hint::black_box;
@@ -14,23 +15,21 @@ use std::path::Path;
 use std::process::{exit, Command, Stdio};
 use std::time::Duration;
 
-/// The largest instance with every second agent free; the first has a goal.
-const FREED: &str = "freed";
-const FREED_CALLS: [&str; 5] = ["writer", "plan check", "decoder", "encoder", "one clause B"];
-
 /// The most that a call may take of its time with the earlier library. A call that is not here has no target; each
-/// landing sets its own, and S-9 has these.
-const TARGETS: [(&str, &str, f64); 10] = [
+/// landing sets its own. S-10 has these: the rule must not cost those that keep to rule 1.
+const TARGETS: [(&str, &str, f64); 12] = [
     ("writer", "largest", 1.0),
-    ("writer", FREED, 1.0),
+    ("instance check", "largest", 1.0),
     ("plan check", "largest", 1.0),
-    ("plan check", FREED, 1.0),
     ("decoder", "largest", 1.0),
-    ("decoder", FREED, 1.0),
     ("encoder", "largest", 1.0),
-    ("encoder", FREED, 1.0),
-    ("one clause B", "largest", 1.0),
-    ("one clause B", FREED, 1.0),
+    ("reader", "largest", 1.0),
+    ("one clause D", "largest", 1.0),
+    ("one clause F", "largest", 1.0),
+    ("one clause G", "largest", 1.0),
+    ("pruned writer", "largest", 1.0),
+    ("formula size", "largest", 1.0),
+    ("pruned size", "largest", 1.0),
 ];
 
 /// Each program runs so often for a call, and samples it for so long at least.
@@ -52,48 +51,74 @@ const CALLS: [(&str, Print); 13] = [
     ("decoder", decoder),
     ("encoder", encoder),
     ("reader", reader),
-    ("one clause B", clause_b),
     ("one clause D", clause_d),
     ("one clause F", clause_f),
+    ("one clause G", clause_g),
     ("floor", floor),
     ("pruned writer", pruned_writer),
     ("formula size", formula_size),
     ("pruned size", pruned_size),
 ];
 
-/// The input that a call gets; the agents that got a goal although they are free, since the library takes no free ones;
-/// and whether the call is timed.
+/// The calls of the library that this program is linked with, under rule 1.
+struct Calls {
+    write_formula: fn(&[u8], u64, &mut [i32]) -> Answer,
+    clause: fn(&[u8], u64, u64, &mut [i32]) -> Answer,
+    check_plan: fn(&[u8], u64, &[u8]) -> Answer,
+    decode: fn(&[u8], u64, &[i32], &mut [u8]) -> Answer,
+    encode: fn(&[u8], u64, &[u8], &mut [i32]) -> Answer,
+    read_valuation: fn(&[u8], u64, &[u8], &mut [i32]) -> Answer,
+    write_pruned: fn(&[u8], u64, &mut [i32]) -> Answer,
+    formula_size: fn(&[u8], u64) -> Size,
+    pruned_size: fn(&[u8], u64) -> Size,
+}
+
+const WITH_RULE: Calls = Calls {
+    write_formula: |instance, m, words| library::write_formula(instance, m, 1, words),
+    clause: |instance, m, number, words| library::clause(instance, m, 1, number, words),
+    check_plan: |instance, m, plan| library::check_plan(instance, m, 1, plan),
+    decode: |instance, m, entries, plan| library::decode(instance, m, 1, entries, plan),
+    encode: |instance, m, plan, entries| library::encode(instance, m, 1, plan, entries),
+    read_valuation: |instance, m, text, entries| {
+        library::read_valuation(instance, m, 1, text, entries)
+    },
+    write_pruned: |instance, m, words| library::write_pruned(instance, m, 1, words),
+    formula_size: |instance, m| library::formula_size(instance, m, 1),
+    pruned_size: |instance, m| library::pruned_size(instance, m, 1),
+};
+
+const WITHOUT_RULE: Calls = Calls {
+    write_formula: earlier::write_formula,
+    clause: earlier::clause,
+    check_plan: earlier::check_plan,
+    decode: earlier::decode,
+    encode: earlier::encode,
+    read_valuation: earlier::read_valuation,
+    write_pruned: earlier::write_pruned,
+    formula_size: earlier::formula_size,
+    pruned_size: earlier::pruned_size,
+};
+
+/// A library from before S-10 does not look at the register that holds the rule, the last argument of this call, and so
+/// does not refuse 3.
+fn linked() -> Calls {
+    let pair = [2, 1, 1, 0, 0, 1, 0, 1];
+    match library::formula_size(&pair, 1, 3).number {
+        31 => WITH_RULE,
+        _ => WITHOUT_RULE,
+    }
+}
+
+/// The input that a call gets, how the library is called, and whether the call is timed.
 struct Row {
     input: Input,
-    given: Vec<usize>,
+    calls: Calls,
     timed: bool,
 }
 
 impl Row {
     /// Prints the best time of the call, or else its answer and a sum over what it leaves in the slice.
-    fn print<T: Hash, A: Debug>(&self, lent: Vec<T>, call: impl Fn(&mut [T]) -> A) {
-        self.print_as(lent, call, |left| left);
-    }
-
-    /// The same, of a slice that holds the words of a formula, without the clauses of given goals.
-    fn print_words<A: Debug>(&self, lent: Vec<i32>, call: impl Fn(&mut [i32]) -> A) {
-        // A has 2 words for each agent, and so has B.
-        let k = usize::from(self.input.instance[1]);
-        self.print_as(lent, call, |mut words| {
-            for a in self.given.iter().rev() {
-                words.drain(2 * (k + a)..2 * (k + a) + 2);
-            }
-            words
-        });
-    }
-
-    /// The same, of a slice whose content is compared as `compared` gives it.
-    fn print_as<T: Hash, A: Debug>(
-        &self,
-        mut lent: Vec<T>,
-        call: impl Fn(&mut [T]) -> A,
-        compared: impl Fn(Vec<T>) -> Vec<T>,
-    ) {
+    fn print<T: Hash, A: Debug>(&self, mut lent: Vec<T>, call: impl Fn(&mut [T]) -> A) {
         if self.timed {
             let [best] = times_within(CALL_TIME, |_| {
                 black_box(call(&mut lent));
@@ -102,7 +127,7 @@ impl Row {
         } else {
             let answer = call(&mut lent);
             let mut sum = DefaultHasher::new();
-            compared(lent).hash(&mut sum);
+            lent.hash(&mut sum);
             println!("{answer:?}, sum {:016x}", sum.finish());
         }
     }
@@ -111,92 +136,68 @@ impl Row {
 /// What a program that is asked for a call does: it prints a line, or one for each clause.
 pub fn print_call(timed: bool, call: &str, instance: &str) {
     let (_, print) = CALLS.iter().find(|known| known.0 == call).expect("a call");
-    let name = if instance == FREED {
-        "largest"
-    } else {
-        instance
-    };
     let mut inputs = inputs().into_iter();
-    let input = inputs.find(|input| input.name == name);
-    let mut input = input.expect("an instance");
-    let mut given = Vec::new();
-    if instance == FREED {
-        let mut parts = Parts::of(&input.instance);
-        let freed = (1..parts.k()).step_by(2);
-        freed.clone().for_each(|a| parts.goals[a] = NO_GOAL);
-        match library::floor(&parts.bytes()).number {
-            9 => given = freed.collect(),
-            _ => input.instance = parts.bytes(),
-        }
-    }
+    let input = inputs.find(|input| input.name == instance);
     print(&Row {
-        input,
-        given,
+        input: input.expect("an instance"),
+        calls: linked(),
         timed,
     });
 }
 
 fn writer(row: &Row) {
-    let (instance, m) = (&row.input.instance[..], row.input.m);
-    let needed = independent::formula_size(instance, m).second;
-    row.print_words(vec![1; needed as usize], |words| {
-        library::write_formula(black_box(instance), m, words)
+    let (instance, m, rule) = row.input.given();
+    let needed = independent::formula_size(instance, m, rule).second;
+    row.print(vec![1; needed as usize], |words| {
+        (row.calls.write_formula)(black_box(instance), m, words)
     });
 }
 
 /// By a plan check, refused by 13.
 fn instance_check(row: &Row) {
-    let (instance, m) = (&row.input.instance[..], row.input.m);
+    let (instance, m, _) = row.input.given();
     row.print::<u8, _>(Vec::new(), |_| {
-        library::check_plan(black_box(instance), m, black_box(&[]))
+        (row.calls.check_plan)(black_box(instance), m, black_box(&[]))
     });
 }
 
 fn plan_check(row: &Row) {
-    let (instance, m, plan) = (&row.input.instance[..], row.input.m, &row.input.plan[..]);
+    let (instance, m, _) = row.input.given();
     row.print::<u8, _>(Vec::new(), |_| {
-        library::check_plan(black_box(instance), m, black_box(plan))
+        (row.calls.check_plan)(black_box(instance), m, black_box(&row.input.plan))
     });
 }
 
 fn decoder(row: &Row) {
-    let (instance, m, plan) = (&row.input.instance[..], row.input.m, &row.input.plan[..]);
+    let (instance, m, _) = row.input.given();
     let entries = row.input.valuation();
-    row.print(vec![200; plan.len()], |plan| {
-        library::decode(black_box(instance), m, black_box(&entries), plan)
+    row.print(vec![200; row.input.plan.len()], |plan| {
+        (row.calls.decode)(black_box(instance), m, black_box(&entries), plan)
     });
 }
 
 fn encoder(row: &Row) {
-    let (instance, m, plan) = (&row.input.instance[..], row.input.m, &row.input.plan[..]);
+    let (instance, m, _) = row.input.given();
+    let plan = &row.input.plan[..];
     row.print(vec![0; usize::from(instance[0]) * plan.len()], |entries| {
-        library::encode(black_box(instance), m, black_box(plan), entries)
+        (row.calls.encode)(black_box(instance), m, black_box(plan), entries)
     });
 }
 
 fn reader(row: &Row) {
-    let (instance, m) = (&row.input.instance[..], row.input.m);
+    let (instance, m, _) = row.input.given();
     let entries = row.input.valuation();
     let text = output(&entries, 78);
     row.print(vec![0; entries.len()], |entries| {
-        library::read_valuation(black_box(instance), m, black_box(&text), entries)
+        (row.calls.read_valuation)(black_box(instance), m, black_box(&text), entries)
     });
-}
-
-/// The last clause of family B, but for those of given goals.
-fn clause_b(row: &Row) {
-    let parts = Parts::of(&row.input.instance);
-    let place = parts.bound().iter().rposition(|a| !row.given.contains(a));
-    print_clauses(row, &[(parts.k() + place.expect("a goal")) as u64]);
 }
 
 /// The first, the middle and the last pair of the last block of family D, a line for each; one where there is one pair.
 fn clause_d(row: &Row) {
-    let parts = Parts::of(&row.input.instance);
-    let counts = parts.clause_counts(row.input.m as usize);
-    let n = parts.n as u64;
+    let n = u64::from(row.input.instance[0]);
     let pairs = n * (n - 1) / 2;
-    let first = counts[..4].iter().sum::<u64>() - pairs;
+    let first = first_of(row, 4) - pairs;
     let mut numbers = vec![first, first + pairs / 2, first + pairs - 1];
     numbers.dedup();
     print_clauses(row, &numbers);
@@ -204,16 +205,28 @@ fn clause_d(row: &Row) {
 
 /// The middle and the last clause of family F, a line for each.
 fn clause_f(row: &Row) {
-    let counts = Parts::of(&row.input.instance).clause_counts(row.input.m as usize);
-    let first: u64 = counts[..5].iter().sum();
-    print_clauses(row, &[first + counts[5] / 2, first + counts[5] - 1]);
+    let (first, end) = (first_of(row, 5), first_of(row, 6));
+    print_clauses(row, &[(first + end) / 2, end - 1]);
+}
+
+/// The same of family G; of a single agent it has none, and 11 is the answer.
+fn clause_g(row: &Row) {
+    let (first, end) = (first_of(row, 6), first_of(row, 7));
+    print_clauses(row, &[(first + end) / 2, end.max(first + 1) - 1]);
+}
+
+/// The number of the first clause behind the first families.
+fn first_of(row: &Row, families: usize) -> u64 {
+    let (instance, m, rule) = row.input.given();
+    let counts = Parts::of(instance).clause_counts(m as usize, rule);
+    counts[..families].iter().sum()
 }
 
 fn print_clauses(row: &Row, numbers: &[u64]) {
-    let (instance, m) = (&row.input.instance[..], row.input.m);
+    let (instance, m, _) = row.input.given();
     for &number in numbers {
         row.print(vec![1; 66], |words| {
-            library::clause(black_box(instance), m, black_box(number), words)
+            (row.calls.clause)(black_box(instance), m, black_box(number), words)
         });
     }
 }
@@ -224,23 +237,23 @@ fn floor(row: &Row) {
 }
 
 fn pruned_writer(row: &Row) {
-    let (instance, m) = (&row.input.instance[..], row.input.m);
-    let needed = independent::pruned_size(instance, m).second;
-    row.print_words(vec![1; needed as usize], |words| {
-        library::write_pruned(black_box(instance), m, words)
+    let (instance, m, rule) = row.input.given();
+    let needed = independent::pruned_size(instance, m, rule).second;
+    row.print(vec![1; needed as usize], |words| {
+        (row.calls.write_pruned)(black_box(instance), m, words)
     });
 }
 
 fn formula_size(row: &Row) {
-    print_size(row, library::formula_size);
+    print_size(row, row.calls.formula_size);
 }
 
 fn pruned_size(row: &Row) {
-    print_size(row, library::pruned_size);
+    print_size(row, row.calls.pruned_size);
 }
 
-fn print_size(row: &Row, call: fn(&[u8], u64) -> library::Size) {
-    let (instance, m) = (&row.input.instance[..], row.input.m);
+fn print_size(row: &Row, call: fn(&[u8], u64) -> Size) {
+    let (instance, m, _) = row.input.given();
     row.print::<u8, _>(Vec::new(), |_| call(black_box(instance), m));
 }
 
@@ -263,16 +276,10 @@ fn seen(program: &Path, asked: &str, call: &str, instance: &str) -> Vec<String> 
 /// A call and the name of an instance.
 type Names = (&'static str, &'static str);
 
-/// Every call with every instance, and some with the one in which agents are free.
+/// Every call with every instance.
 fn rows() -> Vec<Names> {
-    let mut rows = Vec::new();
-    for (call, _) in CALLS {
-        rows.extend(inputs().map(|input| (call, input.name)));
-        if FREED_CALLS.contains(&call) {
-            rows.push((call, FREED));
-        }
-    }
-    rows
+    let of_call = |(call, _)| inputs().map(|input| (call, input.name));
+    CALLS.into_iter().flat_map(of_call).collect()
 }
 
 /// Ends the benchmark if the program with the earlier library gives another answer or leaves other words.
@@ -290,8 +297,8 @@ pub fn agree(now: &Path, before: &Path) {
 /// The second table.
 pub fn compare(now: &Path, before: &Path) {
     println!(
-        "\nThe earlier library gave the same answers and words. In \"{FREED}\", the largest instance, every second \
-         agent is free;\nan earlier library that takes no free agents got all goals. The best of {TURNS} turns:\n"
+        "\nUnder rule 1 the earlier library, called without a rule where it takes none, gave the same answers and \
+         words.\nThe best of {TURNS} turns:\n"
     );
     println!(
         "{:<14} {:<8} {:>9} {:>9} {:>6} {:>6}",

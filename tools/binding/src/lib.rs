@@ -1,4 +1,6 @@
 //! The ten calls of include/runglaet.h, safe to call from Rust. An agent whose goal byte is 255 is free: it has no goal.
+//! A rule is 1 or 2, and any other number is refused with 31: under 1 an agent enters only a vertex that was vacant, under 2
+//! it may follow another in the same step, and no two exchange vertices.
 
 /// The answer of every call but the size calls.
 #[repr(C)]
@@ -22,12 +24,18 @@ pub struct Size {
 }
 
 extern "C" {
-    fn runglaet_formula_size(instance: *const u8, instance_len: usize, horizon: u64) -> Size;
+    fn runglaet_formula_size(
+        instance: *const u8,
+        instance_len: usize,
+        horizon: u64,
+        rule: u64,
+    ) -> Size;
 
     fn runglaet_write_formula(
         instance: *const u8,
         instance_len: usize,
         horizon: u64,
+        rule: u64,
         words: *mut i32,
         words_len: usize,
     ) -> Answer;
@@ -36,6 +44,7 @@ extern "C" {
         instance: *const u8,
         instance_len: usize,
         horizon: u64,
+        rule: u64,
         clause_number: u64,
         words: *mut i32,
         words_len: usize,
@@ -45,6 +54,7 @@ extern "C" {
         instance: *const u8,
         instance_len: usize,
         horizon: u64,
+        rule: u64,
         plan: *const u8,
         plan_len: usize,
     ) -> Answer;
@@ -53,6 +63,7 @@ extern "C" {
         instance: *const u8,
         instance_len: usize,
         horizon: u64,
+        rule: u64,
         entries: *const i32,
         entries_len: usize,
         plan: *mut u8,
@@ -63,6 +74,7 @@ extern "C" {
         instance: *const u8,
         instance_len: usize,
         horizon: u64,
+        rule: u64,
         plan: *const u8,
         plan_len: usize,
         entries: *mut i32,
@@ -73,6 +85,7 @@ extern "C" {
         instance: *const u8,
         instance_len: usize,
         horizon: u64,
+        rule: u64,
         text: *const u8,
         text_len: usize,
         entries: *mut i32,
@@ -81,12 +94,18 @@ extern "C" {
 
     fn runglaet_floor(instance: *const u8, instance_len: usize) -> Answer;
 
-    fn runglaet_pruned_size(instance: *const u8, instance_len: usize, horizon: u64) -> Size;
+    fn runglaet_pruned_size(
+        instance: *const u8,
+        instance_len: usize,
+        horizon: u64,
+        rule: u64,
+    ) -> Size;
 
     fn runglaet_write_pruned(
         instance: *const u8,
         instance_len: usize,
         horizon: u64,
+        rule: u64,
         words: *mut i32,
         words_len: usize,
     ) -> Answer;
@@ -99,17 +118,18 @@ pub const TEXT_MAX: usize = 524_288;
 // no pointer.
 
 /// The size of the formula: its words and its clause count.
-pub fn formula_size(instance: &[u8], horizon: u64) -> Size {
-    unsafe { runglaet_formula_size(instance.as_ptr(), instance.len(), horizon) }
+pub fn formula_size(instance: &[u8], horizon: u64, rule: u64) -> Size {
+    unsafe { runglaet_formula_size(instance.as_ptr(), instance.len(), horizon, rule) }
 }
 
 /// Writes the formula, as many words as [`formula_size`] says.
-pub fn write_formula(instance: &[u8], horizon: u64, words: &mut [i32]) -> Answer {
+pub fn write_formula(instance: &[u8], horizon: u64, rule: u64, words: &mut [i32]) -> Answer {
     unsafe {
         runglaet_write_formula(
             instance.as_ptr(),
             instance.len(),
             horizon,
+            rule,
             words.as_mut_ptr(),
             words.len(),
         )
@@ -117,12 +137,19 @@ pub fn write_formula(instance: &[u8], horizon: u64, words: &mut [i32]) -> Answer
 }
 
 /// Writes one clause and its 0; the count is its words.
-pub fn clause(instance: &[u8], horizon: u64, clause_number: u64, words: &mut [i32]) -> Answer {
+pub fn clause(
+    instance: &[u8],
+    horizon: u64,
+    rule: u64,
+    clause_number: u64,
+    words: &mut [i32],
+) -> Answer {
     unsafe {
         runglaet_clause(
             instance.as_ptr(),
             instance.len(),
             horizon,
+            rule,
             clause_number,
             words.as_mut_ptr(),
             words.len(),
@@ -131,12 +158,13 @@ pub fn clause(instance: &[u8], horizon: u64, clause_number: u64, words: &mut [i3
 }
 
 /// Checks a plan; the count is its cost, the time until rest summed over the agents, free ones too.
-pub fn check_plan(instance: &[u8], horizon: u64, plan: &[u8]) -> Answer {
+pub fn check_plan(instance: &[u8], horizon: u64, rule: u64, plan: &[u8]) -> Answer {
     unsafe {
         runglaet_check_plan(
             instance.as_ptr(),
             instance.len(),
             horizon,
+            rule,
             plan.as_ptr(),
             plan.len(),
         )
@@ -144,12 +172,19 @@ pub fn check_plan(instance: &[u8], horizon: u64, plan: &[u8]) -> Answer {
 }
 
 /// Writes the plan that a valuation names; the count is its bytes.
-pub fn decode(instance: &[u8], horizon: u64, entries: &[i32], plan: &mut [u8]) -> Answer {
+pub fn decode(
+    instance: &[u8],
+    horizon: u64,
+    rule: u64,
+    entries: &[i32],
+    plan: &mut [u8],
+) -> Answer {
     unsafe {
         runglaet_decode(
             instance.as_ptr(),
             instance.len(),
             horizon,
+            rule,
             entries.as_ptr(),
             entries.len(),
             plan.as_mut_ptr(),
@@ -159,12 +194,19 @@ pub fn decode(instance: &[u8], horizon: u64, entries: &[i32], plan: &mut [u8]) -
 }
 
 /// Writes the valuation of a plan; the count is its entries.
-pub fn encode(instance: &[u8], horizon: u64, plan: &[u8], entries: &mut [i32]) -> Answer {
+pub fn encode(
+    instance: &[u8],
+    horizon: u64,
+    rule: u64,
+    plan: &[u8],
+    entries: &mut [i32],
+) -> Answer {
     unsafe {
         runglaet_encode(
             instance.as_ptr(),
             instance.len(),
             horizon,
+            rule,
             plan.as_ptr(),
             plan.len(),
             entries.as_mut_ptr(),
@@ -174,12 +216,19 @@ pub fn encode(instance: &[u8], horizon: u64, plan: &[u8], entries: &mut [i32]) -
 }
 
 /// Writes the valuation that a solver printed; the count is its entries.
-pub fn read_valuation(instance: &[u8], horizon: u64, text: &[u8], entries: &mut [i32]) -> Answer {
+pub fn read_valuation(
+    instance: &[u8],
+    horizon: u64,
+    rule: u64,
+    text: &[u8],
+    entries: &mut [i32],
+) -> Answer {
     unsafe {
         runglaet_read_valuation(
             instance.as_ptr(),
             instance.len(),
             horizon,
+            rule,
             text.as_ptr(),
             text.len(),
             entries.as_mut_ptr(),
@@ -195,17 +244,18 @@ pub fn floor(instance: &[u8]) -> Answer {
 }
 
 /// The size of the pruned formula: the formula and after it family H, what the distances rule out.
-pub fn pruned_size(instance: &[u8], horizon: u64) -> Size {
-    unsafe { runglaet_pruned_size(instance.as_ptr(), instance.len(), horizon) }
+pub fn pruned_size(instance: &[u8], horizon: u64, rule: u64) -> Size {
+    unsafe { runglaet_pruned_size(instance.as_ptr(), instance.len(), horizon, rule) }
 }
 
 /// Writes the pruned formula, as many words as [`pruned_size`] says.
-pub fn write_pruned(instance: &[u8], horizon: u64, words: &mut [i32]) -> Answer {
+pub fn write_pruned(instance: &[u8], horizon: u64, rule: u64, words: &mut [i32]) -> Answer {
     unsafe {
         runglaet_write_pruned(
             instance.as_ptr(),
             instance.len(),
             horizon,
+            rule,
             words.as_mut_ptr(),
             words.len(),
         )

@@ -2,6 +2,7 @@
 
 use crate::horizon::Horizon;
 use crate::map::Map;
+use crate::rule::Rule;
 
 /// X(t,a,v): agent a is at vertex v at time t.
 #[derive(Debug, Clone, Copy, PartialEq, Eq)]
@@ -24,9 +25,9 @@ pub fn variable(map: &Map, horizon: &Horizon, number: usize) -> Option<Variable>
 }
 
 /// The family of a clause, in words, and the agents, vertices and times of the clause.
-pub fn told(map: &Map, horizon: &Horizon, number: u64) -> Option<String> {
+pub fn told(map: &Map, horizon: &Horizon, rule: Rule, number: u64) -> Option<String> {
     let mut words = [0; 66];
-    let answer = runglaet::clause(&map.bytes, horizon.value, number, &mut words);
+    let answer = runglaet::clause(&map.bytes, horizon.value, rule.value, number, &mut words);
     if answer.number != 0 {
         return None;
     }
@@ -98,6 +99,18 @@ fn family(map: &Map, number: u64, literals: &[(bool, Variable)]) -> Option<(&'st
                 x.time
             ),
         ),
+        [(false, x), (false, y), (false, z), (false, _)] => (
+            "G (no two agents exchange vertices in one step)",
+            format!(
+                "{} from vertex {} at time {} to vertex {} at time {}, and {} the other way",
+                agent(x),
+                x.vertex,
+                x.time,
+                y.vertex,
+                y.time,
+                agent(z)
+            ),
+        ),
         [(false, x), (true, y), ..] => (
             "F (each agent waits or crosses an edge in each step)",
             format!(
@@ -128,15 +141,18 @@ mod tests {
     use super::*;
     use crate::description;
 
-    /// Every clause of the path with two agents at m 1; what it says is from document 01's table.
-    #[test]
-    fn every_family() {
-        let text = "vertices 3\nedge 0 1\nedge 1 2\nagent 0 1\nagent 1 2";
-        let map = description::map(text).unwrap();
-        let horizon = Horizon::read("1");
-        let told = |number| told(&map, &horizon, number);
+    const PATH: &str = "vertices 3\nedge 0 1\nedge 1 2\nagent 0 1\nagent 1 2";
+
+    /// The path with two agents at m 1.
+    fn path(rule: Rule, number: u64) -> Option<String> {
+        let map = description::map(PATH).unwrap();
+        told(&map, &Horizon::read("1"), rule, number)
+    }
+
+    /// The families of all its clauses; what G has of them, the rule decides.
+    fn families(rule: Rule, last: usize) {
         let families: String = (0..)
-            .map_while(told)
+            .map_while(|number| path(rule, number))
             .map(|text| text.split(' ').nth(4).unwrap().to_string())
             .collect();
         let counts = [
@@ -146,13 +162,20 @@ mod tests {
             ("D", 12),
             ("E", 6),
             ("F", 6),
-            ("G", 6),
+            ("G", last),
         ];
         let expected: String = counts
             .iter()
             .map(|(family, count)| family.repeat(*count))
             .collect();
         assert_eq!(families, expected);
+    }
+
+    /// What each clause says is from document 01's table.
+    #[test]
+    fn every_family() {
+        let told = |number| path(Rule::default(), number);
+        families(Rule::default(), 6);
         for (number, here) in [
             (1, "agent 1 (line 5) at vertex 1 at time 0"),
             (2, "agent 0 (line 4) at vertex 1 at time 1"),
@@ -182,13 +205,33 @@ mod tests {
         }
     }
 
+    /// G by document 02: edge after edge, and for each both orders of the two agents.
+    #[rustfmt::skip] // a line a clause
+    #[test]
+    fn every_family_under_rule_2() {
+        let rule = Rule::read("2");
+        families(rule, 4);
+        for (number, expected) in [
+            (31, "F (each agent waits or crosses an edge in each step), for agent 1 (line 5) from vertex 2 at time 0 to vertex 2 or 1 at time 1"),
+            (32, "G (no two agents exchange vertices in one step), for agent 0 (line 4) from vertex 0 at time 0 to vertex 1 at time 1, and agent 1 (line 5) the other way"),
+            (33, "G (no two agents exchange vertices in one step), for agent 1 (line 5) from vertex 0 at time 0 to vertex 1 at time 1, and agent 0 (line 4) the other way"),
+            (34, "G (no two agents exchange vertices in one step), for agent 0 (line 4) from vertex 1 at time 0 to vertex 2 at time 1, and agent 1 (line 5) the other way"),
+            (35, "G (no two agents exchange vertices in one step), for agent 1 (line 5) from vertex 1 at time 0 to vertex 2 at time 1, and agent 0 (line 4) the other way"),
+        ] {
+            let expected = format!("clause {number} of family {expected}");
+            assert_eq!(path(rule, number), Some(expected));
+        }
+        assert_eq!(path(rule, 36), None);
+        assert_eq!(path(Rule::read("3"), 0), None);
+    }
+
     /// With one vertex, one agent and m 0, families A, B and C have the same clause; without a destination there is no B.
     #[test]
     fn one_vertex() {
         for (goal, families) in [("0", &["A", "B", "C"][..]), ("-", &["A", "C"])] {
             let map = description::map(&format!("vertices 1\nagent 0 {goal}")).unwrap();
             let told: Vec<String> = (0..)
-                .map_while(|number| told(&map, &Horizon::read("0"), number))
+                .map_while(|number| told(&map, &Horizon::read("0"), Rule::default(), number))
                 .map(|text| text[..20].to_string())
                 .collect();
             let expected: Vec<String> = (0..)
@@ -217,8 +260,8 @@ mod tests {
             (72, "G (no agent enters a vertex where another stood as the step began), for agent 2 (line 6) at vertex 2 at time 1, where agent 1 (line 5) is at time 0"),
         ] {
             let expected = format!("clause {number} of family {expected}");
-            assert_eq!(told(&map, &horizon, number), Some(expected));
+            assert_eq!(told(&map, &horizon, Rule::default(), number), Some(expected));
         }
-        assert_eq!(told(&map, &horizon, 73), None);
+        assert_eq!(told(&map, &horizon, Rule::default(), 73), None);
     }
 }

@@ -44,6 +44,7 @@ kinds! {
     Edges: "too many edges in the description, two bytes count to 65535",
     Agents: "too many agents in the description, one byte counts to 255",
 
+    ProgramRule: "the formula program keeps to rule 1, and another was asked for",
     PlanWord: "a word of the plan is not a whole number from 0 to 255",
     RefusalWord: "the number and the place of a refusal must be whole numbers",
 }

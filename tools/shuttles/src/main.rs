@@ -9,6 +9,7 @@ mod map;
 mod places;
 mod refusals;
 mod rows;
+mod rule;
 mod size;
 mod solver_form;
 mod solver_lines;
@@ -20,7 +21,8 @@ use errors::{quoted, Error, Kind};
 use horizon::Horizon;
 use map::Map;
 use places::Subject;
-use runglaet::Answer;
+use rule::Rule;
+use runglaet::{Answer, Size};
 use std::io::{Read, Write};
 use std::process::ExitCode;
 
@@ -29,6 +31,7 @@ shuttles instance DESCRIPTION                  instance bytes of a description, 
 shuttles floor INSTANCE                        how short a plan could be: no plan of a smaller makespan passes
 shuttles size INSTANCE M                       how large the formula is, alone and with family H
 shuttles input INSTANCE M                      what the formula program reads: the byte M, then the instance bytes
+shuttles formula INSTANCE M                    the formula as DIMACS text, to standard output
 shuttles pruned INSTANCE M                     the formula with family H as DIMACS text, to standard output
 shuttles decode INSTANCE M < OUTPUT            the plan that a solver's output names, checked and shown
 shuttles encode INSTANCE M PLAN...             the valuation of a plan, written as a solver writes it
@@ -39,6 +42,10 @@ shuttles refusal NUMBER PLACE [INSTANCE [M]]   plain words for a refusal
 INSTANCE is a file of instance bytes, or a description: a file that is text throughout is a description.
 A PLAN is numbers, row by row: the vertex of each agent at time 0, then at time 1, and so on.
 PLAN - reads the numbers from standard input. `decode --numbers` writes a plan in this form.
+A command that takes M also takes --rule R, the movement rule, which is 1 where it is not given. Under rule 1 an agent
+enters only a vertex on which none stood as the step began. Under rule 2 it may follow another, into a vertex that this
+one leaves in the same step, but no two agents exchange vertices. What is said of rule 2 names it. The formula program
+keeps to rule 1.
 The cost of a plan is the sum of its agents' times until rest: from then on the agent stays where it is. Waiting on the
 way counts.
 An agent without a destination, `agent START -` in a description, may end anywhere. A plan is shown with a line that
@@ -82,23 +89,43 @@ fn main() -> ExitCode {
 }
 
 fn run(words: &[&str]) -> Outcome {
-    match *words {
+    let known = rule::taken(words).and_then(|(words, rule)| match rule {
+        None => without_rule(&words).or_else(|| with_rule(&words, Rule::default())),
+        Some(rule) => with_rule(&words, rule),
+    });
+    known.unwrap_or_else(|| {
+        let details = format!("{}\n{USAGE}", quoted(words.join(" ")));
+        Err(Kind::Usage.with(details))
+    })
+}
+
+/// The commands that no horizon is given.
+fn without_rule(words: &[&str]) -> Option<Outcome> {
+    Some(match *words {
         ["instance", description] => make_instance(description),
         ["floor", instance] => floor(instance),
-        ["size", instance, horizon] => size(instance, horizon),
-        ["input", instance, horizon] => input(instance, horizon),
-        ["pruned", instance, horizon] => pruned(instance, horizon),
-        ["decode", "--numbers", instance, horizon] => decode(instance, horizon, true),
-        ["decode", instance, horizon] => decode(instance, horizon, false),
-        ["encode", instance, horizon, ref plan @ ..] => encode(instance, horizon, plan),
-        ["check", instance, horizon, ref plan @ ..] => check(instance, horizon, plan),
         ["show", instance, ref plan @ ..] => show(instance, plan),
-        ["refusal", number, place, ref subject @ ..] if subject.len() <= 2 => {
-            refusal(number, place, subject)
-        }
         ["help" | "--help" | "-h"] => said(USAGE.to_string(), DONE),
-        _ => Err(Kind::Usage.with(format_args!("{}\n{USAGE}", quoted(words.join(" "))))),
-    }
+        _ => return None,
+    })
+}
+
+/// Those that are given a horizon, and the rule beside it.
+fn with_rule(words: &[&str], rule: Rule) -> Option<Outcome> {
+    Some(match *words {
+        ["size", instance, horizon] => size(instance, horizon, rule),
+        ["input", instance, horizon] => input(instance, horizon, rule),
+        ["formula", instance, horizon] => formula(instance, horizon, rule),
+        ["pruned", instance, horizon] => pruned(instance, horizon, rule),
+        ["decode", "--numbers", instance, horizon] => decode(instance, horizon, rule, true),
+        ["decode", instance, horizon] => decode(instance, horizon, rule, false),
+        ["encode", instance, horizon, ref plan @ ..] => encode(instance, horizon, rule, plan),
+        ["check", instance, horizon, ref plan @ ..] => check(instance, horizon, rule, plan),
+        ["refusal", number, place, ref subject @ ..] if subject.len() <= 2 => {
+            refusal(number, place, subject, rule)
+        }
+        _ => return None,
+    })
 }
 
 fn written(text: &[u8], status: u8) -> Result<u8, Error> {
@@ -137,41 +164,64 @@ fn floor(instance: &str) -> Outcome {
     said(format!("makespan at least {}\n", answer.second), DONE)
 }
 
-fn size(instance: &str, horizon: &str) -> Outcome {
+fn size(instance: &str, horizon: &str, rule: Rule) -> Outcome {
     let (map, horizon) = (map::read(instance)?, Horizon::read(horizon));
-    match size::told(&map, &horizon) {
+    match size::told(&map, &horizon, rule) {
         Ok(text) => said(text, DONE),
-        Err(answer) => refused(answer, about(&map, &horizon)),
+        Err(answer) => refused(answer, about(&map, &horizon, rule)),
     }
 }
 
-fn input(instance: &str, horizon: &str) -> Outcome {
+fn input(instance: &str, horizon: &str, rule: Rule) -> Outcome {
     let (map, horizon) = (map::read(instance)?, Horizon::read(horizon));
-    // The size call asks just what the formula program will ask.
-    if let Err(answer) = size::formula(&map, &horizon) {
-        return refused_aside(answer, about(&map, &horizon));
+    // The size call asks just what the formula program will ask, and of the rule whether it is one.
+    if let Err(answer) = size::formula(&map, &horizon, rule) {
+        return refused_aside(answer, about(&map, &horizon, rule));
+    }
+    if rule.value != rule::FIRST {
+        return Err(Kind::ProgramRule.with("`shuttles formula` writes the formula of either rule"));
     }
     let mut bytes = vec![horizon.value as u8];
     bytes.extend(map.bytes);
     Ok((bytes, DONE))
 }
 
-fn pruned(instance: &str, horizon: &str) -> Outcome {
+fn formula(instance: &str, horizon: &str, rule: Rule) -> Outcome {
     let (map, horizon) = (map::read(instance)?, Horizon::read(horizon));
-    let size = match size::pruned(&map, &horizon) {
+    let size = size::formula(&map, &horizon, rule);
+    formula_text(&map, &horizon, rule, size, runglaet::write_formula)
+}
+
+fn pruned(instance: &str, horizon: &str, rule: Rule) -> Outcome {
+    let (map, horizon) = (map::read(instance)?, Horizon::read(horizon));
+    let size = size::pruned(&map, &horizon, rule);
+    formula_text(&map, &horizon, rule, size, runglaet::write_pruned)
+}
+
+/// The call that writes the formula whose size is known.
+type Writer = fn(&[u8], u64, u64, &mut [i32]) -> Answer;
+
+fn formula_text(
+    map: &Map,
+    horizon: &Horizon,
+    rule: Rule,
+    size: Result<Size, Answer>,
+    write: Writer,
+) -> Outcome {
+    let size = match size {
         Ok(size) => size,
-        Err(answer) => return refused_aside(answer, about(&map, &horizon)),
+        Err(answer) => return refused_aside(answer, about(map, horizon, rule)),
     };
     let mut words = vec![0; size.second as usize];
-    let answer = runglaet::write_pruned(&map.bytes, horizon.value, &mut words);
+    let answer = write(&map.bytes, horizon.value, rule.value, &mut words);
     if answer.number != 0 {
-        return refused_aside(answer, about(&map, &horizon));
+        return refused_aside(answer, about(map, horizon, rule));
     }
-    let text = dimacs::text(map.variables(&horizon), size.clauses, &words);
+    let text = dimacs::text(map.variables(horizon), size.clauses, &words);
     Ok((text, DONE))
 }
 
-fn decode(instance: &str, horizon: &str, numbers: bool) -> Outcome {
+fn decode(instance: &str, horizon: &str, rule: Rule, numbers: bool) -> Outcome {
     let (map, horizon) = (map::read(instance)?, Horizon::read(horizon));
     let given = standard_input()?;
     let (text, note) = solver_form::brought(&given);
@@ -179,47 +229,52 @@ fn decode(instance: &str, horizon: &str, numbers: bool) -> Outcome {
         complain(&note);
     }
     let mut entries = vec![0; map.variables(&horizon)];
-    let answer = runglaet::read_valuation(&map.bytes, horizon.value, &text, &mut entries);
+    let answer =
+        runglaet::read_valuation(&map.bytes, horizon.value, rule.value, &text, &mut entries);
     if answer.number != 0 {
-        return not_read(&map, &horizon, &text, answer);
+        return not_read(&map, &horizon, rule, &text, answer);
     }
     let mut plan = vec![0; map.plan_bytes(&horizon)];
-    let answer = runglaet::decode(&map.bytes, horizon.value, &entries, &mut plan);
+    let answer = runglaet::decode(&map.bytes, horizon.value, rule.value, &entries, &mut plan);
     if answer.number != 0 {
-        return refused(answer, about(&map, &horizon));
+        return refused(answer, about(&map, &horizon, rule));
     }
-    let answer = runglaet::check_plan(&map.bytes, horizon.value, &plan);
+    let answer = runglaet::check_plan(&map.bytes, horizon.value, rule.value, &plan);
     if answer.number != 0 {
-        return refused(answer, about_plan(&map, &horizon, &plan));
+        return refused(answer, about_plan(&map, &horizon, rule, &plan));
     }
     if numbers {
         return said(rows::numbers(&map, &plan), DONE);
     }
-    said(rows::shown(&map, &plan) + &passed(&horizon, answer), DONE)
+    said(
+        rows::shown(&map, &plan) + &passed(&horizon, rule, answer),
+        DONE,
+    )
 }
 
 /// A refused text; that there is no plan is an answer all the same.
-fn not_read(map: &Map, horizon: &Horizon, text: &[u8], answer: Answer) -> Outcome {
+fn not_read(map: &Map, horizon: &Horizon, rule: Rule, text: &[u8], answer: Answer) -> Outcome {
     let place = answer.second as usize;
     if answer.number == refusals::VERDICT && solver_lines::is_unsatisfiable(text, place) {
-        return said(format!("no plan of makespan {}\n", horizon.word), NO_PLAN);
+        let (makespan, rule) = (&horizon.word, rule.told());
+        return said(format!("no plan of makespan {makespan}{rule}\n"), NO_PLAN);
     }
     let text = Some(text);
     refused(
         answer,
         Subject {
             text,
-            ..about(map, horizon)
+            ..about(map, horizon, rule)
         },
     )
 }
 
-fn encode(instance: &str, horizon: &str, plan: &[&str]) -> Outcome {
+fn encode(instance: &str, horizon: &str, rule: Rule, plan: &[&str]) -> Outcome {
     let (map, horizon, plan) = (map::read(instance)?, Horizon::read(horizon), plan_of(plan)?);
     let mut entries = vec![0; map.variables(&horizon)];
-    let answer = runglaet::encode(&map.bytes, horizon.value, &plan, &mut entries);
+    let answer = runglaet::encode(&map.bytes, horizon.value, rule.value, &plan, &mut entries);
     if answer.number != 0 {
-        return refused(answer, about_plan(&map, &horizon, &plan));
+        return refused(answer, about_plan(&map, &horizon, rule, &plan));
     }
     let mut text = "s SATISFIABLE\n".to_string();
     for some in entries.chunks(16) {
@@ -229,13 +284,13 @@ fn encode(instance: &str, horizon: &str, plan: &[&str]) -> Outcome {
     said(text + "v 0\n", DONE)
 }
 
-fn check(instance: &str, horizon: &str, plan: &[&str]) -> Outcome {
+fn check(instance: &str, horizon: &str, rule: Rule, plan: &[&str]) -> Outcome {
     let (map, horizon, plan) = (map::read(instance)?, Horizon::read(horizon), plan_of(plan)?);
-    let answer = runglaet::check_plan(&map.bytes, horizon.value, &plan);
+    let answer = runglaet::check_plan(&map.bytes, horizon.value, rule.value, &plan);
     if answer.number != 0 {
-        return refused(answer, about_plan(&map, &horizon, &plan));
+        return refused(answer, about_plan(&map, &horizon, rule, &plan));
     }
-    said(passed(&horizon, answer), DONE)
+    said(passed(&horizon, rule, answer), DONE)
 }
 
 fn show(instance: &str, plan: &[&str]) -> Outcome {
@@ -243,7 +298,7 @@ fn show(instance: &str, plan: &[&str]) -> Outcome {
     said(rows::shown(&map, &plan), DONE)
 }
 
-fn refusal(number: &str, place: &str, subject: &[&str]) -> Outcome {
+fn refusal(number: &str, place: &str, subject: &[&str], rule: Rule) -> Outcome {
     let answer = Answer {
         number: whole(number)?,
         second: whole(place)?,
@@ -253,23 +308,30 @@ fn refusal(number: &str, place: &str, subject: &[&str]) -> Outcome {
     let subject = Subject {
         map: map.as_ref(),
         horizon: horizon.as_ref(),
+        rule,
         ..Subject::default()
     };
     said(format!("{}\n", refusals::describe(answer, subject)), DONE)
 }
 
-fn about<'a>(map: &'a Map, horizon: &'a Horizon) -> Subject<'a> {
+fn about<'a>(map: &'a Map, horizon: &'a Horizon, rule: Rule<'a>) -> Subject<'a> {
     Subject {
         map: Some(map),
         horizon: Some(horizon),
+        rule,
         ..Subject::default()
     }
 }
 
-fn about_plan<'a>(map: &'a Map, horizon: &'a Horizon, plan: &'a [u8]) -> Subject<'a> {
+fn about_plan<'a>(
+    map: &'a Map,
+    horizon: &'a Horizon,
+    rule: Rule<'a>,
+    plan: &'a [u8],
+) -> Subject<'a> {
     Subject {
         plan: Some(plan),
-        ..about(map, horizon)
+        ..about(map, horizon, rule)
     }
 }
 
@@ -290,11 +352,9 @@ fn said(text: String, status: u8) -> Outcome {
     Ok((text.into_bytes(), status))
 }
 
-fn passed(horizon: &Horizon, answer: Answer) -> String {
-    format!(
-        "plan passes: makespan {}, cost {}\n",
-        horizon.word, answer.second
-    )
+fn passed(horizon: &Horizon, rule: Rule, answer: Answer) -> String {
+    let (rule, makespan, cost) = (rule.told(), &horizon.word, answer.second);
+    format!("plan passes{rule}: makespan {makespan}, cost {cost}\n")
 }
 
 fn standard_input() -> Result<Vec<u8>, Error> {

@@ -4,6 +4,7 @@ use crate::clause;
 use crate::errors::quoted;
 use crate::horizon::Horizon;
 use crate::map::Map;
+use crate::rule::Rule;
 use crate::solver_lines;
 use std::cmp::Ordering;
 
@@ -12,6 +13,7 @@ use std::cmp::Ordering;
 pub struct Subject<'a> {
     pub map: Option<&'a Map>,
     pub horizon: Option<&'a Horizon>,
+    pub rule: Rule<'a>,
     pub plan: Option<&'a [u8]>,
     /// What a solver printed, in the form that the library reads.
     pub text: Option<&'a [u8]>,
@@ -188,10 +190,14 @@ pub fn unreachable(subject: Subject, place: usize) -> Option<String> {
     })
 }
 
-// The horizon, and what is too short or too long
+// The horizon, the rule, and what is too short or too long
 
 pub fn horizon(subject: Subject, _: usize) -> Option<String> {
     Some(format!("{} was given", quoted(&subject.horizon?.word)))
+}
+
+pub fn rule(subject: Subject, _: usize) -> Option<String> {
+    Some(format!("{} was given", quoted(subject.rule.word?)))
 }
 
 pub fn clause_count(_: Subject, clauses: usize) -> Option<String> {
@@ -355,7 +361,7 @@ pub fn entry(subject: Subject, place: usize) -> Option<String> {
 }
 
 pub fn falsified(subject: Subject, place: usize) -> Option<String> {
-    clause::told(subject.map?, subject.horizon?, place as u64)
+    clause::told(subject.map?, subject.horizon?, subject.rule, place as u64)
 }
 
 // The solver's text

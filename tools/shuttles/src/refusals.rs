@@ -39,6 +39,7 @@ pub const REFUSALS: &[(u32, &str, &str, Terms)] = &[
     (28, "the solver's verdict is not SATISFIABLE", "the first byte of the s line", places::verdict),
     (29, "a variable is missing from the solver's text, or is there more than once", "a variable", places::variable_given),
     (30, "an agent's goal cannot be reached from its start by any path", "a byte of the instance", places::unreachable),
+    (31, "the movement rule must be 1 or 2", "always 0", places::rule),
 ];
 
 /// The refusal of a verdict, which may say that there is no plan.
@@ -64,17 +65,23 @@ mod tests {
     use crate::description;
     use crate::horizon::Horizon;
     use crate::map::Map;
+    use crate::rule::Rule;
 
     /// What the plan check says of a plan, behind the refusal's words.
     fn refused(map: &Map, m: &str, plan: &[u8]) -> String {
+        refused_by(Rule::default(), map, m, plan)
+    }
+
+    fn refused_by(rule: Rule, map: &Map, m: &str, plan: &[u8]) -> String {
         let horizon = Horizon::read(m);
         let subject = Subject {
             map: Some(map),
             horizon: Some(&horizon),
+            rule,
             plan: Some(plan),
             ..Subject::default()
         };
-        let answer = runglaet::check_plan(&map.bytes, horizon.value, plan);
+        let answer = runglaet::check_plan(&map.bytes, horizon.value, rule.value, plan);
         let (number, words, _, _) = REFUSALS[answer.number as usize - 1];
         let before = format!("refused {number}: {words}: ");
         let line = describe(answer, subject);
@@ -152,6 +159,28 @@ mod tests {
         }
     }
 
+    /// Under rule 2: no 20 and no 26, and of several that exchange the lowest is named.
+    #[rustfmt::skip] // a line a refusal
+    #[test]
+    fn plans_under_rule_2() {
+        let map = description::map("grid 1 5\nagent 1 3\nagent 0 0\nagent 2 2\nagent 3 4").unwrap();
+        for (rule, m, plan, expected) in [
+            ("3", "1", &[][..], "31: \"3\" was given (place 0)"),
+            ("02", "1", &[], "31: \"02\" was given (place 0)"),
+            ("3", "33", &[], "10: \"33\" was given (place 0)"),
+            ("2", "1", &[1, 0, 2, 3, 0, 0, 2, 3], "21: agent 1 (line 3) at time 1: at vertex 0, and so is agent 0 (line 2) (place 5)"),
+            ("2", "1", &[1, 0, 2, 3, 2, 0, 1, 3], "25: agent 0 (line 2) at time 1: from vertex 1 to vertex 2, which agent 2 (line 4) leaves for vertex 1 (place 4)"),
+            ("2", "1", &[1, 0, 2, 3, 0, 1, 3, 2], "25: agent 0 (line 2) at time 1: from vertex 1 to vertex 0, which agent 1 (line 3) leaves for vertex 1 (place 4)"),
+            ("2", "1", &[1, 0, 2, 3, 0, 0, 3, 2], "25: agent 2 (line 4) at time 1: from vertex 2 to vertex 3, which agent 3 (line 5) leaves for vertex 2 (place 6)"),
+            ("1", "1", &[1, 0, 2, 3, 0, 0, 3, 2], "20: agent 0 (line 2) at time 1: from vertex 1 to vertex 0, where agent 1 (line 3) stays (place 4)"),
+            ("2", "2", &[1, 0, 2, 3, 1, 0, 2, 3, 1, 0, 3, 2], "25: agent 2 (line 4) at time 2: from vertex 2 to vertex 3, which agent 3 (line 5) leaves for vertex 2 (place 10)"),
+            ("2", "1", &[1, 0, 2, 3, 2, 0, 3, 4], "22: agent 0 (line 2) at time 1: at vertex 2, its goal is vertex 3 (place 4)"),
+            ("1", "1", &[1, 0, 2, 3, 2, 0, 3, 4], "26: agent 0 (line 2) at time 1: from vertex 1 to vertex 2, which agent 2 (line 4) leaves for vertex 3 (place 4)"),
+        ] {
+            assert_eq!(refused_by(Rule::read(rule), &map, m, plan), expected);
+        }
+    }
+
     /// Only those with a destination are asked where they end; the others may drive on until the last row.
     #[rustfmt::skip] // a line a plan
     #[test]
@@ -159,8 +188,8 @@ mod tests {
         let map = description::map("grid 1 4\nagent 0 -\nagent 1 2\nagent 3 -").unwrap();
         assert_eq!(refused(&map, "0", &[0, 1, 3]), "22: agent 1 (line 3) at time 0: at vertex 1, its goal is vertex 2 (place 1)");
         assert_eq!(refused(&map, "1", &[0, 1, 3, 0, 1, 2]), "22: agent 1 (line 3) at time 1: at vertex 1, its goal is vertex 2 (place 4)");
-        assert_eq!(runglaet::check_plan(&map.bytes, 1, &[0, 1, 3, 0, 2, 3]), Answer { number: 0, second: 1 });
-        assert_eq!(runglaet::check_plan(&map.bytes, 2, &[0, 1, 3, 0, 2, 3, 1, 2, 3]), Answer { number: 0, second: 3 });
+        assert_eq!(runglaet::check_plan(&map.bytes, 1, 1, &[0, 1, 3, 0, 2, 3]), Answer { number: 0, second: 1 });
+        assert_eq!(runglaet::check_plan(&map.bytes, 2, 1, &[0, 1, 3, 0, 2, 3, 1, 2, 3]), Answer { number: 0, second: 3 });
     }
 
     /// What the library does not say of them.
@@ -194,7 +223,7 @@ mod tests {
             (&[1, -2, -4, 3], "refused 23: an entry of the valuation is neither its variable nor its negative: entry 2 must be 3 or -3, for agent 0 (line 3) at vertex 0 at time 1 (place 2)"),
             (&[1, -2, 3, 4], "refused 24: the valuation makes a clause false, which does not mean that there is no plan: clause 5 of family D (no agent is at two vertices at one time), for agent 0 (line 3) at vertices 0 and 1 at time 1 (place 5)"),
         ] {
-            let answer = runglaet::decode(&map.bytes, 1, entries, &mut [0; 2]);
+            let answer = runglaet::decode(&map.bytes, 1, 1, entries, &mut [0; 2]);
             assert_eq!(describe(answer, subject), expected);
         }
     }
@@ -212,7 +241,7 @@ mod tests {
             ("s SATISFIABLE\nv 1 -2 4 0\n", "refused 29: a variable is missing from the solver's text, or is there more than once: variable 3, for agent 0 (line 3) at vertex 0 at time 1, is missing (place 3)"),
             ("s SATISFIABLE\nv 1 -2 -3 4\nv 2 0\n", "refused 29: a variable is missing from the solver's text, or is there more than once: variable 2, for agent 0 (line 3) at vertex 1 at time 0, is there 2 times: -2 in line 2, 2 in line 3 of the text (place 2)"),
         ] {
-            let answer = runglaet::read_valuation(&map.bytes, 1, text.as_bytes(), &mut [0; 4]);
+            let answer = runglaet::read_valuation(&map.bytes, 1, 1, text.as_bytes(), &mut [0; 4]);
             let subject = Subject {
                 map: Some(&map),
                 horizon: Some(&horizon),
@@ -274,6 +303,7 @@ mod tests {
             (28, 0, "refused 28: the solver's verdict is not SATISFIABLE: the place is the first byte of the s line (place 0)"),
             (29, 3, "refused 29: a variable is missing from the solver's text, or is there more than once: the place is a variable (place 3)"),
             (30, 9, "refused 30: an agent's goal cannot be reached from its start by any path: the place is a byte of the instance (place 9)"),
+            (31, 0, "refused 31: the movement rule must be 1 or 2: the place is always 0 (place 0)"),
             (36, 5, "refused 36: this tool has no words for refusals of this number (place 5)"),
         ] {
             assert_eq!(describe(Answer { number, second }, Subject::default()), expected);

@@ -258,7 +258,7 @@ mod tests {
     /// What is said of a text with four variables that the library refuses with 27.
     fn said(text: &[u8]) -> String {
         let pair = [2, 1, 1, 0, 0, 1, 0, 1];
-        let answer = runglaet::read_valuation(&pair, 1, text, &mut [0; 4]);
+        let answer = runglaet::read_valuation(&pair, 1, 1, text, &mut [0; 4]);
         assert_eq!(answer.number, 27, "{}", quoted(text));
         fault(text, answer.second as usize, 4).unwrap()
     }

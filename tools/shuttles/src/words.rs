@@ -5,6 +5,7 @@ use crate::errors::Kind;
 use crate::horizon::Horizon;
 use crate::places::Subject;
 use crate::refusals::{describe, REFUSALS};
+use crate::rule::Rule;
 use crate::solver_form;
 use runglaet::Answer;
 use std::collections::{HashMap, HashSet};
@@ -60,6 +61,7 @@ fn the_first_forty_characters_tell_the_kind_and_nothing_else() {
     let sizes = Subject {
         map: Some(&map),
         horizon: Some(&horizon),
+        rule: Rule::read("3"),
         ..Subject::default()
     };
     let contents = Subject {
@@ -71,6 +73,7 @@ fn the_first_forty_characters_tell_the_kind_and_nothing_else() {
     let free = description::map("vertices 2\nagent 0 -").unwrap();
     let free = Subject {
         map: Some(&free),
+        rule: Rule::read("2"),
         ..sizes
     };
     let mut lines = errors();

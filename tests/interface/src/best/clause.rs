@@ -1,11 +1,12 @@
 //! One clause by number.
 
 use super::answer;
-use super::instance::{refuse, Instance};
+use super::instance::{refuse, Instance, Rule};
 use independent::Answer;
 
-pub fn clause(instance: &[u8], horizon: u64, number: u64, words: &mut [i32]) -> Answer {
-    answer(Instance::read(instance, horizon).and_then(|instance| give(&instance, number, words)))
+pub fn clause(instance: &[u8], horizon: u64, rule: u64, number: u64, words: &mut [i32]) -> Answer {
+    let instance = Instance::read(instance, horizon, rule);
+    answer(instance.and_then(|instance| give(&instance, number, words)))
 }
 
 fn give(instance: &Instance, number: u64, words: &mut [i32]) -> Result<usize, Answer> {
@@ -62,12 +63,21 @@ fn give(instance: &Instance, number: u64, words: &mut [i32]) -> Result<usize, An
             clause[length - 1] = 0;
             Ok(length)
         }
-        _ => {
+        _ if instance.rule == Rule::Vacant => {
             let (block, v) = (index / n, index % n);
             let (row, other) = (block / (k - 1), block % (k - 1));
             let (t, a) = (row / k, row % k);
             let b = other + usize::from(other >= a);
             put(words, &[-x(t, b, v), -x(t + 1, a, v)])
+        }
+        _ => {
+            let (row, other) = (index / (k - 1), index % (k - 1));
+            let (block, a) = (row / k, row % k);
+            let (t, j) = (block / instance.low.len(), block % instance.low.len());
+            let b = other + usize::from(other >= a);
+            let (u, v) = (instance.low[j].into(), instance.high[j].into());
+            let clause = [-x(t, a, u), -x(t + 1, a, v), -x(t, b, v), -x(t + 1, b, u)];
+            put(words, &clause)
         }
     }
 }

@@ -36,8 +36,8 @@ pub fn floor_from_starts(instance: &[u8]) -> Answer {
 
 #[inline(always)]
 fn floor_of(bytes: &[u8], find: impl FnOnce(&Instance) -> Result<usize, Answer>) -> Answer {
-    // Question 10 is not asked; with horizon 0 it says yes.
-    answer(Instance::read(bytes, 0).and_then(|instance| find(&instance)))
+    // Questions 10 and 31 are not asked; with horizon 0 and rule 1 they say yes.
+    answer(Instance::read(bytes, 0, 1).and_then(|instance| find(&instance)))
 }
 
 /// The greatest of the distances of agents with a goal, or the first goal that is unreachable.

@@ -2,36 +2,37 @@
 
 use super::answer;
 use super::distances::{count_by_search, count_by_table, RuledOut};
-use super::instance::{refuse, Instance};
+use super::exchanges::move_exchanges;
+use super::instance::{refuse, Instance, Rule};
 use independent::{Answer, Size};
 use std::hint::black_box;
 
-pub fn formula_size(instance: &[u8], horizon: u64) -> Size {
-    size(instance, horizon, |_| 0)
+pub fn formula_size(instance: &[u8], horizon: u64, rule: u64) -> Size {
+    size(instance, horizon, rule, |_| 0)
 }
 
 /// With the words of neighbours, which no count needs.
-pub fn formula_size_with_words(instance: &[u8], horizon: u64) -> Size {
-    size(instance, horizon, |instance| {
+pub fn formula_size_with_words(instance: &[u8], horizon: u64, rule: u64) -> Size {
+    size(instance, horizon, rule, |instance| {
         black_box(&instance.neighbours());
         0
     })
 }
 
 /// Without a table of distances.
-pub fn pruned_size(instance: &[u8], horizon: u64) -> Size {
-    size(instance, horizon, count_by_search)
+pub fn pruned_size(instance: &[u8], horizon: u64, rule: u64) -> Size {
+    size(instance, horizon, rule, count_by_search)
 }
 
 /// By a table from every vertex to every vertex.
-pub fn pruned_size_by_table(instance: &[u8], horizon: u64) -> Size {
-    size(instance, horizon, count_by_table)
+pub fn pruned_size_by_table(instance: &[u8], horizon: u64, rule: u64) -> Size {
+    size(instance, horizon, rule, count_by_table)
 }
 
 /// `count_h` gives the clauses of family H, or 0 for the formula without it.
 #[inline(always)]
-fn size(bytes: &[u8], horizon: u64, count_h: impl FnOnce(&Instance) -> usize) -> Size {
-    match Instance::read(bytes, horizon) {
+fn size(bytes: &[u8], horizon: u64, rule: u64, count_h: impl FnOnce(&Instance) -> usize) -> Size {
+    match Instance::read(bytes, horizon, rule) {
         Ok(instance) => {
             let added = count_h(&instance);
             let words: usize = lengths(&instance).iter().sum();
@@ -53,27 +54,41 @@ fn size(bytes: &[u8], horizon: u64, count_h: impl FnOnce(&Instance) -> usize) ->
 /// Fills the parts of the seven families.
 type Fill = fn(&Instance, [&mut [i32]; 7]);
 
-pub fn write_formula(instance: &[u8], horizon: u64, words: &mut [i32]) -> Answer {
-    written(instance, horizon, |instance| write(instance, words, fill))
+pub fn write_formula(instance: &[u8], horizon: u64, rule: u64, words: &mut [i32]) -> Answer {
+    written(instance, horizon, rule, |instance| {
+        write(instance, words, fill)
+    })
 }
 
 /// The second form: straight loops.
-pub fn write_formula_straight(instance: &[u8], horizon: u64, words: &mut [i32]) -> Answer {
+pub fn write_formula_straight(
+    instance: &[u8],
+    horizon: u64,
+    rule: u64,
+    words: &mut [i32],
+) -> Answer {
     let fill = super::straight::fill;
-    written(instance, horizon, |instance| write(instance, words, fill))
+    written(instance, horizon, rule, |instance| {
+        write(instance, words, fill)
+    })
 }
 
 /// Family H too.
-pub fn write_pruned(instance: &[u8], horizon: u64, words: &mut [i32]) -> Answer {
-    written(instance, horizon, |instance| {
+pub fn write_pruned(instance: &[u8], horizon: u64, rule: u64, words: &mut [i32]) -> Answer {
+    written(instance, horizon, rule, |instance| {
         write_with_h(instance, words, fill)
     })
 }
 
 /// The second form: straight loops for families A to G.
-pub fn write_pruned_straight(instance: &[u8], horizon: u64, words: &mut [i32]) -> Answer {
+pub fn write_pruned_straight(
+    instance: &[u8],
+    horizon: u64,
+    rule: u64,
+    words: &mut [i32],
+) -> Answer {
     let fill = super::straight::fill;
-    written(instance, horizon, |instance| {
+    written(instance, horizon, rule, |instance| {
         write_with_h(instance, words, fill)
     })
 }
@@ -83,9 +98,10 @@ pub fn write_pruned_straight(instance: &[u8], horizon: u64, words: &mut [i32]) -
 fn written(
     instance: &[u8],
     horizon: u64,
+    rule: u64,
     write: impl FnOnce(&Instance) -> Result<(), Answer>,
 ) -> Answer {
-    let written = Instance::read(instance, horizon).and_then(|instance| write(&instance));
+    let written = Instance::read(instance, horizon, rule).and_then(|instance| write(&instance));
     answer(written.map(|()| 0))
 }
 
@@ -127,7 +143,10 @@ fn lengths(instance: &Instance) -> [usize; 7] {
         3 * d,
         3 * e,
         3 * f + 2 * m * k * instance.low.len(),
-        3 * g,
+        match instance.rule {
+            Rule::Vacant => 3 * g,
+            Rule::Exchange => 5 * g,
+        },
     ]
 }
 
@@ -151,7 +170,10 @@ fn fill(instance: &Instance, parts: [&mut [i32]; 7]) {
     write_blocks(instance, d, m + 1, k, |block| write_d(n, block));
     write_blocks(instance, e, m + 1, 1, |block| write_e(instance, block));
     write_blocks(instance, f, m, k, |block| write_f(instance, block));
-    write_blocks(instance, g, m, 1, |block| write_g(instance, block));
+    match instance.rule {
+        Rule::Vacant => write_blocks(instance, g, m, 1, |block| write_g(instance, block)),
+        Rule::Exchange => move_exchanges(instance, g),
+    }
 }
 
 /// Families A and B: where the agents begin, and where those that have a goal end.

@@ -1,11 +1,21 @@
-//! Questions 1 to 10, and the instance that they accept.
+//! Questions 1 to 10 and 31, and the instance that they accept.
 
 use independent::Answer;
+
+/// The movement rule: condition 2 and family G.
+#[derive(Clone, Copy, PartialEq)]
+pub enum Rule {
+    /// Rule 1: nobody enters a vertex that was occupied.
+    Vacant,
+    /// Rule 2: no two agents exchange vertices.
+    Exchange,
+}
 
 pub struct Instance<'a> {
     pub n: usize,
     pub k: usize,
     pub m: usize,
+    pub rule: Rule,
     pub low: &'a [u8],
     pub high: &'a [u8],
     pub starts: &'a [u8],
@@ -20,7 +30,7 @@ pub fn refuse<T>(number: u32, place: usize) -> Result<T, Answer> {
 }
 
 impl<'a> Instance<'a> {
-    pub fn read(bytes: &'a [u8], horizon: u64) -> Result<Instance<'a>, Answer> {
+    pub fn read(bytes: &'a [u8], horizon: u64, rule: u64) -> Result<Instance<'a>, Answer> {
         let &[n, k, e_low, e_high, ref arrays @ ..] = bytes else {
             return refuse(1, bytes.len());
         };
@@ -53,10 +63,16 @@ impl<'a> Instance<'a> {
         if horizon > 32 {
             return refuse(10, 0);
         }
+        let rule = match rule {
+            1 => Rule::Vacant,
+            2 => Rule::Exchange,
+            _ => return refuse(31, 0),
+        };
         Ok(Instance {
             n: usize::from(n),
             k: agents,
             m: horizon as usize,
+            rule,
             low,
             high,
             starts,
@@ -90,7 +106,10 @@ impl<'a> Instance<'a> {
             (m + 1) * k * (n * (n - 1) / 2),
             (m + 1) * n * (k * (k - 1) / 2),
             m * k * n,
-            m * k * (k - 1) * n,
+            match self.rule {
+                Rule::Vacant => m * k * (k - 1) * n,
+                Rule::Exchange => m * k * (k - 1) * self.low.len(),
+            },
         ]
     }
 

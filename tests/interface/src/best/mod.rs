@@ -4,6 +4,7 @@
 pub mod agreement;
 mod clause;
 mod distances;
+mod exchanges;
 mod formula;
 mod instance;
 mod plan;

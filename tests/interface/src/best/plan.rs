@@ -1,24 +1,28 @@
 //! The plan check.
 
 use super::answer;
-use super::instance::{is_free, refuse, Instance};
+use super::instance::{is_free, refuse, Instance, Rule};
 use independent::Answer;
 use std::hint::black_box;
 
-pub fn check_plan(instance: &[u8], horizon: u64, plan: &[u8]) -> Answer {
-    answer(Instance::read(instance, horizon).and_then(|instance| {
-        check_length(&instance, plan)?;
-        check_rows(&instance, plan)?;
-        Ok(COSTS[instance.k - 1](plan))
-    }))
+pub fn check_plan(instance: &[u8], horizon: u64, rule: u64, plan: &[u8]) -> Answer {
+    answer(
+        Instance::read(instance, horizon, rule).and_then(|instance| {
+            check_length(&instance, plan)?;
+            check_rows(&instance, plan)?;
+            Ok(COSTS[instance.k - 1](plan))
+        }),
+    )
 }
 
 /// The instance check with the words of neighbours, then question 13 alone.
-pub fn check_instance(instance: &[u8], horizon: u64, plan: &[u8]) -> Answer {
-    answer(Instance::read(instance, horizon).and_then(|instance| {
-        black_box(&instance.neighbours());
-        check_length(&instance, plan).map(|()| 0)
-    }))
+pub fn check_instance(instance: &[u8], horizon: u64, rule: u64, plan: &[u8]) -> Answer {
+    answer(
+        Instance::read(instance, horizon, rule).and_then(|instance| {
+            black_box(&instance.neighbours());
+            check_length(&instance, plan).map(|()| 0)
+        }),
+    )
 }
 
 /// Question 13.
@@ -40,6 +44,29 @@ pub fn check_rows(instance: &Instance, plan: &[u8]) -> Result<(), Answer> {
     if let Some(a) = first_difference(plan, instance.starts) {
         return refuse(18, a);
     }
+    match instance.rule {
+        Rule::Vacant => check_steps(instance, plan, step, refuse_step)?,
+        Rule::Exchange => check_steps(instance, plan, closing_step, refuse_closing_step)?,
+    }
+    let last = instance.m * k;
+    match first_difference(&plan[last..], instance.goals) {
+        Some(a) => refuse(22, last + a),
+        None => Ok(()),
+    }
+}
+
+/// The first no of questions 19, 20 and 21 for the step between these rows, the first of which has these vertices; the
+/// last is the place of agent 0.
+type RefuseStep = fn(&[u64; 64], u64, &[u8], &[u8], usize) -> Result<(), Answer>;
+
+#[inline(always)]
+fn check_steps(
+    instance: &Instance,
+    plan: &[u8],
+    step: impl Fn(&[u64; 64], u64, &[u8], &[u8]) -> Option<u64>,
+    refuse_step: RefuseStep,
+) -> Result<(), Answer> {
+    let k = instance.k;
     let near = instance.neighbours();
     let mut stood = mask(&plan[..k]);
     let rows = plan.chunks_exact(k);
@@ -49,11 +76,7 @@ pub fn check_rows(instance: &Instance, plan: &[u8]) -> Result<(), Answer> {
         };
         stood = stands;
     }
-    let last = instance.m * k;
-    match first_difference(&plan[last..], instance.goals) {
-        Some(a) => refuse(22, last + a),
-        None => Ok(()),
-    }
+    Ok(())
 }
 
 /// The vertices of a row.
@@ -73,19 +96,42 @@ pub fn step(near: &[u64; 64], stood: u64, row: &[u8], next: &[u8]) -> Option<u64
     (faults & 1 == 0).then_some(stands)
 }
 
+/// The same under rule 2, which forbids exchanges alone.
+pub fn closing_step(near: &[u64; 64], _: u64, row: &[u8], next: &[u8]) -> Option<u64> {
+    // Where the agent on a vertex goes; 255 where there is none.
+    let mut goes = [255; 64];
+    for (&v, &w) in row.iter().zip(next) {
+        goes[usize::from(v & 63)] = w;
+    }
+    let (mut faults, mut stands) = (0, 0u64);
+    for (&v, &w) in row.iter().zip(next) {
+        let (v, w) = (v & 63, w & 63);
+        let joined = near[usize::from(v)] >> w;
+        let exchanged = u64::from(goes[usize::from(w)] == v);
+        faults |= stands >> w | u64::from(v != w) & (!joined | exchanged);
+        stands |= 1 << w;
+    }
+    (faults & 1 == 0).then_some(stands)
+}
+
+/// Does agent a exchange vertices with another?
+pub fn exchanges(row: &[u8], next: &[u8], a: usize) -> bool {
+    let mut others = row.iter().zip(next);
+    row[a] != next[a] && others.any(|(&v, &w)| (v, w) == (next[a], row[a]))
+}
+
 /// Does condition 1 fail from v to w?
 pub fn jumps(near: &[u64; 64], v: u8, w: u8) -> bool {
     v != w && near[usize::from(v)] >> w & 1 == 0
 }
 
-/// The first no of questions 19, 20 and 21; `place` is that of agent 0.
-fn refuse_step<T>(
+fn refuse_step(
     near: &[u64; 64],
     stood: u64,
     row: &[u8],
     next: &[u8],
     place: usize,
-) -> Result<T, Answer> {
+) -> Result<(), Answer> {
     let moves = || row.iter().zip(next);
     if let Some(a) = moves().position(|(&v, &w)| jumps(near, v, w)) {
         return refuse(19, place + a);
@@ -99,6 +145,27 @@ fn refuse_step<T>(
         };
         return refuse(number, place + a);
     }
+    refuse_shared(next, place)
+}
+
+fn refuse_closing_step(
+    near: &[u64; 64],
+    _: u64,
+    row: &[u8],
+    next: &[u8],
+    place: usize,
+) -> Result<(), Answer> {
+    let mut moves = row.iter().zip(next);
+    if let Some(a) = moves.position(|(&v, &w)| jumps(near, v, w)) {
+        return refuse(19, place + a);
+    }
+    if let Some(a) = (0..row.len()).find(|&a| exchanges(row, next, a)) {
+        return refuse(25, place + a);
+    }
+    refuse_shared(next, place)
+}
+
+fn refuse_shared(next: &[u8], place: usize) -> Result<(), Answer> {
     let shares = |&a: &usize| next[..a].contains(&next[a]);
     refuse(21, place + (0..next.len()).find(shares).unwrap_or(0))
 }

@@ -5,9 +5,15 @@ use super::instance::{refuse, Instance};
 use independent::Answer;
 
 /// Takes tokens of a v line by words of eight bytes.
-pub fn read_valuation(instance: &[u8], horizon: u64, text: &[u8], entries: &mut [i32]) -> Answer {
+pub fn read_valuation(
+    instance: &[u8],
+    horizon: u64,
+    rule: u64,
+    text: &[u8],
+    entries: &mut [i32],
+) -> Answer {
     answer(
-        Instance::read(instance, horizon)
+        Instance::read(instance, horizon, rule)
             .and_then(|instance| read(&instance, text, entries, tokens_by_words)),
     )
 }
@@ -16,11 +22,12 @@ pub fn read_valuation(instance: &[u8], horizon: u64, text: &[u8], entries: &mut 
 pub fn read_valuation_straight(
     instance: &[u8],
     horizon: u64,
+    rule: u64,
     text: &[u8],
     entries: &mut [i32],
 ) -> Answer {
     answer(
-        Instance::read(instance, horizon)
+        Instance::read(instance, horizon, rule)
             .and_then(|instance| read(&instance, text, entries, tokens_by_bytes)),
     )
 }

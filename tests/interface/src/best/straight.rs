@@ -1,7 +1,8 @@
 //! The formula writer's families by straight loops, the neighbours of each vertex looked up once.
 
+use super::exchanges::write_exchanges;
 use super::formula::write_ends;
-use super::instance::Instance;
+use super::instance::{Instance, Rule};
 
 // A family has a part for each time. The variables of agent 0 begin at 1 + t·n there, those of the next agent (m+1)·n
 // further on.
@@ -13,7 +14,10 @@ pub fn fill(instance: &Instance, parts: [&mut [i32]; 7]) {
     write_d(instance, d);
     write_e(instance, e);
     write_f(instance, f);
-    write_g(instance, g);
+    match instance.rule {
+        Rule::Vacant => write_g(instance, g),
+        Rule::Exchange => write_exchanges(instance, g),
+    }
 }
 
 /// For each time the part of a family that has so many words for each, and the first variable of agent 0.

@@ -1,16 +1,30 @@
 //! The decoder and the encoder.
 
 use super::answer;
-use super::instance::{refuse, Instance};
-use super::plan::{check_length, check_rows, jumps, mask, step};
+use super::instance::{refuse, Instance, Rule};
+use super::plan::{check_length, check_rows, closing_step, exchanges, jumps, mask, step};
 use independent::Answer;
 
-pub fn decode(instance: &[u8], horizon: u64, entries: &[i32], plan: &mut [u8]) -> Answer {
-    answer(Instance::read(instance, horizon).and_then(|instance| decoded(&instance, entries, plan)))
+pub fn decode(
+    instance: &[u8],
+    horizon: u64,
+    rule: u64,
+    entries: &[i32],
+    plan: &mut [u8],
+) -> Answer {
+    let instance = Instance::read(instance, horizon, rule);
+    answer(instance.and_then(|instance| decoded(&instance, entries, plan)))
 }
 
-pub fn encode(instance: &[u8], horizon: u64, plan: &[u8], entries: &mut [i32]) -> Answer {
-    answer(Instance::read(instance, horizon).and_then(|instance| encoded(&instance, plan, entries)))
+pub fn encode(
+    instance: &[u8],
+    horizon: u64,
+    rule: u64,
+    plan: &[u8],
+    entries: &mut [i32],
+) -> Answer {
+    let instance = Instance::read(instance, horizon, rule);
+    answer(instance.and_then(|instance| encoded(&instance, plan, entries)))
 }
 
 fn decoded(instance: &Instance, entries: &[i32], plan: &mut [u8]) -> Result<usize, Answer> {
@@ -103,7 +117,12 @@ fn first_false_step(instance: &Instance, places: &[u8]) -> Option<usize> {
     let near = instance.neighbours();
     let mut steps = places.chunks_exact(k).zip(places[k..].chunks_exact(k));
     let start = mask(&places[..k]);
-    let last = steps.try_fold(start, |stood, (row, next)| step(&near, stood, row, next));
+    let last = match instance.rule {
+        Rule::Vacant => steps.try_fold(start, |stood, (row, next)| step(&near, stood, row, next)),
+        Rule::Exchange => steps.try_fold(start, |stood, (row, next)| {
+            closing_step(&near, stood, row, next)
+        }),
+    };
     match last {
         Some(_) => None,
         None => find_false_step(instance, &near, places),
@@ -125,6 +144,9 @@ fn find_false_step(instance: &Instance, near: &[u64; 64], places: &[u8]) -> Opti
         return Some(from + row * n + usize::from(places[row]));
     }
     from += counts[5];
+    if instance.rule == Rule::Exchange {
+        return Some(from + first_exchange(instance, places)?);
+    }
     let entered = |(row, next): (&[u8], &[u8])| {
         first_in(0..k, |a| (0..k).position(|b| b != a && row[b] == next[a]))
     };
@@ -133,6 +155,25 @@ fn find_false_step(instance: &Instance, near: &[u64; 64], places: &[u8]) -> Opti
     let other = if b < a { b } else { b - 1 };
     let v = usize::from(places[(t + 1) * k + a]);
     Some(from + ((t * k + a) * (k - 1) + other) * n + v)
+}
+
+/// The first clause of family G under rule 2 that is false where each time and agent has a single vertex: of the first
+/// step with an exchange the first edge in stored order. Agent a is the one on its low end.
+fn first_exchange(instance: &Instance, places: &[u8]) -> Option<usize> {
+    let (k, e) = (instance.k, instance.low.len());
+    let steps = places.chunks_exact(k).zip(places[k..].chunks_exact(k));
+    let (t, (j, a)) = first_in(steps, |(row, next)| {
+        let low = (0..k).filter(|&a| row[a] < next[a] && exchanges(row, next, a));
+        let edge = |a: usize| {
+            let ends = (row[a], next[a]);
+            let mut edges = instance.low.iter().zip(instance.high);
+            Some((edges.position(|(&u, &v)| (u, v) == ends)?, a))
+        };
+        low.filter_map(edge).min()
+    })?;
+    let b = (0..k).find(|&b| places[t * k + b] == places[(t + 1) * k + a])?;
+    let other = if b < a { b } else { b - 1 };
+    Some(((t * e + j) * k + a) * (k - 1) + other)
 }
 
 /// The first item for which the function gives something, and what it gives.

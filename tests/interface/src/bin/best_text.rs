@@ -1,4 +1,5 @@
-//! The formula program in plain safe Rust, written for speed: reads the byte m and an instance, prints the formula.
+//! The formula program in plain safe Rust, written for speed: reads the byte m and an instance, prints the formula under
+//! rule 1.
 
 #![forbid(unsafe_code)]
 
@@ -167,7 +168,7 @@ fn main() -> io::Result<()> {
     let stdin = io::stdin().lock();
     stdin.take(INPUT_LIMIT).read_to_end(&mut input)?;
     let (&m, bytes) = input.split_first().unwrap_or((&0, &[]));
-    let instance = match Instance::read(bytes, m.into()) {
+    let instance = match Instance::read(bytes, m.into(), 1) {
         Ok(instance) => instance,
         Err(refusal) => {
             println!("c refused {} {}", refusal.number, refusal.second);
