@@ -1,5 +1,4 @@
 -- `families::put_partner` meets its contract. Assumes nothing.
-use native.Mathlib.Omega.{arith}
 use native.Mathlib.Numerals.{add-one}
 use mir.Facts.{toZ-ofZ}
 use borrow.Author.Needs.{sfits-of, needs}
