@@ -46,10 +46,10 @@ fn second_number(s: Sizes, p: &[u8], t: usize, a: usize) -> u32
     requires { ⌜ (T (condition2 s (planRow s (now p) t) (planRow s (now p) (suc t)) a) → ⊥) ⌝ }
     ensures { λ r. ⌜ r ≡ secondNumber s (planRow s (now (p .entry)) t) (planRow s (now (p .entry)) (suc t)) a ⌝ }
 {
-    if s.rule == 2 {
-        return 25;
+    if s.rule != 2 {
+        return occupied_number(s, p, t, a);
     }
-    occupied_number(s, p, t, a)
+    25
 }
 
 // Questions 19 to 21 of step t.
