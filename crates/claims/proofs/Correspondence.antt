@@ -21,6 +21,7 @@ use Rattle.formula.specs.Variables.{X, variableCount}
 use Rattle.formula.specs.Formula.{clauses, Formula, formula}
 use Rattle.plan.specs.Plan.{planRow}
 use Rattle.plan.specs.Passing.{Passes}
+use Rattle.plan.proofs.Rows.{plan-ext}
 use Rattle.valuation.specs.Valuation.{true?, named, namedPlan, planValuation}
 use Rattle.valuation.specs.Satisfying.{Valuation, Names}
 use Rattle.valuation.specs.Places.{Places}
@@ -44,14 +45,6 @@ module _ (I : Instance) where
   open Instance I using (sizes)
   open Sizes sizes using (n, k, m)
 
-  plan-ext : (p q : List ℕ) → length p ≡ suc m * k → length q ≡ suc m * k
-      → ((t a : ℕ) → t < suc m → a < k → planRow sizes p t a ≡ planRow sizes q t a) → p ≡ q
-  plan-ext p q lp lq e =
-      ext-getD 0 p q (lp ∙ sym lq)
-      (λ i l.
-      let (t, a, x, y, s) = place-split (suc m) (k) i (subst (λ (z : ℕ). i < z) lp l) in
-      rw s (e t a x y))
-
   inside-at : (p : List ℕ) → Passes I p → (t a : ℕ) → t < suc m → a < k → planRow sizes p t a < n
   inside-at p w t a x y = w .inside (t * k + a) (place-lt (suc m) (k) t a x y)
 
@@ -66,7 +59,7 @@ module _ (I : Instance) where
   -- a valuation names one plan
   pub names-unique : (es : List ℤ) (p q : List ℕ) → Names sizes es p → Names sizes es q → p ≡ q
   names-unique es p q a b =
-      plan-ext p q (a .size) (b .size)
+      plan-ext k m p q (a .size) (b .size)
       (λ t c x y. b .chosen t c (planRow sizes p t c) x y (a .inside t c x y) .0 (a .chosen t c (planRow sizes p t c) x y (a .inside t c x y) .1 refl))
 
   -- the plan that a satisfying valuation names
@@ -115,7 +108,7 @@ module _ (I : Instance) where
     round-trip s g =
         let v = written-valuation sizes p in
         let h = written-sat s g in
-        plan-ext (namedPlan sizes (planValuation sizes p)) p (named-size sizes (planValuation sizes p)) (w .size)
+        plan-ext k m (namedPlan sizes (planValuation sizes p)) p (named-size sizes (planValuation sizes p)) (w .size)
         (places-unique sizes _ _ _ (named-at-places (planValuation sizes p) v h) written-names)
 
 module _ (b : List ℕ) (m rule : ℕ) (ok : T (all clear (instanceQuestions b m rule))) where

@@ -12,14 +12,13 @@ use borrow.Author.Tests.{eq-eqb}
 use Rattle.lists.specs.Loop.{for, each, sum}
 use Rattle.lists.proofs.Tests.{or-iff, or-imp, eqb-iff}
 use Rattle.lists.proofs.Loops.{for-ext, for-split, for-nil, each-for, each-when}
-use Rattle.lists.proofs.Blocks.{for1-length}
 use Rattle.lists.proofs.Sums.{ind, sum-ext, sum-add, sum-const, when-count, for-at}
 use Rattle.answers.specs.declared.Answer.{Answer}
 use Rattle.answers.specs.Answers.{accept}
 use Rattle.instance.specs.declared.Sizes.{Sizes}
 use Rattle.instance.specs.Instance.{Instance, noGoal, free, HasGoal, withGoal, goalCount, AllBound, AllFree, instance, agents, goalOf}
 use Rattle.instance.specs.Questions.{instanceAnswer}
-use Rattle.instance.proofs.Goals.{goal-count, goal-count-below}
+use Rattle.instance.proofs.Goals.{goal-count, goal-count-all, goal-count-below}
 use Rattle.instance.proofs.Instance.{instance-iff, goals-new, goals-counted}
 use Rattle.distances.specs.Distance.{startToGoal, floor}
 use Rattle.distances.proofs.Within.{floor-most}
@@ -112,7 +111,7 @@ module _ (b : List ℕ) (m rule : ℕ) where
   bound h =
       let e : B sizes goal ≡ for k (λ a. (X sizes m a (goal a) ∷ []) ∷ []) = for-ext k _ _ (λ a l. goal-block sizes goal a (h a l)) in
       record {
-        all = sym (count-B I (goals-counted b m rule)) ∙ ap length e ∙ for1-length k _;
+        all = goal-count-all (goalOf b) (agents b) h;
         wholeB = e;
       }
 

@@ -12,3 +12,4 @@ pub mod Refusals
 pub mod Size
 pub mod Free
 pub mod Rule
+pub mod Reversing

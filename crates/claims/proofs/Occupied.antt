@@ -3,7 +3,7 @@ use mathlib.Core.Path.{_≡_, sym, _∙_, ap, subst}
 use mathlib.Core.Logic.{_↔_, _≢_, _⊎_, inl, inr, ⊎-elim, by-cases, Iff·rfl}
 use mathlib.Core.List.{List, [], _∷_, _++_}
 use mathlib.Core.Bool.{Bool, true, false, not, _&&_, _||_, cond}
-use Prim.Native.Nat.{ℕ, zero, suc, _≤_, _<_}
+use Prim.Native.Nat.{ℕ, suc, _≤_, _<_}
 use native.Mathlib.Decide.{ℕ-discrete, decLt}
 use native.Mathlib.Omega.{arith}
 use borrow.Author.Tests.{eq-eqb}
@@ -22,7 +22,7 @@ use Rattle.instance.specs.Questions.{instanceQuestions, instanceAnswer}
 use Rattle.instance.proofs.Instance.{instance-iff, endpoints}
 use Rattle.formula.specs.Formula.{formula}
 use Rattle.plan.specs.Plan.{Row, planBytes, planRow, vacant?, unexchanged?, condition1, condition2, occupantLeaves}
-use Rattle.plan.proofs.Steps.{apart-any, crosses-iff, changes, occupant-inside, occupant-stood, leaves-stays, leaves-exchanges, leaves-on}
+use Rattle.plan.proofs.Steps.{Apart, rows-apart, crosses-iff, changes, occupant-inside, occupant-stood, leaves-stays, leaves-exchanges, leaves-on}
 use Rattle.calls.specs.Questions.{occupiedNumber, secondNumber, question13, question16}
 use Rattle.calls.specs.Calls.{planQuestions, checkAnswer, encodeAnswer}
 use Rattle.calls.proofs.Occupied.{occupied?, Occupied, Others, past, number-leaves, number-exchange, gives-step}
@@ -122,10 +122,8 @@ module _ (I : Instance) (p : List ℕ) where
           (and-iff (eqb (P t c) (P (suc t) a)) _ .1 (eqb-iff _ _ .1 (sym e), eqb-iff _ _ .1 e′))
 
   -- the rows up to t: row 0 is the starts, each later one ends a valid step
-  rows-apart : Endpoints I → (t : ℕ) → Turn I p t → (u : ℕ) → u ≤ t → (c d : ℕ) → c < k → d < k → c ≢ d → P u c ≢ P u d
-  rows-apart ends t turn zero l =
-      apart-any k (P 0) (λ c d o r e. ends .startsApart d r c o (sym (turn .starts c (omega arith)) ∙ e ∙ turn .starts d r))
-  rows-apart ends t turn (suc u) l = turn .before u (omega arith) .apart
+  turn-apart : Endpoints I → (t : ℕ) → Turn I p t → (u : ℕ) → u ≤ t → Apart k (P u)
+  turn-apart ends t turn u l = rows-apart I ends P (turn .starts) u (λ v h. turn .before v (omega arith))
 
   tells : Endpoints I → T (clear (question13 I p)) → (answer : Answer) → OccupiedAt I p answer → Tells I p answer
   tells ends sized answer o =
@@ -152,12 +150,12 @@ module _ (I : Instance) (p : List ℕ) where
         place = ap (λ (r : Answer). r .second) (o .here .given);
         turn = turn;
         lowest = λ c l m. at-fault t c m (o .here .lowest .before c l);
-        apart = rows-apart ends t turn;
+        apart = turn-apart ends t turn;
         enters = record {
           changes = changes sizes (P t) (P (suc t)) a fails;
           agent = inside;
           stood = stood;
-          alone = λ c l e. by-cases (ℕ-discrete c b) (λ x. x) (λ d. absurd (rows-apart ends t turn t (omega arith) c b l inside d (e ∙ sym stood)));
+          alone = λ c l e. by-cases (ℕ-discrete c b) (λ x. x) (λ d. absurd (turn-apart ends t turn t (omega arith) c b l inside d (e ∙ sym stood)));
         };
         stays = number .0;
         exchanges = number .1 .0;

@@ -4,13 +4,12 @@ use mathlib.Core.List.{List}
 use mathlib.Core.Bool.{Bool}
 use Prim.Native.Nat.{ℕ, _+_, _*_, _^_, _≤_, _<_}
 use native.Mathlib.Omega.{arith}
-use lib.ListN.{length, getD, take, drop, length-drop, List·getD-append}
-use lib.Seq.{getD-drop, getD-take, length-take-le}
+use lib.ListN.{length, getD, List·getD-append}
 use Rattle.lists.specs.Slice.{filled}
 use Rattle.answers.proofs.Laws.{byNumber-accepted}
 use Rattle.instance.specs.declared.Sizes.{Sizes}
 use Rattle.instance.specs.declared.Checked.{Checked}
-use Rattle.instance.specs.Instance.{Instance, GoalBelow, goalCount, instance, checked, unchecked, forAgents, vertices, agents, edges, starts, goals, adjacent, neighbourWords, edgesBefore, joined, Edges, Endpoints, Counted}
+use Rattle.instance.specs.Instance.{Instance, GoalBelow, goalCount, instance, checked, unchecked, ofAgents, forAgents, vertices, agents, edges, starts, goals, adjacent, neighbourWords, edgesBefore, joined, Edges, Endpoints, Counted}
 use Rattle.instance.specs.Limits.{Limits}
 use Rattle.instance.specs.Ready.{Ready}
 use Rattle.instance.specs.Shows.{Shows}
@@ -18,7 +17,7 @@ use Rattle.instance.specs.Questions.{instanceAnswer, instanceChecked}
 use Rattle.instance.specs.Accepted.{Accepted, instanceOf}
 use Rattle.instance.proofs.Goals.{goal-count-ext}
 use Rattle.instance.proofs.Edges.{edges-counted}
-use Rattle.instance.proofs.Instance.{instance-iff, goals-counted, endpoints, edges-known, length-known, limits, agents-below}
+use Rattle.instance.proofs.Instance.{agents-length, agents-at, instance-iff, goals-counted, endpoints, edges-known, length-known, limits, agents-below}
 use Rattle.instance.proofs.Neighbours.{word-below, joined-adjacent}
 
 -- the instance check's answer and checked instance, where the number is 0
@@ -44,15 +43,10 @@ module _ (b : List ℕ) (m rule : ℕ) (c : Checked) (ec : c ≡ instanceChecked
 
 -- k bytes of b in an array for 16 agents
 module _ (b : List ℕ) (offset : ℕ) (h : agents b ≤ 16) (l : offset + agents b ≤ length b) where
-  taken : length (take (agents b) (drop offset b)) ≡ agents b
-  taken = length-take-le (agents b) (drop offset b) (simp length-drop (omega arith))
-
   pub forAgents-at : (a : ℕ) → a < agents b → getD (forAgents b offset) a 0 ≡ getD b (offset + a) 0
   unfolding forAgents filled
   forAgents-at a q =
-      List·getD-append (take (agents b) (drop offset b)) _ 0 a (omega (arith, taken))
-      ∙ getD-take (agents b) (drop offset b) a 0 q
-      ∙ getD-drop offset b a 0
+      List·getD-append (ofAgents b offset) _ 0 a (omega (arith, agents-length b offset l)) ∙ agents-at b offset a q
 
 -- parts that are ready show an instance whose agents with a goal are counted
 pub shown-counted : (I : Instance) (s : Sizes) (starts goals near : List ℕ) → Shows I s starts goals near → Ready s starts goals near → Counted I

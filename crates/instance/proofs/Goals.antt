@@ -4,7 +4,7 @@ use mathlib.Core.Logic.{_↔_, _⊎_, inl, inr, ⊎-elim, by-cases}
 use mathlib.Core.List.{[], _∷_}
 use mathlib.Core.Bool.{Bool, true, false, not, _&&_, _||_}
 use Prim.Native.Nat.{ℕ, zero, suc, _≤_, _<_}
-use native.Mathlib.Nat.{le-refl}
+use native.Mathlib.Nat.{le-refl, mul-one}
 use native.Mathlib.Decide.{ℕ-discrete}
 use native.Mathlib.Omega.{arith}
 use borrow.Author.Tests.{not-true, not-false}
@@ -13,7 +13,7 @@ use lib.Dec.{T}
 use Rattle.lists.specs.Loop.{for, when, sum}
 use Rattle.lists.proofs.Tests.{below-zero, below-suc, and-iff, or-iff, or-imp, not-iff, eqb-iff}
 use Rattle.lists.proofs.Loops.{for-ext}
-use Rattle.lists.proofs.Sums.{ind, ind-yes, when-count, count-most, sum-le}
+use Rattle.lists.proofs.Sums.{ind, ind-yes, sum-ext, sum-const, when-count, count-most, sum-le}
 use Rattle.answers.proofs.Faults.{holds, fails}
 use Rattle.instance.specs.Instance.{noGoal, free, HasGoal, goalCount}
 
@@ -73,6 +73,11 @@ module _ (goal : ℕ → ℕ) where
 
   pub goal-count-most : (k : ℕ) → goalCount k goal ≤ k
   goal-count-most k = rw (goal-count k) (count-most k has)
+
+  -- where every agent has one
+  pub goal-count-all : (k : ℕ) → ((a : ℕ) → a < k → HasGoal (goal a)) → goalCount k goal ≡ k
+  goal-count-all k h =
+      goal-count k ∙ sum-ext k (λ a. ind (has a)) (λ a. 1) (λ a l. ind-yes (has a) (not-free (goal a) (h a l))) ∙ sum-const k 1 ∙ mul-one k
 
   -- its place among those of more agents
   pub goal-count-below : (k a : ℕ) → a < k → HasGoal (goal a) → goalCount a goal < goalCount k goal

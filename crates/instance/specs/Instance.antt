@@ -84,6 +84,10 @@ module _ (b : List ℕ) where
   abbrev pub goalOf : ℕ → ℕ
   goalOf a = getD b (goals + a) 0
 
+  -- the k bytes of the array at this offset: the starts, or the goals
+  abbrev pub ofAgents : ℕ → List ℕ
+  ofAgents offset = take agents (drop offset b)
+
   -- each goal there is is a vertex, and unlike the earlier ones there are
   abbrev pub NewGoals : Type 0
   NewGoals =
@@ -168,9 +172,9 @@ abbrev pub joined : List ℕ → ℕ → ℕ → Bool
 joined near v w = set? (getD near v 0) w
 
 module _ (b : List ℕ) where
-  -- k bytes from an offset on, in an array for 16 agents, 0 beyond agent k - 1
+  -- the starts, or the goals, in an array for 16 agents, 0 beyond agent k - 1
   unfoldable pub forAgents : ℕ → List ℕ
-  forAgents offset = filled (take (agents b) (drop offset b)) (replicate 16 0)
+  forAgents offset = filled (ofAgents b offset) (replicate 16 0)
 
   -- the checked instance of accepted bytes
   unfoldable pub checked : ℕ → ℕ → Checked

@@ -1,4 +1,5 @@
 pub mod Instance
+pub mod Exchanged
 pub mod Limits
 pub mod Ready
 pub mod Shows

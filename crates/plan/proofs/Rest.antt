@@ -65,6 +65,18 @@ module _ (m : ℕ) (P : ℕ → Row) (a : ℕ) where
     (λ o. not-iff (rests m P a t) .1 (λ h. rest-until .least t o (rests-iff t .0 h))),
   )
 
+-- it depends on the agent's vertices in the rows up to m alone
+pub rest-same : (m : ℕ) (P Q : ℕ → Row) (a : ℕ) → ((t : ℕ) → t ≤ m → P t a ≡ Q t a) → restTime m P a ≡ restTime m Q a
+rest-same m P Q a e =
+    let w = rest-until m P a in
+    let (v, h) = w .rests in
+    rest-only m Q a (restTime m P a)
+    (record {
+      within = w .within;
+      rests = (v, λ u o q. sym (e u q) ∙ h u o q);
+      least = λ t l (x, g). w .least t l (x, λ u o q. e u q ∙ g u o q);
+    })
+
 -- ---- one more row
 module _ (m : ℕ) (P : ℕ → Row) (a : ℕ) where
   rests-more : (t : ℕ) → t ≤ m → Rests (suc m) P a t ↔ (Rests m P a t × (P m a ≡ P (suc m) a))

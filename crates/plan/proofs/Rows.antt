@@ -1,5 +1,5 @@
 -- Rows as parts of a plan's bytes, and what the conditions depend on.
-use mathlib.Core.Path.{_≡_, sym, _∙_, ap, ap₂}
+use mathlib.Core.Path.{_≡_, sym, _∙_, ap, ap₂, subst}
 use mathlib.Core.List.{List}
 use mathlib.Core.Bool.{Bool, not, _&&_, _||_, cond}
 use Prim.Native.Nat.{ℕ, zero, suc, _+_, _*_, _-_, _≤_, _<_}
@@ -7,9 +7,10 @@ use native.Mathlib.Nat.{suc-mul, mul-le-mul-right}
 use native.Mathlib.Numerals.{add-one}
 use native.Mathlib.Omega.{arith}
 use lib.ListN.{length, getD, take, drop, length-drop}
-use lib.Seq.{getD-drop, getD-take, length-take-le}
+use lib.Seq.{getD-drop, getD-take, length-take-le, ext-getD}
 use lib.Dec.{eqb}
 use Rattle.lists.proofs.Tests.{every-ext}
+use Rattle.lists.proofs.Blocks.{place-split}
 use Rattle.answers.specs.Fault.{FirstFault}
 use Rattle.answers.proofs.Faults.{fault-ext}
 use Rattle.instance.specs.declared.Sizes.{Sizes}
@@ -33,6 +34,15 @@ rows s p t e l =
       next = rw add-one a;
       after = a;
     }
+
+-- ---- plans of the same rows are the same
+pub plan-ext : (k m : ℕ) (p q : List ℕ) → length p ≡ suc m * k → length q ≡ suc m * k
+    → ((t a : ℕ) → t < suc m → a < k → getD p (t * k + a) 0 ≡ getD q (t * k + a) 0) → p ≡ q
+plan-ext k m p q lp lq e =
+    ext-getD 0 p q (lp ∙ sym lq)
+    (λ i l.
+    let (t, a, x, y, s) = place-split (suc m) k i (subst (λ (z : ℕ). i < z) lp l) in
+    rw s (e t a x y))
 
 -- ---- a row as the part of the bytes from one offset to another
 pub part-length : (p : List ℕ) (from to : ℕ) → from ≤ to → to ≤ length p → length (take (to - from) (drop from p)) ≡ to - from

@@ -2,7 +2,7 @@
 use mathlib.Core.Path.{_≡_, sym, _∙_}
 use mathlib.Core.Logic.{_↔_, _≢_, _⊎_, inl, inr, ⊎-elim, by-cases, Iff·rfl}
 use mathlib.Core.Bool.{Bool, true, false, not, _&&_, _||_, cond}
-use Prim.Native.Nat.{ℕ, _<_}
+use Prim.Native.Nat.{ℕ, zero, suc, _<_}
 use native.Mathlib.Decide.{ℕ-discrete, decLt}
 use native.Mathlib.Omega.{arith}
 use borrow.Author.Tests.{eq-eqb, ne-eqb}
@@ -11,14 +11,25 @@ use Rattle.lists.proofs.Tests.{and-iff, or-imp, not-iff, eqb-iff, every-iff}
 use Rattle.answers.specs.Fault.{FirstFault}
 use Rattle.answers.proofs.Faults.{fault-first}
 use Rattle.instance.specs.declared.Sizes.{Sizes}
-use Rattle.instance.specs.Instance.{Instance, following, adjacent, Edge}
+use Rattle.instance.specs.Instance.{Instance, following, adjacent, Edge, Endpoints}
 use Rattle.instance.proofs.Graph.{adjacent-iff}
 use Rattle.plan.specs.Plan.{Row, keeps, vacant?, unexchanged?, condition2, occupant, stays, exchanges, movesOn, occupantLeaves}
-use Rattle.plan.specs.Passing.{Second}
+use Rattle.plan.specs.Passing.{Second, ValidStep}
 
--- "no two share" from "no two, the lower first, share"
-pub apart-any : (k : ℕ) (P : Row) → ((a b : ℕ) → a < b → b < k → P a ≢ P b) → (a b : ℕ) → a < k → b < k → a ≢ b → P a ≢ P b
+-- no two of k agents share a vertex in the row
+abbrev pub Apart : ℕ → Row → Type 0
+Apart k P = (a b : ℕ) → a < k → b < k → a ≢ b → P a ≢ P b
+
+-- that from "no two, the lower first, share"
+pub apart-any : (k : ℕ) (P : Row) → ((a b : ℕ) → a < b → b < k → P a ≢ P b) → Apart k P
 apart-any k P h a b l r d e = by-cases (decLt a b) (λ o. h a b o r e) (λ o. h b a (omega arith) l (sym e))
+
+-- no two agents share a vertex in any row: in row 0 by the distinct starts, in a later row by condition 3 of the step before it
+pub rows-apart : (I : Instance) → Endpoints I → (P : ℕ → Row) → ((a : ℕ) → a < I .sizes .k → P 0 a ≡ I .start a)
+    → (t : ℕ) → ((u : ℕ) → u < t → ValidStep I (P u) (P (suc u))) → Apart (I .sizes .k) (P t)
+rows-apart I ends P starts zero steps =
+    apart-any (I .sizes .k) (P 0) (λ a b o r e. ends .startsApart b r a o (sym (starts a (omega arith)) ∙ e ∙ starts b r))
+rows-apart I ends P starts (suc t) steps = steps t (omega arith) .apart
 
 -- "keeps or crosses" from "where it changes, it crosses", and back
 pub crosses-iff : (I : Instance) (x y : ℕ) → (x ≢ y → T (adjacent I x y)) ↔ ((x ≡ y) ⊎ Edge I x y)

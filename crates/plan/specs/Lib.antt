@@ -1,3 +1,4 @@
 pub mod Plan
+pub mod Reversing
 pub mod Passing
 pub mod Rest

@@ -4,7 +4,7 @@ use mathlib.Core.Path.{_≡_, refl, sym, _∙_, ap, subst}
 use mathlib.Core.Logic.{_↔_, _≢_, ⊎-elim, by-cases}
 use mathlib.Core.List.{List}
 use mathlib.Core.Bool.{Bool, true, false, cond}
-use Prim.Native.Nat.{ℕ, zero, suc, _<_}
+use Prim.Native.Nat.{ℕ, suc, _<_}
 use native.Mathlib.Nat.{zero-lt-suc, le-refl}
 use native.Mathlib.Decide.{ℕ-discrete}
 use native.Mathlib.Omega.{arith}
@@ -19,7 +19,7 @@ use Rattle.formula.specs.Variables.{Literal}
 use Rattle.formula.specs.Formula.{Clause, A, B, C, D, E, F, G, noFollowing, noExchange, clauses}
 use Rattle.valuation.specs.Places.{Places}
 use Rattle.plan.specs.Passing.{Second, Leads}
-use Rattle.plan.proofs.Steps.{apart-any, crosses-iff}
+use Rattle.plan.proofs.Steps.{apart-any, rows-apart, crosses-iff}
 use Rattle.formula.specs.Variables as variables
 
 -- a truth of literals h satisfies the clauses
@@ -154,10 +154,8 @@ module _ (I : Instance) where
     abbrev Apart : Type 0
     Apart = (t : ℕ) → t < suc m → (a b : ℕ) → a < b → b < k → P t a ≢ P t b
 
-    -- in row 0 by the distinct starts, in a later row by condition 3
-    rows-apart : Leads I P → Apart
-    rows-apart o zero l a b q r e = s .startsApart b r a q (sym (o .starts a (omega arith)) ∙ e ∙ o .starts b r)
-    rows-apart o (suc t) l a b q r e = o .steps t (omega arith) .apart a b (omega arith) r (omega arith) e
+    leads-apart : Leads I P → Apart
+    leads-apart o t l a b q r = rows-apart I s P (o .starts) t (λ u h. o .steps u (omega arith)) a b (omega arith) r (omega arith)
 
     -- each agent keeps its vertex or crosses an edge
     abbrev Crossing : Type 0
@@ -214,10 +212,10 @@ module _ (I : Instance) where
           (λ o.
               let crossing : Crossing = λ t l a r. crosses-iff I (P t a) (P (suc t) a) .1 (o .steps t l .crosses a r) in (
                 (
-                  (((((λ a l. sym (o .starts a l)), (λ a l g. sym (o .goals a l g))), read-C h P c), read-D h P c), rows-apart o),
+                  (((((λ a l. sym (o .starts a l)), (λ a l g. sym (o .goals a l g))), read-C h P c), read-D h P c), leads-apart o),
                   crossing,
                 ),
-                second-G h c (rows-apart o) crossing .1 (λ t l. o .steps t l .second),
+                second-G h c (leads-apart o) crossing .1 (λ t l. o .steps t l .second),
               )),
         )
 
