@@ -1,10 +1,11 @@
 #!/usr/bin/env bash
 # Compares the proved program `comparison` with the independent one on fresh cases.
 #   tests/compare.sh SEED PIECES COUNT
-# Each piece has its own seed, SEED and up, and COUNT random instances. Before them come all small instances (up to 4
-# vertices, 2 agents, horizon 2), all clauses of every eleventh, all plans of tiny ones, all sign patterns of some with
-# at most 16 variables, all short texts of some kinds for the reader, for the floor and the pruned writer all maps of
-# 5 vertices with one agent, long paths at every horizon, and grids, and for the sizes every number of vertices and agents.
+# Each piece has its own seed, SEED and up, COUNT random instances, and COUNT random plans that pass, held and reversed.
+# Before the pieces come all small instances (up to 4 vertices, 2 agents, horizon 2), all clauses of every nineteenth, all
+# plans of tiny ones, all sign patterns of some with at most 16 variables, all short texts of some kinds for the reader,
+# for the floor and the pruned writer all maps of 5 vertices with one agent, long paths at every horizon, and grids, and
+# for the sizes every number of vertices and agents.
 # RUNGLAET_COMPARISON: the program, if it is not target/bin/comparison.
 set -eu
 cd "$(dirname "$0")/.."

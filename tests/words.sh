@@ -182,6 +182,9 @@ unfit() {
     aside "$1" "$2" "$shuttles" input "$3" 1
     aside "$1" "$2" "$shuttles" formula "$3" 1 --rule 3
     aside "$1" "$2" "$shuttles" pruned "$3" 33
+    refuse "$1" "$2" "$shuttles" hold "$3" 1 2
+    refuse "$1" "$2" "$shuttles" reverse "$3" 1
+    aside "$1" "$2" "$shuttles" exchange "$3"
 }
 # bytes OCTAL...: a file of instance bytes.
 bytes() { printf '%b' "$(printf '\\0%s' "$@")" >bytes.bin; }
@@ -841,6 +844,8 @@ expect Output 2 small 9 with "$plan" "$solve" "$root/examples/grid4.txt"
 
 # shellcheck source=tests/words_rule.sh
 . "$root/tests/words_rule.sh"
+# shellcheck source=tests/words_reversing.sh
+. "$root/tests/words_reversing.sh"
 
 # tools/shuttles/build.sh. The tool that is built needs no cargo; a copy of the sources has nothing built.
 solves 0 '' "$shuttles" "$root/tools/shuttles/build.sh"

@@ -6,7 +6,9 @@
 //! `costs` has plans with known costs, `floors` maps with known floors and families
 //! H, `sizes` formulas with known sizes, `free` instances with agents that have no
 //! goal, `rules` those on which the movement rule matters, `wrong_rules` programs that
-//! are wrong about it, and `text` prints a formula as DIMACS CNF.
+//! are wrong about it. `reversing` holds and reverses plans and exchanges starts and
+//! goals, `worked_reversing` has such plans with known answers, `wrong_reversing`
+//! programs that are wrong about this. `text` prints a formula as DIMACS CNF.
 
 #![forbid(unsafe_code)]
 
@@ -25,12 +27,15 @@ pub mod plain;
 mod plan;
 pub mod questions;
 mod reader;
+pub mod reversing;
 pub mod rules;
 pub mod sample;
 pub mod sizes;
 pub mod text;
 mod twice;
 mod valuation;
+pub mod worked_reversing;
+pub mod wrong_reversing;
 pub mod wrong_rules;
 mod wrong_steps;
 

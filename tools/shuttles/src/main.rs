@@ -8,12 +8,14 @@ mod horizon;
 mod map;
 mod places;
 mod refusals;
+mod reversing;
 mod rows;
 mod rule;
 mod size;
 mod solver_form;
 mod solver_lines;
 mod streams;
+mod usage;
 #[cfg(test)]
 mod words;
 
@@ -25,41 +27,7 @@ use rule::Rule;
 use runglaet::{Answer, Size};
 use std::io::{Read, Write};
 use std::process::ExitCode;
-
-const USAGE: &str = "\
-shuttles instance DESCRIPTION                  instance bytes of a description, to standard output
-shuttles floor INSTANCE                        how short a plan could be: no plan of a smaller makespan passes
-shuttles size INSTANCE M                       how large the formula is, alone and with family H
-shuttles input INSTANCE M                      what the formula program reads: the byte M, then the instance bytes
-shuttles formula INSTANCE M                    the formula as DIMACS text, to standard output
-shuttles pruned INSTANCE M                     the formula with family H as DIMACS text, to standard output
-shuttles decode INSTANCE M < OUTPUT            the plan that a solver's output names, checked and shown
-shuttles encode INSTANCE M PLAN...             the valuation of a plan, written as a solver writes it
-shuttles check INSTANCE M PLAN...              checks a plan of makespan M
-shuttles show INSTANCE PLAN...                 shows the rows of a plan and checks nothing
-shuttles refusal NUMBER PLACE [INSTANCE [M]]   plain words for a refusal
-
-INSTANCE is a file of instance bytes, or a description: a file that is text throughout is a description.
-A PLAN is numbers, row by row: the vertex of each agent at time 0, then at time 1, and so on.
-PLAN - reads the numbers from standard input. `decode --numbers` writes a plan in this form.
-A command that takes M also takes --rule R, the movement rule, which is 1 where it is not given. Under rule 1 an agent
-enters only a vertex on which none stood as the step began. Under rule 2 it may follow another, into a vertex that this
-one leaves in the same step, but no two agents exchange vertices. What is said of rule 2 names it. The formula program
-keeps to rule 1.
-The cost of a plan is the sum of its agents' times until rest: from then on the agent stays where it is. Waiting on the
-way counts.
-An agent without a destination, `agent START -` in a description, may end anywhere. A plan is shown with a line that
-names such agents, where there are some, before its rows.
-Family H forbids each agent, at each time, the vertices further from its start than the steps so far and those further
-from its goal, where it has one, than the steps left. The formula with it has the same satisfying valuations, so the
-same plans.
-The words of a formula are signed 32-bit numbers: the literals of its clauses, and a 0 behind each clause.
-OUTPUT is the text of the SAT competitions, as cadical and picosat print it. Minisat's result file is brought into that
-form first, and so is what cryptominisat prints where a v line ends with a space or it gave up; a note on standard error
-says so.
-
-Exit status: 0 done; 1 refused by the library; 2 anything else that went wrong; 3 no plan of makespan M.
-";
+use usage::USAGE;
 
 /// What a run comes to: a text for standard output and an exit status, or an error.
 type Outcome = Result<(Vec<u8>, u8), Error>;
@@ -103,6 +71,7 @@ fn run(words: &[&str]) -> Outcome {
 fn without_rule(words: &[&str]) -> Option<Outcome> {
     Some(match *words {
         ["instance", description] => make_instance(description),
+        ["exchange", instance] => reversing::exchange(instance),
         ["floor", instance] => floor(instance),
         ["show", instance, ref plan @ ..] => show(instance, plan),
         ["help" | "--help" | "-h"] => said(USAGE.to_string(), DONE),
@@ -121,6 +90,12 @@ fn with_rule(words: &[&str], rule: Rule) -> Option<Outcome> {
         ["decode", instance, horizon] => decode(instance, horizon, rule, false),
         ["encode", instance, horizon, ref plan @ ..] => encode(instance, horizon, rule, plan),
         ["check", instance, horizon, ref plan @ ..] => check(instance, horizon, rule, plan),
+        ["hold", instance, horizon, until, ref plan @ ..] => {
+            reversing::hold(instance, horizon, until, rule, plan)
+        }
+        ["reverse", instance, horizon, ref plan @ ..] => {
+            reversing::reverse(instance, horizon, rule, plan)
+        }
         ["refusal", number, place, ref subject @ ..] if subject.len() <= 2 => {
             refusal(number, place, subject, rule)
         }

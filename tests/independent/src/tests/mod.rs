@@ -1,3 +1,4 @@
+mod arrangements;
 mod costs;
 mod cross;
 mod examples;
@@ -7,6 +8,7 @@ mod numbering;
 mod occupied;
 mod questions;
 mod reader;
+mod reversing;
 mod rules;
 mod sizes;
 

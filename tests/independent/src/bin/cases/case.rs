@@ -10,7 +10,8 @@ use independent::calls::{say, Said};
 use independent::questions::{Handed, Item, ASKED, NUMBERS};
 use independent::sample::Generator;
 use independent::{
-    costs, floors, formula_size, free, pruned_size, sizes, wrong_rules, Answer, Size,
+    costs, floors, formula_size, free, pruned_size, sizes, wrong_reversing, wrong_rules, Answer,
+    Size,
 };
 use std::collections::BTreeSet;
 use std::fmt::Write;
@@ -191,6 +192,8 @@ pub struct Cases {
     pub told_free: Option<free::Told>,
     /// The same for programs that are wrong about the rule.
     pub told_rules: Option<wrong_rules::Told>,
+    /// What the plan check tells from programs that hold, reverse or exchange wrongly.
+    pub told_reversing: wrong_reversing::Told,
 }
 
 pub fn item(size: Size) -> Item {

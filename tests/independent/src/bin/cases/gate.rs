@@ -94,13 +94,21 @@ pub fn gate(cases: &mut Cases) {
         cases.any_size();
     }
     cases.worked_free();
+    cases.worked_reversing();
+    for _ in 0..14 {
+        cases.turned(5);
+    }
+    for _ in 0..4 {
+        cases.turned(16);
+    }
 }
 
 /// Fails where a kind never gives an answer that it can give under a rule, where the
 /// items of two numbers of neighbouring questions or of one question never fail at
 /// once, where no accepted plan tells a wrong count from the cost, or no answer a
 /// wrong floor, family H, size or writer from the right one, or no answer of a call
-/// one that is wrong about free agents or about the rule.
+/// one that is wrong about free agents or about the rule, or no plan a program that
+/// holds, reverses or exchanges wrongly.
 pub fn require_all(cases: &Cases) {
     let mut missing = Vec::new();
     for kind in 1..=ASKED.len() as u8 {
@@ -141,7 +149,9 @@ pub fn require_all(cases: &Cases) {
     let names = names.chain(cases.told_sizes.missing());
     let free = cases.told_free.iter().flat_map(free::Told::missing);
     let rules = cases.told_rules.iter().flat_map(wrong_rules::Told::missing);
-    for name in names.chain(free).chain(rules) {
+    let reversing = cases.told_reversing.missing();
+    let reversing = reversing.into_iter().map(String::from);
+    for name in names.chain(free).chain(rules).chain(reversing) {
         missing.push(format!("no answer tells from the right one: {name}"));
     }
     if !missing.is_empty() {

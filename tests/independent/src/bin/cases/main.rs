@@ -11,6 +11,7 @@
 mod case;
 mod gate;
 mod maps;
+mod reversing;
 mod rules;
 mod small;
 mod texts;
@@ -22,7 +23,7 @@ use crate::gate::{gate, require_all};
 use crate::small::{instances, small_instances};
 use independent::questions::{ASKED, NUMBERS};
 use independent::sample::{grid_edges, instance_bytes, Generator};
-use independent::{costs, floors, free, sizes, wrong_rules};
+use independent::{costs, floors, free, sizes, wrong_reversing, wrong_rules};
 use std::collections::BTreeSet;
 use std::{env, fs, process};
 
@@ -46,6 +47,7 @@ fn main() {
         told_sizes: sizes::Told::default(),
         told_free: (mode == "gate").then(free::Told::default),
         told_rules: (mode == "gate").then(wrong_rules::Told::default),
+        told_reversing: wrong_reversing::Told::default(),
     };
     match mode {
         "gate" => {
@@ -76,6 +78,10 @@ fn main() {
             cases.largest(false);
             cases.largest_turning(false);
             cases.longest();
+            cases.worked_reversing();
+            for i in 0..number(2) {
+                cases.turned(if i % 4 == 0 { 64 } else { 9 });
+            }
         }
         "small" => {
             for given in &small_instances() {

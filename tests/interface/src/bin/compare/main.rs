@@ -1,8 +1,9 @@
 //! Compares the library with the independent program, through the C interface.
 //!
 //! compare [SEED [COUNT [FIRST]]]: texts, plans, maps and sizes with known answers, every pair of a block, two faults of a
-//! valuation at once, instances with free agents beside the same ones with goals, one movement rule beside the other, every
-//! small instance, the largest one and COUNT random cases; with FIRST only COUNT random cases from that one on.
+//! valuation at once, instances with free agents beside the same ones with goals, one movement rule beside the other, plans
+//! held and reversed, every small instance, the largest one and COUNT random cases; with FIRST only COUNT random cases from
+//! that one on.
 
 #![forbid(unsafe_code)]
 
@@ -13,6 +14,7 @@ mod largest;
 mod pairs;
 mod random;
 mod report;
+mod reversing;
 mod rules;
 mod run;
 mod said;
@@ -84,6 +86,19 @@ fn main() {
         let (cases, followed) = run.rules(&mut Generator::new(mix(seed, u64::MAX - 3)));
         println!(
             "rules: {cases}, {followed} plans pass under rule 2 alone ({:.1?})",
+            clock.elapsed()
+        );
+        let turned = run.reversing(&mut Generator::new(mix(seed, u64::MAX - 4)));
+        println!(
+            "held and reversed: {} plans, {} times held, {} reversed, {} of these at another cost, {} decoded; \
+             {} exchanges refused, {} damaged plans ({:.1?})",
+            turned.plans,
+            turned.held,
+            turned.reversed,
+            turned.other_cost,
+            turned.decoded,
+            turned.refused,
+            turned.damaged,
             clock.elapsed()
         );
         run.small();

@@ -106,6 +106,14 @@ impl Run {
             println!("{plans:>8}  {name}");
             complete &= plans > 0;
         }
+        println!(
+            "\n{:>8}  tell a program that holds, reverses or exchanges wrongly",
+            "plans"
+        );
+        for (name, plans) in self.told_reversing.times() {
+            println!("{plans:>8}  {name}");
+            complete &= plans > 0;
+        }
         println!("\n{:>8}  tell from the right answer", "answers");
         let floors = self.told_floors.times();
         let floors = floors.map(|(name, answers)| (name.to_string(), answers));

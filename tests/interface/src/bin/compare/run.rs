@@ -8,6 +8,7 @@ use independent::floors;
 use independent::free;
 use independent::questions::{asked_under, Handed, FLOOR, NUMBERS};
 use independent::sizes;
+use independent::wrong_reversing;
 use independent::wrong_rules;
 use std::collections::BTreeMap;
 use std::hint::black_box;
@@ -47,6 +48,8 @@ pub struct Run {
     pub told_free: free::Told,
     /// What answers tell from those of programs that are wrong about the movement rule.
     pub told_rules: wrong_rules::Told,
+    /// What the plan check tells from programs that hold, reverse or exchange wrongly.
+    pub told_reversing: wrong_reversing::Told,
     /// Accepted plans and valuations that came back as they were.
     pub round_trips: u64,
     /// Refusals 24 that were looked up in the written words.
