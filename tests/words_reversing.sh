@@ -79,12 +79,12 @@ says $'0 1 2\n1 2 0\n1 2 0' "$shuttles" hold ring.txt 1 2 --rule 2  0 1 2  1 2 0
 for command in "exchange $root/examples/idle.txt" "reverse $root/examples/idle.txt 3  0 1  0 3  1 3  2 3"; do
     # shellcheck disable=SC2086  # Words of the command.
     expect NoWayBack 2 "$shuttles" $command
-    result "$(grep -q ': agent 1 (line 11)$' errors || cat errors)" "who has no way back: $command"
+    result "$(grep -q ': agent 1 (line 11): .*/idle.txt$' errors || cat errors)" "who has no way back: $command"
     result "$(head -c 100 said)" "nothing on standard output: $command"
 done
 "$shuttles" instance "$root/examples/idle.txt" >bytes.bin
 expect NoWayBack 2 "$shuttles" exchange bytes.bin
-result "$(grep -q ': agent 1$' errors || cat errors)" 'who has no way back, by bytes'
+result "$(grep -q ': agent 1: bytes.bin$' errors || cat errors)" 'who has no way back, by bytes'
 expect NoFile 2 "$shuttles" exchange absent.txt
 expect NoFile 2 "$shuttles" hold absent.txt 1 2 0 1
 expect NoFile 2 "$shuttles" reverse absent.txt 1 0 1

@@ -18,7 +18,7 @@ use Rattle.instance.proofs.Exchanged.{exchanged-twice, exchanged-bound, exchang
 use Rattle.plan.specs.Plan.{planRow, condition1, condition2, condition3, rests, restTime, cost}
 use Rattle.plan.specs.Passing.{Passes}
 use Rattle.plan.specs.Reversing.{heldPlan, reversedPlan}
-use Rattle.plan.proofs.Reversing.{held-size, held-at, held-last, held-inside, reversed-twice, reversed-passes, held-leads, held-cost}
+use Rattle.plan.proofs.Reversing.{held-size, held-at, held-last, held-inside, reversed-at, reversed-twice, reversed-passes, held-leads, held-cost}
 use Rattle.calls.specs.Calls.{planQuestions, checkAnswer}
 use Rattle.calls.proofs.Plan.{check-iff, check-counts}
 use Rattle.claims.specs.Correspondence.{Accepts}
@@ -116,12 +116,15 @@ module _ (b : List ℕ) (m rule : ℕ) (e : Accepts (instanceAnswer b m rule)) w
   alike : AllBound (instance b m rule) → Satisfiable b m rule ↔ Satisfiable (exchangedInstance b) m rule
   alike bound = (
     back b m rule ok bound,
-    (λ s. subst (λ (c : List ℕ). Satisfiable c m rule) again (back (exchangedInstance b) m rule (exchanged-clear b m rule ok bound) (exchanged-bound b m rule ok bound) s)),
+    (λ s. subst (λ (c : List ℕ). Satisfiable c m rule) again (back (exchangedInstance b) m rule (exchanged-clear b m rule ok bound) (exchanged-bound b m rule ok) s)),
   )
 
   reversing-at : Reversing b m rule
+  unfolding instance
   reversing-at =
       record {
+        heldRows = held-at (agents b) m;
+        heldLast = held-last (agents b) m;
         holds = holds b m rule ok;
         longer = longer b m rule ok;
         later = λ h l r s.
@@ -131,7 +134,8 @@ module _ (b : List ℕ) (m rule : ℕ) (e : Accepts (instanceAnswer b m rule)) w
         accepted = λ bound. instance-iff (exchangedInstance b) m rule .1 (exchanged-clear b m rule ok bound);
         exchange = exchanged-instance b m rule ok;
         bound = exchanged-bound b m rule ok;
-        same = λ bound. again;
+        again = again;
+        reversedRows = reversed-at (agents b) m;
         reverses = reverses b m rule ok;
         restores = restores b m rule ok;
         alike = alike;
@@ -144,11 +148,11 @@ worked =
     record {
       held = refl;
       heldCost = (refl, refl);
-      heldNoMore = refl;
+      heldNoMore = λ p. refl;
       exchanged = refl;
       reversed = refl;
       reversedCost = (refl, refl);
-      turnedBack = (refl, refl);
+      turnedBack = (refl, refl, refl);
       freeRefused = (refl, refl);
     }
 

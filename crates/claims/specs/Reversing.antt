@@ -1,13 +1,15 @@
--- Holding a plan and driving it back: one claim, about the answers of the instance check and the plan check and about the formula.
--- Planners hold a plan to meet a shift's horizon, and drive it back to return empties.
+-- Holding a plan to a later horizon and driving it back: one claim, about the answers of the instance check and the plan check and about
+-- the formula.
 use mathlib.Core.Path.{_≡_}
 use mathlib.Core.Logic.{_↔_}
 use mathlib.Core.List.{List, [], _∷_}
-use Prim.Native.Nat.{ℕ, suc, _≤_, _<_}
+use Prim.Native.Nat.{ℕ, suc, _-_, _≤_, _<_}
+use lib.ListN.{length}
 use Rattle.answers.specs.Answers.{accept, refuse}
 use Rattle.instance.specs.Instance.{Instance, AllBound, noGoal, instance, agents}
 use Rattle.instance.specs.Exchanged.{exchangedInstance, Exchanged}
 use Rattle.instance.specs.Questions.{instanceAnswer}
+use Rattle.plan.specs.Plan.{Row, planBytes, planRow}
 use Rattle.plan.specs.Reversing.{heldPlan, reversedPlan}
 use Rattle.calls.specs.Calls.{checkAnswer}
 use Rattle.claims.specs.Correspondence.{Accepts}
@@ -29,26 +31,35 @@ module _ (b : List ℕ) (m rule : ℕ) where
   abbrev pub exchanged : List ℕ
   exchanged = exchangedInstance b
 
+  -- row t of a plan at this horizon
+  abbrev pub row : ℕ → List ℕ → ℕ → Row
+  row h p t = planRow (instance b h rule .sizes) p t
+
   pub record Reversing : Type 0 where
-    -- below 32, a plan that passes at m, with its last row repeated, passes at m+1
+    -- Holding. The rows of the plan, then its last row again
+    pub heldRows : (p : List ℕ) → length p ≡ planBytes (I .sizes) → (t a : ℕ) → t ≤ m → a < agents b → row (suc m) (held p) t a ≡ row m p t a
+    pub heldLast : (p : List ℕ) → length p ≡ planBytes (I .sizes) → (a : ℕ) → a < agents b → row (suc m) (held p) (suc m) a ≡ row m p m a
+    -- it passes at the next horizon, if that is at most 32
     pub holds : m < 32 → (p : List ℕ) → Accepts (checkAnswer b m rule p) → Accepts (checkAnswer b (suc m) rule (held p))
-    -- so a formula that is satisfiable at m is satisfiable at m+1, and so at every horizon from m to 32
+    -- what can be satisfied at m can be at the next horizon, and so at each one to 32
     pub longer : m < 32 → Satisfiable b m rule → Satisfiable b (suc m) rule
     pub later : (h : ℕ) → m ≤ h → h ≤ 32 → Satisfiable b m rule → Satisfiable b h rule
-    -- holding adds nothing to the cost
+    -- it costs what the plan costs
     pub sameCost : m < 32 → (p : List ℕ) → Accepts (checkAnswer b m rule p)
         → checkAnswer b (suc m) rule (held p) .second ≡ checkAnswer b m rule p .second
-    -- where every agent has a goal, the instance with starts and goals exchanged is accepted; it is what it is called, every agent has a
-    -- goal in it too, and exchanging again restores the bytes
+    -- The exchange, where every agent has a goal: it is accepted, and is the instance with starts and goals exchanged
     pub accepted : AllBound I → Accepts (instanceAnswer exchanged m rule)
     pub exchange : AllBound I → Exchanged I (instance exchanged m rule)
-    pub bound : AllBound I → AllBound (instance exchanged m rule)
-    pub same : AllBound I → exchangedInstance exchanged ≡ b
-    -- the rows of a passing plan in reverse order pass for it
+    -- every agent has a goal in it, and exchanging again gives the bytes back
+    pub bound : AllBound (instance exchanged m rule)
+    pub again : exchangedInstance exchanged ≡ b
+    -- Reversing. Row t is row m - t of the plan
+    pub reversedRows : (p : List ℕ) → length p ≡ planBytes (I .sizes) → (t a : ℕ) → t ≤ m → a < agents b → row m (reversed p) t a ≡ row m p (m - t) a
+    -- it passes for the exchange
     pub reverses : AllBound I → (p : List ℕ) → Accepts (checkAnswer b m rule p) → Accepts (checkAnswer exchanged m rule (reversed p))
-    -- reversing again restores the plan
+    -- reversing again gives the plan back
     pub restores : (p : List ℕ) → Accepts (checkAnswer b m rule p) → reversed (reversed p) ≡ p
-    -- so such an instance and its exchange are satisfiable at the same horizons
+    -- what can be satisfied at m of the one can be of the other
     pub alike : AllBound I → Satisfiable b m rule ↔ Satisfiable exchanged m rule
 
 -- ---- worked out by hand
@@ -74,14 +85,15 @@ wait = 0 ∷ 2 ∷ 1 ∷ 3 ∷ 1 ∷ 3 ∷ []
 pub record Worked : Type 0 where
   pub held : heldPlan 2 2 drive ≡ 0 ∷ 2 ∷ 0 ∷ 3 ∷ 1 ∷ 3 ∷ 1 ∷ 3 ∷ []
   pub heldCost : (checkAnswer there 2 1 drive ≡ accept 3) × (checkAnswer there 3 1 (heldPlan 2 2 drive) ≡ accept 3)
-  -- at 32 the horizon is refused
-  pub heldNoMore : checkAnswer there 33 1 (heldPlan 2 32 drive) ≡ refuse 10 0
+  -- a plan of makespan 32 cannot be held: whatever the plan, horizon 33 is refused
+  pub heldNoMore : (p : List ℕ) → checkAnswer there 33 1 p ≡ refuse 10 0
   pub exchanged : exchangedInstance there ≡ back
   pub reversed : reversedPlan 2 2 drive ≡ 1 ∷ 3 ∷ 0 ∷ 3 ∷ 0 ∷ 2 ∷ []
   -- the cost of a reversed plan may be another: waiting at the end does not count, waiting at the beginning does
   pub reversedCost : (checkAnswer there 2 1 wait ≡ accept 2) × (checkAnswer back 2 1 (reversedPlan 2 2 wait) ≡ accept 4)
   -- under rule 2 a ring turns, and turns back
   pub turnedBack : (checkAnswer triangle 1 2 (0 ∷ 1 ∷ 2 ∷ 1 ∷ 2 ∷ 0 ∷ []) ≡ accept 3)
+      × (reversedPlan 3 1 (0 ∷ 1 ∷ 2 ∷ 1 ∷ 2 ∷ 0 ∷ []) ≡ 1 ∷ 2 ∷ 0 ∷ 0 ∷ 1 ∷ 2 ∷ [])
       × (checkAnswer (exchangedInstance triangle) 1 2 (1 ∷ 2 ∷ 0 ∷ 0 ∷ 1 ∷ 2 ∷ []) ≡ accept 3)
   -- an agent without a goal would have no start
   pub freeRefused : (instanceAnswer oneFree 2 1 ≡ accept 0) × (instanceAnswer (exchangedInstance oneFree) 2 1 ≡ refuse 8 11)

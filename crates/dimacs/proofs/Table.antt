@@ -14,12 +14,12 @@ use lib.Dec.{leb}
 use lib.Signed.{ltZ}
 use lib.IntN.{ℤ, pos, negsuc, negℤ, natAbs}
 use lib.ListN.{length, getD, set, take, drop, length-append, length-take, length-drop, drop-of-length-le, take-append-drop, List·getD-eq-default}
-use lib.Seq.{drop-cons, drop-at, drop-drop, length-take-le, take-take, take-append-seam, take-append-le, take-append-add, drop-append-le, take-set-le, getD-take, getD-drop, getD-set-same, take-suc, take-suc-set, sets}
+use lib.Seq.{drop-cons, drop-at, drop-drop, length-take-le, take-take, take-append-seam, take-append-le, take-append-add, drop-append-le, take-set-le, getD-take, getD-set-same, take-suc, take-suc-set, sets}
 use Rattle.lists.specs.Loop.{for, each}
 use Rattle.lists.specs.Slice.{filled, Wrote}
 use Rattle.lists.proofs.Tests.{below-suc, leb-iff}
 use Rattle.lists.proofs.Loops.{all-getD, each-append}
-use Rattle.lists.proofs.Slices.{take-filled, filled-length, sets-filled}
+use Rattle.lists.proofs.Slices.{part-length, part-getD, take-filled, filled-length, sets-filled}
 use Rattle.decimals.specs.Decimals.{digit, digits, decimal, signed}
 use Rattle.dimacs.specs.Text.{ended, after, wordText}
 use Rattle.dimacs.specs.Table.{Begins, Entry, entryAt, entryOf, Sized, Numbers, Negatives, Texts, Within, Pairs, pairText}
@@ -231,7 +231,7 @@ module _ (texts : List ℕ) (i : ℕ) (room : 8 * i + 8 ≤ length texts) where
   pub entry-array : (f s : List ℕ) → length s ≡ 8 → f ≡ filled (take 8 (take (length texts - 8 * i) (drop (8 * i) texts))) s → f ≡ entryAt texts i
   unfolding filled entryAt
   entry-array f s e ef =
-      let n : length (take 8 (drop (8 * i) texts)) ≡ 8 = length-take-le 8 (drop (8 * i) texts) (simp length-drop (omega arith)) in
+      let n : length (take 8 (drop (8 * i) texts)) ≡ 8 = part-length texts (8 * i) 8 room in
       let z : drop 8 s ≡ [] = drop-of-length-le s (let k : length s ≤ 8 = omega arith in k) in
       ef ∙ rw (entry-part, n, z, append-nil)
 
@@ -239,7 +239,7 @@ module _ (texts : List ℕ) (i : ℕ) (room : 8 * i + 8 ≤ length texts) where
       → Begins (wordText w) f (getD texts (8 * i + 7) 0) × (getD texts (8 * i + 7) 0 ≤ 8)
   unfolding Entry entryAt
   entry-copied w f s b ef =
-      let g : getD (take 8 (drop (8 * i) texts)) 7 0 ≡ getD texts (8 * i + 7) 0 = getD-take 8 (drop (8 * i) texts) 7 0 (omega arith) ∙ getD-drop (8 * i) texts 7 0 in
+      let g : getD (take 8 (drop (8 * i) texts)) 7 0 ≡ getD texts (8 * i + 7) 0 = part-getD texts (8 * i) 8 7 0 (omega arith) in
       rw (ef, entry-part, ← g) (
         begins-filled (wordText w) (take 8 (drop (8 * i) texts)) s _ b,
         omega (arith, fits (wordText w) (take 8 (drop (8 * i) texts)) _ b, length-take 8 (drop (8 * i) texts)),

@@ -6,6 +6,7 @@ use Prim.Native.Nat.{ℕ, _+_, _*_, _^_, _≤_, _<_}
 use native.Mathlib.Omega.{arith}
 use lib.ListN.{length, getD, List·getD-append}
 use Rattle.lists.specs.Slice.{filled}
+use Rattle.lists.proofs.Slices.{part-length, part-getD}
 use Rattle.answers.proofs.Laws.{byNumber-accepted}
 use Rattle.instance.specs.declared.Sizes.{Sizes}
 use Rattle.instance.specs.declared.Checked.{Checked}
@@ -17,7 +18,7 @@ use Rattle.instance.specs.Questions.{instanceAnswer, instanceChecked}
 use Rattle.instance.specs.Accepted.{Accepted, instanceOf}
 use Rattle.instance.proofs.Goals.{goal-count-ext}
 use Rattle.instance.proofs.Edges.{edges-counted}
-use Rattle.instance.proofs.Instance.{agents-length, agents-at, instance-iff, goals-counted, endpoints, edges-known, length-known, limits, agents-below}
+use Rattle.instance.proofs.Instance.{instance-iff, goals-counted, endpoints, edges-known, length-known, limits, agents-below}
 use Rattle.instance.proofs.Neighbours.{word-below, joined-adjacent}
 
 -- the instance check's answer and checked instance, where the number is 0
@@ -46,7 +47,7 @@ module _ (b : List ℕ) (offset : ℕ) (h : agents b ≤ 16) (l : offset + agent
   pub forAgents-at : (a : ℕ) → a < agents b → getD (forAgents b offset) a 0 ≡ getD b (offset + a) 0
   unfolding forAgents filled
   forAgents-at a q =
-      List·getD-append (ofAgents b offset) _ 0 a (omega (arith, agents-length b offset l)) ∙ agents-at b offset a q
+      List·getD-append (ofAgents b offset) _ 0 a (omega (arith, part-length b offset (agents b) l)) ∙ part-getD b offset (agents b) a 0 q
 
 -- parts that are ready show an instance whose agents with a goal are counted
 pub shown-counted : (I : Instance) (s : Sizes) (starts goals near : List ℕ) → Shows I s starts goals near → Ready s starts goals near → Counted I

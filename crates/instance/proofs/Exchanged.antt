@@ -11,13 +11,14 @@ use lib.Seq.{getD-take, getD-append-add, length-take-le, ext-getD}
 use lib.Dec.{T}
 use Rattle.lists.specs.Loop.{all}
 use Rattle.lists.proofs.Tests.{and-iff, or-imp, not-iff, eqb-iff, ltb-iff, leb-iff, every-iff}
+use Rattle.lists.proofs.Slices.{part-length, part-getD}
 use Rattle.answers.specs.Answers.{clear}
 use Rattle.answers.proofs.Laws.{clear-iff, each-nil, ask-nil}
-use Rattle.instance.specs.Instance.{HasGoal, NewGoals, goalCount, AllBound, instance, vertices, agents, edges, starts, goals, lowEnd, highEnd, startOf, goalOf, ofAgents}
+use Rattle.instance.specs.Instance.{HasGoal, goalCount, AllBound, instance, vertices, agents, edges, starts, goals, lowEnd, highEnd, startOf, goalOf, ofAgents}
 use Rattle.instance.specs.Exchanged.{exchangedInstance, Exchanged}
 use Rattle.instance.specs.Questions.{instanceQuestions}
 use Rattle.instance.proofs.Goals.{goal-count-all}
-use Rattle.instance.proofs.Instance.{agents-length, agents-at, goals-new, length-known, limits, endpoints}
+use Rattle.instance.proofs.Instance.{length-known, limits, endpoints}
 
 -- ---- bytes of the length that question 5 asks
 module _ (b : List ℕ) (long : length b ≡ 4 + 2 * edges b + 2 * agents b) where
@@ -28,10 +29,10 @@ module _ (b : List ℕ) (long : length b ≡ 4 + 2 * edges b + 2 * agents b) whe
   front = length-take-le (starts b) b (omega arith)
 
   the-starts : length (ofAgents b (starts b)) ≡ agents b
-  the-starts = agents-length b (starts b) (omega arith)
+  the-starts = part-length b (starts b) (agents b) (omega arith)
 
   the-goals : length (ofAgents b (goals b)) ≡ agents b
-  the-goals = agents-length b (goals b) (omega arith)
+  the-goals = part-length b (goals b) (agents b) (omega arith)
 
   -- what stands behind the edges
   abbrev back : List ℕ
@@ -62,7 +63,7 @@ module _ (b : List ℕ) (long : length b ≡ 4 + 2 * edges b + 2 * agents b) whe
   at-starts a l =
       behind a
       ∙ List·getD-append (ofAgents b (goals b)) (ofAgents b (starts b)) 0 a (omega (arith, the-goals))
-      ∙ agents-at b (goals b) a l
+      ∙ part-getD b (goals b) (agents b) a 0 l
 
   at-goals : (a : ℕ) → a < agents b → getD c (goals b + a) 0 ≡ startOf b a
   at-goals a l =
@@ -70,7 +71,7 @@ module _ (b : List ℕ) (long : length b ≡ 4 + 2 * edges b + 2 * agents b) whe
       ap (λ (x : ℕ). getD c x 0) e
       ∙ behind (length (ofAgents b (goals b)) + a)
       ∙ getD-append-add (ofAgents b (goals b)) (ofAgents b (starts b)) a 0
-      ∙ agents-at b (starts b) a l
+      ∙ part-getD b (starts b) (agents b) a 0 l
 
   -- so do the sizes and the edges
   pub same-vertices : vertices c ≡ vertices b
@@ -129,21 +130,13 @@ exchanged-twice b long =
     ∙ starts-goals b long a (omega arith)
     ∙ ap (λ (x : ℕ). getD b x 0) e′)))
 
--- ---- an accepted instance all of whose agents have a goal
-module _ (b : List ℕ) (m rule : ℕ) (ok : T (all clear (instanceQuestions b m rule))) (bound : AllBound (instance b m rule)) where
+-- ---- an accepted instance
+module _ (b : List ℕ) (m rule : ℕ) (ok : T (all clear (instanceQuestions b m rule))) where
   abbrev d : List ℕ
   d = exchangedInstance b
 
   long : length b ≡ 4 + 2 * edges b + 2 * agents b
   long = length-known b m rule ok
-
-  has : (a : ℕ) → a < agents b → HasGoal (goalOf b a)
-  unfolding instance
-  has = bound
-
-  new-goals : NewGoals b
-  unfolding instanceQuestions
-  new-goals = goals-new b .0 ((simp and-iff at ok) .1 .1 .1 .1 .1 .1 .1 .1 .0)
 
   -- the goals of d are the starts of b, and so below n
   pub exchanged-bound : AllBound (instance d m rule)
@@ -152,62 +145,69 @@ module _ (b : List ℕ) (m rule : ℕ) (ok : T (all clear (instanceQuestions b m
       let r : a < agents b = omega (arith, same-agents b long) in
       omega (arith, limits b m rule ok .n-most, endpoints b m rule ok .startsInside a r, sym (goals-starts b long a r) ∙ e)
 
-  pub exchanged-instance : Exchanged (instance b m rule) (instance d m rule)
-  unfolding instance
-  exchanged-instance =
-      let n = same-vertices b long in
-      let k = same-agents b long in
-      let e = same-edges b long in
-      let g : goalCount (agents d) (goalOf d) ≡ goalCount (agents b) (goalOf b) =
-      goal-count-all (goalOf d) (agents d) exchanged-bound ∙ k ∙ sym (goal-count-all (goalOf b) (agents b) has) in
-      record {
-        sizes = rw (g, n, k, e);
-        lows = same-low b long;
-        highs = same-high b long;
-        starts = starts-goals b long;
-        goals = goals-starts b long;
-      }
+  -- all of whose agents have a goal
+  module _ (bound : AllBound (instance b m rule)) where
+    has : (a : ℕ) → a < agents b → HasGoal (goalOf b a)
+    unfolding instance
+    has = bound
 
-  -- all questions are answered yes: 8 since the goals differ, 9 since the starts do
-  pub exchanged-clear : T (all clear (instanceQuestions d m rule))
-  unfolding instanceQuestions
-  exchanged-clear =
-      let (q1, (q2, (q3, (q4, (q5, (q6, (q7, (q8, (q9, rest))))))))) =
-      simp (and-iff, or-imp, clear-iff, each-nil, ask-nil, every-iff, not-iff, eqb-iff, ltb-iff, leb-iff) at ok in
-      let n = same-vertices b long in
-      let k = same-agents b long in
-      let e = same-edges b long in
-      let lo = same-low b long in
-      let hi = same-high b long in
-      let s = starts-goals b long in
-      let g = goals-starts b long in
-      let edge : (j : ℕ) → j < edges d → j < edges b = λ j l. omega arith in
-      let agent : (a : ℕ) → a < agents d → a < agents b = λ a l. omega arith in
-      simp (and-iff, or-imp, clear-iff, each-nil, ask-nil, every-iff, not-iff, eqb-iff, ltb-iff, leb-iff) (
-        rw (same-length b long) q1,
-        (
-          rw n q2,
+    pub exchanged-instance : Exchanged (instance b m rule) (instance d m rule)
+    unfolding instance
+    exchanged-instance =
+        let n = same-vertices b long in
+        let k = same-agents b long in
+        let e = same-edges b long in
+        let g : goalCount (agents d) (goalOf d) ≡ goalCount (agents b) (goalOf b) =
+        goal-count-all (goalOf d) (agents d) exchanged-bound ∙ k ∙ sym (goal-count-all (goalOf b) (agents b) has) in
+        record {
+          sizes = rw (g, n, k, e);
+          lows = same-low b long;
+          highs = same-high b long;
+          starts = starts-goals b long;
+          goals = goals-starts b long;
+        }
+
+    -- all questions are answered yes: 8 since the goals differ, 9 since the starts do
+    pub exchanged-clear : T (all clear (instanceQuestions d m rule))
+    unfolding instanceQuestions
+    exchanged-clear =
+        let (q1, (q2, (q3, (q4, (q5, (q6, (q7, (q8, (q9, rest))))))))) =
+        simp (and-iff, or-imp, clear-iff, each-nil, ask-nil, every-iff, not-iff, eqb-iff, ltb-iff, leb-iff) at ok in
+        let n = same-vertices b long in
+        let k = same-agents b long in
+        let e = same-edges b long in
+        let lo = same-low b long in
+        let hi = same-high b long in
+        let s = starts-goals b long in
+        let g = goals-starts b long in
+        let edge : (j : ℕ) → j < edges d → j < edges b = λ j l. omega arith in
+        let agent : (a : ℕ) → a < agents d → a < agents b = λ a l. omega arith in
+        simp (and-iff, or-imp, clear-iff, each-nil, ask-nil, every-iff, not-iff, eqb-iff, ltb-iff, leb-iff) (
+          rw (same-length b long) q1,
           (
-            rw (n, k) q3,
+            rw n q2,
             (
-              rw (n, e) q4,
+              rw (n, k) q3,
               (
-                exchanged-long b long,
+                rw (n, e) q4,
                 (
-                  (λ j l. rw (n, lo j (edge j l), hi j (edge j l)) (q6 j (edge j l))),
+                  exchanged-long b long,
                   (
-                    (λ i l.
-                        let r : i < edges b - 1 = omega arith in
-                        rw (lo i (omega arith), lo (suc i) (omega arith), hi i (omega arith), hi (suc i) (omega arith)) (q7 i r)),
+                    (λ j l. rw (n, lo j (edge j l), hi j (edge j l)) (q6 j (edge j l))),
                     (
-                      (λ a l.
-                          let (x, y) = new-goals a (agent a l) (has a (agent a l)) in
-                          (rw (n, s a (agent a l)) x, λ c o. rw (s a (agent a l), s c (omega arith)) (y c o (has c (omega arith))))),
+                      (λ i l.
+                          let r : i < edges b - 1 = omega arith in
+                          rw (lo i (omega arith), lo (suc i) (omega arith), hi i (omega arith), hi (suc i) (omega arith)) (q7 i r)),
                       (
-                        (λ a l h.
-                            let (x, y) = q8 a (agent a l) in
-                            (rw (n, g a (agent a l)) x, λ c o. rw (g a (agent a l), g c (omega arith)) (y c o))),
-                        rest,
+                        (λ a l.
+                            let (x, y) = q9 a (agent a l) (has a (agent a l)) in
+                            (rw (n, s a (agent a l)) x, λ c o. rw (s a (agent a l), s c (omega arith)) (y c o))),
+                        (
+                          (λ a l h.
+                              let (x, y) = q8 a (agent a l) in
+                              (rw (n, g a (agent a l)) x, λ c o. rw (g a (agent a l), g c (omega arith)) (y c o))),
+                          rest,
+                        ),
                       ),
                     ),
                   ),
@@ -215,5 +215,4 @@ module _ (b : List ℕ) (m rule : ℕ) (ok : T (all clear (instanceQuestions b m
               ),
             ),
           ),
-        ),
-      )
+        )

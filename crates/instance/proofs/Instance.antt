@@ -5,26 +5,17 @@ use mathlib.Core.List.{List, _++_}
 use Prim.Native.Nat.{ℕ, suc, _+_, _*_, _-_, _≤_, _<_}
 use native.Mathlib.Nat.{mul-le-mul}
 use native.Mathlib.Omega.{arith}
-use lib.ListN.{length, getD, drop, length-drop}
-use lib.Seq.{getD-drop, getD-take, length-take-le}
+use lib.ListN.{length}
 use lib.Dec.{T, ltb}
 use Rattle.lists.specs.Loop.{all}
 use Rattle.lists.proofs.Tests.{and-iff, or-iff, or-imp, not-iff, eqb-iff, ltb-iff, leb-iff, every-iff}
 use Rattle.answers.specs.declared.Answer.{Answer}
 use Rattle.answers.specs.Answers.{Question, decide, clear}
 use Rattle.answers.proofs.Laws.{numbered, clear-iff, each-all, each-nil, decide-iff, decide-after, decide-refused, ask-nil, ask-all}
-use Rattle.instance.specs.Instance.{NewGoals, instance, vertices, agents, edges, lowEnd, startOf, goalOf, ofAgents, Edges, Endpoints, Counted}
+use Rattle.instance.specs.Instance.{NewGoals, instance, vertices, agents, edges, lowEnd, startOf, goalOf, Edges, Endpoints, Counted}
 use Rattle.instance.specs.Limits.{Limits}
 use Rattle.instance.specs.Questions.{question9, instanceQuestions, instanceAnswer}
 use Rattle.instance.proofs.Goals.{goal-count-most}
-
--- the starts or the goals, k bytes
-module _ (b : List ℕ) (offset : ℕ) where
-  pub agents-length : offset + agents b ≤ length b → length (ofAgents b offset) ≡ agents b
-  agents-length l = length-take-le (agents b) (drop offset b) (simp length-drop (omega arith))
-
-  pub agents-at : (a : ℕ) → a < agents b → getD (ofAgents b offset) a 0 ≡ getD b (offset + a) 0
-  agents-at a l = getD-take (agents b) (drop offset b) a 0 l ∙ getD-drop offset b a 0
 
 -- question 9 is answered yes exactly where each goal there is is a vertex, and unlike the earlier ones there are
 pub goals-new : (b : List ℕ) → T (clear (question9 b)) ↔ NewGoals b

@@ -136,7 +136,7 @@ module _ (I : Instance) where
     pub ends : (j : ℕ) → j < e → (low j < high j) × (high j < n)
     pub order : (i : ℕ) → suc i < e → (low i < low (suc i)) ⊎ ((low i ≡ low (suc i)) × (high i < high (suc i)))
 
-  -- what questions 8 and 9 say of the starts and of the goals there are; that the goals differ is not needed
+  -- what questions 8 and 9 say of the starts and of the goals there are, but for that the goals differ: only their exchange needs it
   pub record Endpoints : Type 0 where
     pub startsInside : (a : ℕ) → a < k → start a < n
     pub startsApart : (a : ℕ) → a < k → (b : ℕ) → b < a → start b ≢ start a

@@ -8,13 +8,20 @@ use native.Mathlib.Numerals.{add-one}
 use native.Mathlib.Omega.{arith}
 use borrow.Rule.Slice.PartMut.{putMid}
 use lib.ListN.{length, getD, replicate, take, drop, set, length-set, length-append, length-take, length-drop, drop-of-length-le, take-append-drop}
-use lib.Seq.{drop-cons, set-at, take-at, drop-at, drop-drop, take-all, sets, sets-eq, take-append-seam, drop-append-seam}
+use lib.Seq.{getD-take, getD-drop, length-take-le, drop-cons, set-at, take-at, drop-at, drop-drop, take-all, sets, sets-eq, take-append-seam, drop-append-seam}
 use lib.Arith.{le-zero}
 use Rattle.lists.specs.Loop.{for, each}
 use Rattle.lists.specs.Slice.{filled, Wrote}
 use Rattle.lists.proofs.Loops.{each-for, for-nil}
 
 module _ {A : Type 0} where
+  -- n elements from an offset on
+  pub part-length : (l : List A) (from n : ℕ) → from + n ≤ length l → length (take n (drop from l)) ≡ n
+  part-length l from n h = length-take-le n (drop from l) (simp length-drop (omega arith))
+
+  pub part-getD : (l : List A) (from n i : ℕ) (d : A) → i < n → getD (take n (drop from l)) i d ≡ getD l (from + i) d
+  part-getD l from n i d h = getD-take n (drop from l) i d h ∙ getD-drop from l i d
+
   pub filled-nil : (s : List A) → filled [] s ≡ s
   unfolding filled
   filled-nil s = refl

@@ -7,12 +7,13 @@ use Prim.Native.Nat.{ℕ, suc, _+_, _*_, _-_, _≤_, _<_}
 use native.Mathlib.Nat.{suc-mul, mul-le-mul-right, le-refl}
 use native.Mathlib.Decide.{ℕ-discrete}
 use native.Mathlib.Omega.{arith}
-use lib.ListN.{length, getD, drop, length-append, length-drop, List·getD-append}
-use lib.Seq.{getD-drop, getD-take, getD-append-add, length-take-le}
+use lib.ListN.{length, getD, length-append, List·getD-append}
+use lib.Seq.{getD-append-add}
 use Rattle.lists.specs.Loop.{for, sum}
 use Rattle.lists.proofs.Loops.{for-length, for-getD}
 use Rattle.lists.proofs.Blocks.{place-lt, place-split}
 use Rattle.lists.proofs.Sums.{sum-ext}
+use Rattle.lists.proofs.Slices.{part-length, part-getD}
 use Rattle.instance.specs.declared.Sizes.{Sizes}
 use Rattle.instance.specs.Instance.{Instance, following, Edge, Endpoints, AllBound}
 use Rattle.instance.specs.Exchanged.{Exchanged}
@@ -27,11 +28,11 @@ use Rattle.plan.proofs.Steps.{Apart, rows-apart}
 module _ (k m : ℕ) (p : List ℕ) (size : length p ≡ suc m * k) where
   row-length : (t : ℕ) → t ≤ m → length (rowBytes k p t) ≡ k
   row-length t l =
-      length-take-le k (drop (t * k) p)
-      (simp length-drop (let h : suc t * k ≤ suc m * k = mul-le-mul-right k (omega arith) in omega (arith, suc-mul t k, size)))
+      let h : suc t * k ≤ suc m * k = mul-le-mul-right k (omega arith) in
+      part-length p (t * k) k (omega (arith, suc-mul t k, size))
 
   row-at : (t a : ℕ) → a < k → getD (rowBytes k p t) a 0 ≡ getD p (t * k + a) 0
-  row-at t a l = getD-take k (drop (t * k) p) a 0 l ∙ getD-drop (t * k) p a 0
+  row-at t a l = part-getD p (t * k) k a 0 l
 
   -- the plan, and behind it its row u
   behind-size : (u : ℕ) → u ≤ m → length (p ++ rowBytes k p u) ≡ suc (suc m) * k
@@ -111,7 +112,8 @@ module _ (I : Instance) where
   step-held : (row : Row) → Apart k row → ValidStep I row row
   step-held row o = record { crosses = λ a l. inl refl; second = second-held row (following sizes); apart = o }
 
-  -- A step taken back. Under rule 1 nobody stays on the vertex that an agent goes back to, since agents stood apart, and nobody came to it.
+  -- A step taken back. Under rule 1 nobody stays on the vertex that an agent goes back to, since agents stood apart, and nobody came to
+  -- it, since that agent stood there.
   second-back : (here next : Row) → Apart k here → (f : Bool) → Second I here next f → Second I next here f
   second-back here next o false h = λ a l d b r e.
       by-cases (ℕ-discrete (here b) (next b))

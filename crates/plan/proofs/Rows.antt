@@ -6,11 +6,13 @@ use Prim.Native.Nat.{ℕ, zero, suc, _+_, _*_, _-_, _≤_, _<_}
 use native.Mathlib.Nat.{suc-mul, mul-le-mul-right}
 use native.Mathlib.Numerals.{add-one}
 use native.Mathlib.Omega.{arith}
-use lib.ListN.{length, getD, take, drop, length-drop}
-use lib.Seq.{getD-drop, getD-take, length-take-le, ext-getD}
+use lib.ListN.{length, getD, take, drop}
+use lib.Seq.{ext-getD}
 use lib.Dec.{eqb}
 use Rattle.lists.proofs.Tests.{every-ext}
 use Rattle.lists.proofs.Blocks.{place-split}
+use Rattle.lists.proofs.Slices.{part-getD}
+use Rattle.lists.proofs.Slices as parts
 use Rattle.answers.specs.Fault.{FirstFault}
 use Rattle.answers.proofs.Faults.{fault-ext}
 use Rattle.instance.specs.declared.Sizes.{Sizes}
@@ -46,10 +48,10 @@ plan-ext k m p q lp lq e =
 
 -- ---- a row as the part of the bytes from one offset to another
 pub part-length : (p : List ℕ) (from to : ℕ) → from ≤ to → to ≤ length p → length (take (to - from) (drop from p)) ≡ to - from
-part-length p from to h l = length-take-le (to - from) (drop from p) (simp length-drop (omega arith))
+part-length p from to h l = parts.part-length p from (to - from) (omega arith)
 
 pub part-at : (p : List ℕ) (from to a : ℕ) → a < to - from → row (take (to - from) (drop from p)) a ≡ getD p (from + a) 0
-part-at p from to a l = getD-take (to - from) (drop from p) a 0 l ∙ getD-drop from p a 0
+part-at p from to a l = part-getD p from (to - from) a 0 l
 
 -- a bound on all bytes is one on a part
 pub part-below : (p : List ℕ) (x : ℕ) → ((i : ℕ) → i < length p → getD p i 0 < x) → (from to : ℕ) → from ≤ to → to ≤ length p

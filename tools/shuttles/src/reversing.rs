@@ -22,7 +22,7 @@ pub fn hold(instance: &str, horizon: &str, until: &str, rule: Rule, plan: &[&str
 pub fn reverse(instance: &str, horizon: &str, rule: Rule, plan: &[&str]) -> Outcome {
     let back = |map: Map, horizon: Horizon, plan: Vec<u8>| {
         let plan = reversed(map.agents(), &plan);
-        Ok((exchanged(map)?, horizon, plan))
+        Ok((exchanged(map, instance)?, horizon, plan))
     };
     turned(instance, horizon, rule, plan, back)
 }
@@ -34,7 +34,7 @@ pub fn exchange(instance: &str) -> Outcome {
     if let Err(answer) = size::formula(&map, &horizon, rule) {
         return refused_aside(answer, about(&map, &horizon, rule));
     }
-    Ok((exchanged(map)?.bytes, DONE))
+    Ok((exchanged(map, instance)?.bytes, DONE))
 }
 
 /// The numbers of the plan that is made of a passing one, where it passes too.
@@ -72,10 +72,10 @@ fn reversed(k: usize, plan: &[u8]) -> Vec<u8> {
     plan.chunks(k).rev().flatten().copied().collect()
 }
 
-/// An accepted instance with starts and goals exchanged: every agent must have a goal.
-fn exchanged(map: Map) -> Result<Map, Error> {
+/// An accepted instance from a file, with starts and goals exchanged: every agent must have a goal.
+fn exchanged(map: Map, path: &str) -> Result<Map, Error> {
     if let Some(a) = (0..map.agents()).find(|&a| map.is_free(a)) {
-        return Err(Kind::NoWayBack.with(map.agent(a)));
+        return Err(Kind::NoWayBack.with(map.agent(a)).in_file(path));
     }
     let (front, ends) = map.bytes.split_at(map.start_offset());
     let (starts, goals) = ends.split_at(map.agents());
@@ -118,16 +118,16 @@ mod tests {
         let map = description::map("grid 1 4\nagent 0 1\nagent 2 3").unwrap();
         let there = map.bytes.clone();
         assert_eq!(there, [4, 2, 3, 0, 0, 1, 2, 1, 2, 3, 0, 2, 1, 3]);
-        let back = exchanged(map).ok().unwrap();
+        let back = exchanged(map, "").ok().unwrap();
         assert_eq!(back.bytes, [4, 2, 3, 0, 0, 1, 2, 1, 2, 3, 1, 3, 0, 2]);
-        assert_eq!(exchanged(back).ok().unwrap().bytes, there);
+        assert_eq!(exchanged(back, "").ok().unwrap().bytes, there);
     }
 
     #[test]
     fn an_agent_without_a_destination_has_no_way_back() {
         let map = description::map("grid 1 4\nagent 0 1\nagent 2 -").unwrap();
-        let error = exchanged(map).err().unwrap();
+        let error = exchanged(map, "a/path").err().unwrap();
         assert_eq!(error.kind, Kind::NoWayBack);
-        assert!(error.to_string().ends_with(": agent 1 (line 3)"));
+        assert!(error.to_string().ends_with(": agent 1 (line 3): a/path"));
     }
 }

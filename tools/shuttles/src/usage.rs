@@ -19,8 +19,8 @@ shuttles refusal NUMBER PLACE [INSTANCE [M]]   plain words for a refusal
 INSTANCE is a file of instance bytes, or a description: a file that is text throughout is a description.
 A PLAN is numbers, row by row: the vertex of each agent at time 0, then at time 1, and so on.
 PLAN - reads the numbers from standard input. `decode --numbers`, `hold` and `reverse` write a plan in this form.
-`hold` and `reverse` take a plan that passes, and what they write was checked: a held plan at horizon H, at the same cost;
-a reversed plan for the instance that `exchange` writes, for which every agent must have a destination.
+`hold` and `reverse` take a plan that passes, and the library checks what they write: a held plan at horizon H, a reversed
+one for the instance that `exchange` writes, where every agent must have a destination.
 A command that takes M also takes --rule R, the movement rule, which is 1 where it is not given. Under rule 1 an agent
 enters only a vertex on which none stood as the step began. Under rule 2 it may follow another, into a vertex that this
 one leaves in the same step, but no two agents exchange vertices. What is said of rule 2 names it. The formula program
