@@ -5,3 +5,4 @@ pub mod Size
 pub mod Text
 pub mod Valuation
 pub mod Goals
+pub mod Ceiling

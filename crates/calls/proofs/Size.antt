@@ -1,22 +1,21 @@
 -- The size of any formula, and its writer.
-use mathlib.Core.Path.{_≡_, refl, sym, _∙_, ap}
+use mathlib.Core.Path.{_≡_, sym, _∙_, ap, ap₂, subst}
 use mathlib.Core.Logic.{_≢_, by-cases}
-use mathlib.Core.List.{List, [], _∷_}
+use mathlib.Core.List.{List, [], _∷_, _++_}
 use Prim.Native.Nat.{ℕ, _≤_, _<_}
 use native.Mathlib.Decide.{decLt}
 use native.Mathlib.Omega.{arith}
 use lib.ListN.{length}
-use lib.Dec.{leb}
+use lib.Dec.{T, leb}
+use Rattle.lists.specs.Loop.{all}
 use Rattle.lists.proofs.Tests.{leb-iff}
 use Rattle.answers.specs.declared.Answer.{Answer}
-use Rattle.answers.specs.Answers.{refuse, accept, decide, withClauses}
-use Rattle.answers.proofs.Laws.{ask-yes, ask-no, asked-all, count-free, decide-count, no-clauses}
-use Rattle.instance.specs.Instance.{Instance, instance}
-use Rattle.instance.specs.Questions.{instanceAnswer}
-use Rattle.instance.proofs.Instance.{instance-iff, first-refused, first-passed}
+use Rattle.answers.specs.declared.Size.{Size}
+use Rattle.answers.specs.Answers.{Question, refuse, accept, decide, withClauses}
+use Rattle.answers.proofs.Laws.{numbered, ask-yes, ask-no, asked-all, count-free, decide-iff, decide-after, decide-refused, decide-count, no-clauses}
 use Rattle.formula.specs.Formula.{Formula, words}
 use Rattle.calls.specs.Questions.{question12}
-use Rattle.calls.specs.Calls.{writeRest, sizeQuestions, sizeAnswer, writeAnswer}
+use Rattle.calls.specs.Calls.{writeRest}
 
 -- 12, where so many words are needed, for a slice with so much room
 module _ (needed room : ℕ) where
@@ -33,27 +32,33 @@ module _ (needed room : ℕ) where
       (λ l. let x : ⊥ = omega (arith, z, ap (λ (a : Answer). a .number) (e ∙ sym (stop-12 l))) in absurd x)
       (λ l. omega arith)
 
--- the answers, by that of the instance check
-module _ (f : Instance → Formula) (b : List ℕ) (m rule : ℕ) where
-  abbrev asked : Formula
-  asked = f (instance b m rule)
+-- the answers for a formula F, by that of the questions qs that are asked first
+module _ (qs : List Question) (ok : T (all numbered qs)) (F : Formula) where
+  abbrev pub sizeOf : Size
+  sizeOf = withClauses (decide qs (length (words F))) (length (F .clauses))
 
-  pub size-refused : instanceAnswer b m rule .number ≢ 0 → withClauses (instanceAnswer b m rule) 0 ≡ sizeAnswer f b m rule
-  unfolding sizeAnswer instanceAnswer
+  pub size-refused : decide qs 0 .number ≢ 0 → withClauses (decide qs 0) 0 ≡ sizeOf
   size-refused d =
-      no-clauses (instanceAnswer b m rule) (length (asked .clauses)) d
-      ∙ ap (λ (a : Answer). withClauses a (length (asked .clauses))) (count-free (sizeQuestions b m rule) 0 (length (words asked)) d)
+      no-clauses (decide qs 0) (length (F .clauses)) d
+      ∙ ap (λ (a : Answer). withClauses a (length (F .clauses))) (count-free qs 0 (length (words F)) d)
 
-  pub size-accepted : instanceAnswer b m rule .number ≡ 0 → withClauses (accept (length (words asked))) (length (asked .clauses)) ≡ sizeAnswer f b m rule
-  unfolding sizeAnswer
+  pub size-accepted : decide qs 0 .number ≡ 0 → withClauses (accept (length (words F))) (length (F .clauses)) ≡ sizeOf
   size-accepted e =
-      ap (λ (a : Answer). withClauses a (length (asked .clauses)))
-      (sym (decide-count (sizeQuestions b m rule) (length (words asked)) (instance-iff b m rule .0 e)))
+      ap (λ (a : Answer). withClauses a (length (F .clauses)))
+      (sym (decide-count qs (length (words F)) (decide-iff qs 0 ok .0 e)))
 
-  pub write-refused : instanceAnswer b m rule .number ≢ 0 → (room : ℕ) → instanceAnswer b m rule ≡ writeAnswer f b m rule room
-  unfolding writeAnswer
-  write-refused d room = first-refused b m rule _ refl (writeRest asked room) 0 d
+  -- the answer of a function that asks them
+  module _ (a : Answer) (ea : a ≡ decide qs 0) where
+    pub size-refuses : a .number ≢ 0 → withClauses a 0 ≡ sizeOf
+    size-refuses d = ap (λ (x : Answer). withClauses x 0) ea ∙ size-refused (subst (λ (x : Answer). x .number ≢ 0) ea d)
 
-  pub write-passed : instanceAnswer b m rule .number ≡ 0 → (room : ℕ) → decide (writeRest asked room) 0 ≡ writeAnswer f b m rule room
-  unfolding writeAnswer
-  write-passed e room = first-passed b m rule _ refl (writeRest asked room) 0 e
+    pub size-accepts : a .number ≡ 0 → (x y : ℕ) → length (words F) ≡ x → length (F .clauses) ≡ y → withClauses (accept x) y ≡ sizeOf
+    size-accepts o x y ex ey =
+        ap₂ (λ (i j : ℕ). withClauses (accept i) j) (sym ex) (sym ey) ∙ size-accepted (sym (ap (λ (x : Answer). x .number) ea) ∙ o)
+
+  module _ (room : ℕ) where
+    pub write-refused : decide qs 0 .number ≢ 0 → decide qs 0 ≡ decide (qs ++ writeRest F room) 0
+    write-refused d = sym (decide-refused qs (writeRest F room) 0 0 d)
+
+    pub write-passed : decide qs 0 .number ≡ 0 → decide (writeRest F room) 0 ≡ decide (qs ++ writeRest F room) 0
+    write-passed e = sym (decide-after qs (writeRest F room) 0 (decide-iff qs 0 ok .0 e))

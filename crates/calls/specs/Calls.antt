@@ -49,18 +49,18 @@ module _ (I : Instance) where
   abbrev pub checkRest : List ℕ → List Question
   checkRest p = question13 I p ∷ planQuestions I p
 
+  -- of a formula f, the base formula or the one with a ceiling:
   -- the decoder: 14, 15, 23, 24
-  abbrev pub decodeRest : List ℤ → ℕ → List Question
-  decodeRest entries room =
-      question14 (formula I) entries ∷ question15 I room ∷ question23 (formula I) entries ∷ question24 (formula I) entries ∷ []
+  abbrev pub decodeRest : Formula → List ℤ → ℕ → List Question
+  decodeRest f entries room = question14 f entries ∷ question15 I room ∷ question23 f entries ∷ question24 f entries ∷ []
 
   -- the encoder: 13, 16 to 22
-  abbrev pub encodeRest : List ℕ → ℕ → List Question
-  encodeRest p room = question13 I p ∷ question16 (formula I) room ∷ planQuestions I p
+  abbrev pub encodeRest : Formula → List ℕ → ℕ → List Question
+  encodeRest f p room = question13 I p ∷ question16 f room ∷ planQuestions I p
 
-  -- the reader: 16, 27 to 29
-  abbrev pub readRest : List ℕ → ℕ → List Question
-  readRest text room = question16 (formula I) room ∷ textQuestions (formula I .variables) text
+-- the reader: 16, 27 to 29
+abbrev pub readRest : Formula → List ℕ → ℕ → List Question
+readRest f text room = question16 f room ∷ textQuestions (f .variables) text
 
 -- ---- the size and the writer of one formula for each instance, f: the base formula or the pruned one
 -- the size call: 1 to 10, 31
@@ -112,7 +112,7 @@ module _ (b : List ℕ) (m rule : ℕ) where
 
   -- ---- the decoder: 1 to 10, 31, 14, 15, 23, 24
   abbrev pub decodeQuestions : List ℤ → ℕ → List Question
-  decodeQuestions entries room = instanceQuestions b m rule ++ decodeRest I entries room
+  decodeQuestions entries room = instanceQuestions b m rule ++ decodeRest I base entries room
 
   unfoldable pub decodeAnswer : List ℤ → ℕ → Answer
   decodeAnswer entries room = decide (decodeQuestions entries room) (planBytes (I .sizes))
@@ -122,7 +122,7 @@ module _ (b : List ℕ) (m rule : ℕ) where
 
   -- ---- the encoder: 1 to 10, 31, 13, 16 to 22
   abbrev pub encodeQuestions : List ℕ → ℕ → List Question
-  encodeQuestions p room = instanceQuestions b m rule ++ encodeRest I p room
+  encodeQuestions p room = instanceQuestions b m rule ++ encodeRest I base p room
 
   unfoldable pub encodeAnswer : List ℕ → ℕ → Answer
   encodeAnswer p room = decide (encodeQuestions p room) (base .variables)
@@ -132,7 +132,7 @@ module _ (b : List ℕ) (m rule : ℕ) where
 
   -- ---- the reader: 1 to 10, 31, 16, 27 to 29
   abbrev pub readQuestions : List ℕ → ℕ → List Question
-  readQuestions text room = instanceQuestions b m rule ++ readRest I text room
+  readQuestions text room = instanceQuestions b m rule ++ readRest base text room
 
   unfoldable pub readAnswer : List ℕ → ℕ → Answer
   readAnswer text room = decide (readQuestions text room) (base .variables)

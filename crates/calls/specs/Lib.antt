@@ -1,2 +1,3 @@
 pub mod Questions
 pub mod Calls
+pub mod Ceiling

@@ -11,7 +11,7 @@ use Rattle.instance.specs.declared.Sizes.{Sizes}
 use Rattle.instance.specs.Instance.{Instance, following, adjacent}
 use Rattle.distances.specs.Distance.{reachable}
 use Rattle.formula.specs.Formula.{Formula}
-use Rattle.plan.specs.Plan.{Row, planBytes, planIndex, planRow, condition1, condition2, condition3, atGoal, Leaving, stays, exchanges, movesOn, occupantLeaves}
+use Rattle.plan.specs.Plan.{Row, cost, planBytes, planIndex, planRow, condition1, condition2, condition3, atGoal, Leaving, stays, exchanges, movesOn, occupantLeaves}
 use Rattle.valuation.specs.Valuation.{rightEntry, satisfied?}
 use Rattle.solver_text.specs.Text.{lines}
 use Rattle.solver_text.specs.Form.{textMost, rightLine, offset, complete?, satisfiable?, statusPlace, given, times}
@@ -113,3 +113,11 @@ module _ (N : ℕ) (text : List ℕ) where
 -- `place` is the offset of the first goal.
 abbrev pub question30 : ℕ → (ℕ → ℕ) → ℕ → Question
 question30 k d place = askEach k (λ a. reachable (d a)) λ a. refuse 30 (place + a)
+
+-- Is the ceiling at most 128?
+abbrev pub question32 : ℕ → Question
+question32 c = ask (leb c 128) (refuse 32 0)
+
+-- Does the plan cost at most c?
+abbrev pub question33 : ℕ → Instance → List ℕ → Question
+question33 c I p = ask (leb (cost (I .sizes) p) c) (refuse 33 (cost (I .sizes) p))

@@ -1,0 +1,5 @@
+pub mod Tree
+pub mod Entries
+pub mod Counts
+pub mod Base
+pub mod Ceiling

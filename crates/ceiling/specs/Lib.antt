@@ -1,0 +1,3 @@
+pub mod Tree
+pub mod Ceiling
+pub mod Encoded
