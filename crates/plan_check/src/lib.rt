@@ -176,7 +176,7 @@ pub fn ask_plan(s: Sizes, starts: &[u8; 16], goals: &[u8; 16], near: &[u64; 64],
 }
 
 // The time until rest of agent a in the first `rows` rows: where its last move there ends, or 0.
-fn rest_time(s: Sizes, p: &[u8], rows: usize, a: usize) -> usize
+pub fn rest_time(s: Sizes, p: &[u8], rows: usize, a: usize) -> usize
     requires { ⌜ (length (now p) ≡ planBytes s) × (rows ≤ s .m + 1) × (a < s .k) ⌝ }
     ensures { λ r. ⌜ r ≡ restTime (rows - 1) (planRow s (now (p .entry))) a ⌝ }
 {
@@ -195,7 +195,7 @@ fn rest_time(s: Sizes, p: &[u8], rows: usize, a: usize) -> usize
 }
 
 // The plan's cost: the sum of its agents' times until rest.
-fn plan_cost(s: Sizes, p: &[u8]) -> usize
+pub fn plan_cost(s: Sizes, p: &[u8]) -> usize
     requires { ⌜ Limits s ⌝ }
     requires { ⌜ length (now p) ≡ planBytes s ⌝ }
     ensures { λ r. ⌜ r ≡ cost s (now (p .entry)) ⌝ }

@@ -92,7 +92,7 @@ fn tally_row(entries: &[i32], base: usize, n: usize) -> Tally
 }
 
 // The first entry from `low` on that is not its variable's negative nor, where that is asked too, its variable; or `end`.
-fn stop_from(entries: &[i32], low: usize, end: usize, both: bool) -> usize
+pub fn stop_from(entries: &[i32], low: usize, end: usize, both: bool) -> usize
     requires { ⌜ (low ≤ end) × (end ≤ length (now entries)) × (end ≤ highest) ⌝ }
     ensures { λ r. ⌜ Stop (λ i. (both && says (now (entries .entry)) i) || denies (now (entries .entry)) i) low end r ⌝ }
 {
