@@ -10,7 +10,7 @@ use Rattle.lists.specs.Loop.{all}
 use Rattle.lists.proofs.Tests.{and-iff, leb-iff}
 use Rattle.lists.proofs.Loops.{all-append}
 use Rattle.answers.specs.declared.Answer.{Answer}
-use Rattle.answers.specs.Answers.{Question, accept, refuse, decide, clear}
+use Rattle.answers.specs.Answers.{Question, refuse, decide, clear}
 use Rattle.answers.proofs.Laws.{numbered, clear-iff, decide-iff, decide-after, decide-refused, decide-count, ask-yes, ask-no, ask-nil, ask-all, asked-all}
 use Rattle.instance.specs.declared.Checked.{Checked}
 use Rattle.instance.specs.Instance.{Instance, instance}
@@ -53,10 +53,12 @@ module _ (b : List ℕ) (m rule c : ℕ) where
           sym (ask-no (leb c 128) (refuse 32 0) [] 0 (λ t. let h = leb-iff c 128 .0 t in let f : ⊥ = omega arith in f))
           ∙ first-passed b m rule a ea (question32 c ∷ []) 0 o
 
-      pub check-passes : c ≤ 128 → accept 0 ≡ ceilingAnswer b m rule c
-      unfolding ceilingAnswer ceilingQuestions
+      pub check-passes : c ≤ 128 → a ≡ ceilingAnswer b m rule c
+      unfolding ceilingAnswer ceilingQuestions instanceAnswer
       check-passes l =
-          asked-all
+          ea
+          ∙ decide-count (instanceQuestions b m rule) 0 (instance-iff b m rule .0 (sym (ap (λ (x : Answer). x .number) ea) ∙ o))
+          ∙ asked-all
           ∙ sym (ask-yes (leb c 128) (refuse 32 0) [] 0 (leb-iff c 128 .1 l))
           ∙ first-passed b m rule a ea (question32 c ∷ []) 0 o
 

@@ -114,3 +114,12 @@ clauses-are c l x y = count-tree c (treeOver l) x y
 pub words-are : (c l x y : ℕ) → length (each line (clausesOver c l x y)) ≡ wordCountOver c l
 unfolding clausesOver wordCountOver
 words-are c l x y = words-tree c (treeOver l) x y
+
+-- the counts of a tree over at most 512 inputs
+pub counts-fit : (c l : ℕ) → c ≤ 128 → 1 ≤ l → l ≤ 512 → (variablesOver c l ≤ 4608) × (clauseCountOver c l ≤ 8652800) × (wordCountOver c l ≤ 34477056)
+unfolding clauseCountOver wordCountOver
+counts-fit c l h o q =
+    let all = tree-inputs l o in
+    let cm = rw all at (clauses-most c h (treeOver l) .1) in
+    let wm = rw all at (words-most c h (treeOver l) .1) in
+    (tree-fits c l q, omega arith, omega arith)

@@ -1,5 +1,5 @@
 -- The size of any formula, from its counts; and the counts of the pruned formula, by the table.
-use mathlib.Core.Path.{_≡_, sym, _∙_, ap, ap₂, subst}
+use mathlib.Core.Path.{_≡_, sym, _∙_, ap, ap₂}
 use mathlib.Core.Logic.{_≢_}
 use mathlib.Core.List.{List}
 use Prim.Native.Nat.{ℕ, _+_, _*_, _<_}
@@ -9,10 +9,11 @@ use Rattle.answers.specs.declared.Answer.{Answer}
 use Rattle.answers.specs.Answers.{accept, withClauses}
 use Rattle.instance.specs.declared.Sizes.{Sizes}
 use Rattle.instance.specs.declared.Checked.{Checked}
-use Rattle.instance.specs.Instance.{Instance}
-use Rattle.instance.specs.Questions.{instanceAnswer, instanceChecked}
+use Rattle.instance.specs.Instance.{Instance, instance}
+use Rattle.instance.specs.Questions.{instanceQuestions, instanceAnswer, instanceChecked}
 use Rattle.instance.specs.Accepted.{Accepted, instanceOf}
 use Rattle.instance.proofs.Accepted.{sizes-same, graph, counted-known, limits-known, ready, shown}
+use Rattle.instance.proofs.Instance.{numbered-instance}
 use Rattle.instance.proofs.Call.{horizon}
 use Rattle.distances.specs.Distance.{unreachable, distance}
 use Rattle.distances.specs.Table.{cell, TableOf, byTable, goalBy}
@@ -23,20 +24,22 @@ use Rattle.formula.specs.Counts.{clauseCount, wordCount}
 use Rattle.formula.specs.Pruned.{countH, fromStart, fromGoal, pruned, prunedClauses, prunedWords}
 use Rattle.formula.proofs.Pruned.{count-H-ext, pruned-clause-count, pruned-word-count}
 use Rattle.calls.specs.Calls.{sizeAnswer}
-use Rattle.calls.proofs.Size.{size-refused, size-accepted}
+use Rattle.calls.proofs.Size.{size-refuses, size-accepts}
 use Rattle.formula_size.specs.ByTable.{countByTable}
 
 -- the answer of the instance check is a, the checked instance c
 module _ (f : Instance → Formula) (b : List ℕ) (m rule : ℕ) (a : Answer) (c : Checked) (ea : a ≡ instanceAnswer b m rule) (ec : c ≡ instanceChecked b m rule) where
   pub refuses : a .number ≢ 0 → withClauses a 0 ≡ sizeAnswer f b m rule
-  refuses d = ap (λ (x : Answer). withClauses x 0) ea ∙ size-refused f b m rule (subst (λ (x : Answer). x .number ≢ 0) ea d)
+  unfolding sizeAnswer instanceAnswer
+  refuses d = size-refuses (instanceQuestions b m rule) (numbered-instance b m rule) (f (instance b m rule)) a ea d
 
   pub accepts : a .number ≡ 0 → (x y : ℕ) → length (words (f (instanceOf b c))) ≡ x → length (f (instanceOf b c) .clauses) ≡ y
       → withClauses (accept x) y ≡ sizeAnswer f b m rule
+  unfolding sizeAnswer instanceAnswer
   accepts o x y ex ey =
-      ap₂ (λ (i j : ℕ). withClauses (accept i) j) (sym ex) (sym ey)
-      ∙ ap (λ (I : Instance). withClauses (accept (length (words (f I)))) (length (f I .clauses))) (horizon b m rule a c ea ec o)
-      ∙ size-accepted f b m rule (sym (ap (λ (x : Answer). x .number) ea) ∙ o)
+      let same = sym (horizon b m rule a c ea ec o) in
+      size-accepts (instanceQuestions b m rule) (numbered-instance b m rule) (f (instance b m rule)) a ea o x y
+      (ap (λ (I : Instance). length (words (f I))) same ∙ ex) (ap (λ (I : Instance). length (f I .clauses)) same ∙ ey)
 
 module _ (b : List ℕ) (c : Checked) (w : Accepted b c) (table : List (List ℕ)) (t : TableOf (c .sizes .n) (c .near) table) where
   abbrev I : Instance

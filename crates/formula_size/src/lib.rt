@@ -18,7 +18,7 @@ ghost use Rattle.calls.specs.Calls.{sizeAnswer};
 ghost use Rattle.formula_size.specs.ByTable.{countByTable};
 
 // What was refused has no clauses.
-fn refused(a: Answer) -> Size
+pub fn refused(a: Answer) -> Size
     requires { ⌜ a .number ≢ 0 ⌝ }
     ensures { λ r. ⌜ r ≡ withClauses a 0 ⌝ }
 {
@@ -29,7 +29,7 @@ fn refused(a: Answer) -> Size
     }
 }
 
-fn accepted(words: usize, clauses: usize) -> Size
+pub fn accepted(words: usize, clauses: usize) -> Size
     ensures { λ r. ⌜ r ≡ withClauses (accept words) clauses ⌝ }
 {
     Size {
