@@ -84,4 +84,4 @@ module _ (b : List ℕ) (m rule : ℕ) (p : List ℕ) where
 
   pub off-encode : (room : ℕ) → encodeAnswer b m rule p room .number ≡ 22 → OffAt J p (encodeAnswer b m rule p room)
   unfolding encodeAnswer
-  off-encode room e = off-behind (question13 J p ∷ question16 (formula J) room ∷ []) _ (simp (and-iff, ask-all) ((λ f. tt), ((λ f. tt), tt))) e
+  off-encode room e = off-behind (question13 J p ∷ question16 (formula J .variables) room ∷ []) _ (simp (and-iff, ask-all) ((λ f. tt), ((λ f. tt), tt))) e

@@ -49,18 +49,17 @@ module _ (I : Instance) where
   abbrev pub checkRest : List ℕ → List Question
   checkRest p = question13 I p ∷ planQuestions I p
 
-  -- of a formula f, the base formula or the one with a ceiling:
-  -- the decoder: 14, 15, 23, 24
+  -- the decoder of a formula f, the base formula or the one with a ceiling: 14, 15, 23, 24
   abbrev pub decodeRest : Formula → List ℤ → ℕ → List Question
   decodeRest f entries room = question14 f entries ∷ question15 I room ∷ question23 f entries ∷ question24 f entries ∷ []
 
-  -- the encoder: 13, 16 to 22
-  abbrev pub encodeRest : Formula → List ℕ → ℕ → List Question
-  encodeRest f p room = question13 I p ∷ question16 f room ∷ planQuestions I p
+  -- the encoder to N variables: 13, 16 to 22
+  abbrev pub encodeRest : ℕ → List ℕ → ℕ → List Question
+  encodeRest N p room = question13 I p ∷ question16 N room ∷ planQuestions I p
 
--- the reader: 16, 27 to 29
-abbrev pub readRest : Formula → List ℕ → ℕ → List Question
-readRest f text room = question16 f room ∷ textQuestions (f .variables) text
+-- the reader of N variables: 16, 27 to 29
+abbrev pub readRest : ℕ → List ℕ → ℕ → List Question
+readRest N text room = question16 N room ∷ textQuestions N text
 
 -- ---- the size and the writer of one formula for each instance, f: the base formula or the pruned one
 -- the size call: 1 to 10, 31
@@ -122,7 +121,7 @@ module _ (b : List ℕ) (m rule : ℕ) where
 
   -- ---- the encoder: 1 to 10, 31, 13, 16 to 22
   abbrev pub encodeQuestions : List ℕ → ℕ → List Question
-  encodeQuestions p room = instanceQuestions b m rule ++ encodeRest I base p room
+  encodeQuestions p room = instanceQuestions b m rule ++ encodeRest I (base .variables) p room
 
   unfoldable pub encodeAnswer : List ℕ → ℕ → Answer
   encodeAnswer p room = decide (encodeQuestions p room) (base .variables)
@@ -132,7 +131,7 @@ module _ (b : List ℕ) (m rule : ℕ) where
 
   -- ---- the reader: 1 to 10, 31, 16, 27 to 29
   abbrev pub readQuestions : List ℕ → ℕ → List Question
-  readQuestions text room = instanceQuestions b m rule ++ readRest base text room
+  readQuestions text room = instanceQuestions b m rule ++ readRest (base .variables) text room
 
   unfoldable pub readAnswer : List ℕ → ℕ → Answer
   readAnswer text room = decide (readQuestions text room) (base .variables)

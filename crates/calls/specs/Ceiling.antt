@@ -59,7 +59,7 @@ module _ (b : List ℕ) (m rule c : ℕ) where
 
   -- ---- the encoder: then 13, 16 to 22, 33
   abbrev pub ceilingEncodeQuestions : List ℕ → ℕ → List Question
-  ceilingEncodeQuestions p room = ceilingQuestions ++ (encodeRest I limited p room ++ question33 c I p ∷ [])
+  ceilingEncodeQuestions p room = ceilingQuestions ++ (encodeRest I (limited .variables) p room ++ question33 c I p ∷ [])
 
   unfoldable pub ceilingEncodeAnswer : List ℕ → ℕ → Answer
   ceilingEncodeAnswer p room = decide (ceilingEncodeQuestions p room) (limited .variables)
@@ -69,7 +69,7 @@ module _ (b : List ℕ) (m rule c : ℕ) where
 
   -- ---- the reader: then 16, 27 to 29
   abbrev pub ceilingReadQuestions : List ℕ → ℕ → List Question
-  ceilingReadQuestions text room = ceilingQuestions ++ readRest limited text room
+  ceilingReadQuestions text room = ceilingQuestions ++ readRest (limited .variables) text room
 
   unfoldable pub ceilingReadAnswer : List ℕ → ℕ → Answer
   ceilingReadAnswer text room = decide (ceilingReadQuestions text room) (limited .variables)

@@ -37,8 +37,8 @@ abbrev pub question15 : Instance → ℕ → Question
 question15 I room = ask (leb (planBytes (I .sizes)) room) (refuse 15 (planBytes (I .sizes)))
 
 -- Has the slice for a valuation N entries or more?
-abbrev pub question16 : Formula → ℕ → Question
-question16 f room = ask (leb (f .variables) room) (refuse 16 (f .variables))
+abbrev pub question16 : ℕ → ℕ → Question
+question16 N room = ask (leb N room) (refuse 16 N)
 
 -- under rule 1 the number of question 20's refusal says what the occupant of the vertex entered does
 unfoldable pub occupiedNumber : Leaving → ℕ

@@ -123,8 +123,8 @@ module _ (b : List ℕ) (m rule : ℕ) (ok : T (all clear (instanceQuestions b m
   unfolding encodeAnswer
   encode-iff p s l =
       rw (decide-after (instanceQuestions b m rule) _ _ ok)
-      (Iff·trans (decide-iff (question13 I p ∷ question16 F s ∷ planQuestions I p) _ (numbered-second (question13 I p) (question16 F s) (planQuestions I p) (ask-all _ (leb (N b m rule) s) _ .1 (λ f. tt)) (numbered-plan I p)))
-      (Iff·trans (clear-second (question13 I p) (question16 F s) (planQuestions I p) (fits (N b m rule) s _ l))
+      (Iff·trans (decide-iff (question13 I p ∷ question16 (F .variables) s ∷ planQuestions I p) _ (numbered-second (question13 I p) (question16 (F .variables) s) (planQuestions I p) (ask-all _ (leb (N b m rule) s) _ .1 (λ f. tt)) (numbered-plan I p)))
+      (Iff·trans (clear-second (question13 I p) (question16 (F .variables) s) (planQuestions I p) (fits (N b m rule) s _ l))
       (clear-plan I p)))
 
   pub decode-iff : (es : List ℤ) (s : ℕ) → bytes b m rule ≤ s → Accepts (decodeAnswer b m rule es s) ↔ (Valuation (N b m rule) es × Sat (true? es) (clauses I))

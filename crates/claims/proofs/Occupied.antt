@@ -221,7 +221,7 @@ occupied =
       check = λ b m rule p. tells-call b m rule p [] _ (simp (and-iff, ask-all) ((λ f. tt), tt));
       checkGives = λ b m rule p ok. gives-call b m rule p [] _ ok tt;
       encoder = λ b m rule p room.
-          tells-call b m rule p (question16 (formula (instance b m rule)) room ∷ []) _ (simp (and-iff, ask-all) ((λ f. tt), ((λ f. tt), tt)));
+          tells-call b m rule p (question16 (formula (instance b m rule) .variables) room ∷ []) _ (simp (and-iff, ask-all) ((λ f. tt), ((λ f. tt), tt)));
       encoderGives = λ b m rule p room ok l.
-          gives-call b m rule p (question16 (formula (instance b m rule)) room ∷ []) _ ok (simp (and-iff, clear-iff, ask-nil, leb-iff) (l, tt));
+          gives-call b m rule p (question16 (formula (instance b m rule) .variables) room ∷ []) _ ok (simp (and-iff, clear-iff, ask-nil, leb-iff) (l, tt));
     }

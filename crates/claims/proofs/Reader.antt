@@ -61,11 +61,11 @@ module _ (b : List ℕ) (m rule : ℕ) (o : Accepts (instanceAnswer b m rule)) w
 
     -- a text that has all that is asked is accepted
     accepts : n ≤ length z → Readable n text → Accepts (readAnswer b m rule text (length z))
-    accepts l r = rest-iff .1 (and-iff (clear (question16 base (length z))) _ .1 (fits n (length z) (refuse 16 n) l, clear-text n text .1 r))
+    accepts l r = rest-iff .1 (and-iff (clear (question16 (base .variables) (length z))) _ .1 (fits n (length z) (refuse 16 n) l, clear-text n text .1 r))
 
     module _ (a : Accepts (readAnswer b m rule text (length z))) where
       readable : Readable n text
-      readable = clear-text n text .0 (and-iff (clear (question16 base (length z))) _ .0 (rest-iff .0 a) .1)
+      readable = clear-text n text .0 (and-iff (clear (question16 (base .variables) (length z))) _ .0 (rest-iff .0 a) .1)
 
       inside : T (all (literal? n) (given text))
       inside = lines-inside n 0 nothing (lines text) (sym (lines-asked n text) ∙ each-nil _ _ _ .1 (readable .right))

@@ -162,11 +162,11 @@ module _ (b : List ℕ) (m rule : ℕ) where
   pub numbered-encode : (p : List ℕ) (room : ℕ) → T (all numbered (encodeQuestions b m rule p room))
   numbered-encode p room =
       numbered-more b m rule _
-      (numbered-second (question13 I p) (question16 F room) (planQuestions I p) (simp ask-all (λ f. tt)) (numbered-plan I p))
+      (numbered-second (question13 I p) (question16 (F .variables) room) (planQuestions I p) (simp ask-all (λ f. tt)) (numbered-plan I p))
 
   pub numbered-read : (text : List ℕ) (room : ℕ) → T (all numbered (readQuestions b m rule text room))
   numbered-read text room =
-      numbered-more b m rule _ (and-iff (numbered (question16 F room)) _ .1 (simp ask-all (λ f. tt), numbered-text (F .variables) text))
+      numbered-more b m rule _ (and-iff (numbered (question16 (F .variables) room)) _ .1 (simp ask-all (λ f. tt), numbered-text (F .variables) text))
 
   asked-text : (text : List ℕ) → EachAsked (textQuestions (F .variables) text)
   unfolding textQuestions

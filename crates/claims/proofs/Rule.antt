@@ -162,7 +162,7 @@ module _ (b : List ℕ) (m : ℕ) where
             behind-instance b m 2 (decodeRest I es room) _ (simp (and-iff, each-all, ask-all) ((λ f. tt), ((λ f. tt), ((λ i l f. tt), ((λ c l f. tt), tt)))));
         encoder = λ p room.
             behind-instance b m 2 (encodeRest I p room) _
-            (and-iff (all other (question13 I p)) _ .1 (simp ask-all (λ f. tt), and-iff (all other (question16 (formula I) room)) _ .1 (simp ask-all (λ f. tt), others-plan I is-two p)));
+            (and-iff (all other (question13 I p)) _ .1 (simp ask-all (λ f. tt), and-iff (all other (question16 (formula I .variables) room)) _ .1 (simp ask-all (λ f. tt), others-plan I is-two p)));
         reader = λ text room.
             behind-instance b m 2 (readRest I text room) _
             (simp (and-iff, each-all, ask-all) ((λ f. tt), ((λ f. tt), ((λ i l f. tt), ((λ f. tt), ((λ f. tt), ((λ i l f. tt), tt)))))));

@@ -4,6 +4,7 @@ use instance::Sizes;
 ghost use mathlib.Core.Path.{_≡_};
 ghost use lib.ListN.{length, take};
 ghost use Rattle.answers.specs.Answers.{decide};
+ghost use Rattle.formula.specs.Formula.{formula};
 ghost use Rattle.plan.specs.Plan.{planBytes};
 ghost use Rattle.valuation.specs.Valuation.{namedPlan};
 ghost use Rattle.instance.specs.Instance.{Instance, Edges};
@@ -23,7 +24,7 @@ fn ask_entries(
 ) -> Answer
     requires { ⌜ Ready s (now starts) (now goals) (now near) ⌝ }
     requires { ⌜ length (now vertices) ≡ 528 ⌝ }
-    ensures { λ r. ⌜ ((I : Instance) → Shows I s (now (starts .entry)) (now (goals .entry)) (now (near .entry)) → Edges I → (r ≡ decide (decodeRest I (now (entries .entry)) size) (planBytes (I .sizes))) × (r .number ≡ 0 → (r .second ≡ planBytes s) × (take (planBytes s) (now (vertices .exit)) ≡ namedPlan s (now (entries .entry))))) ⌝ }
+    ensures { λ r. ⌜ ((I : Instance) → Shows I s (now (starts .entry)) (now (goals .entry)) (now (near .entry)) → Edges I → (r ≡ decide (decodeRest I (formula I) (now (entries .entry)) size) (planBytes (I .sizes))) × (r .number ≡ 0 → (r .second ≡ planBytes s) × (take (planBytes s) (now (vertices .exit)) ≡ namedPlan s (now (entries .entry))))) ⌝ }
     ensures { λ _. ⌜ length (now (vertices .exit)) ≡ 528 ⌝ }
 {
     let count = counts::variable_count(s);

@@ -1,5 +1,5 @@
--- The encoder's questions one after another, and what an acceptance says of the plan and the slice.
-use mathlib.Core.Path.{_≡_, sym, _∙_, ap, subst}
+-- The encoder's questions one after another, for any number N of variables, and what an acceptance says of the plan and the slice.
+use mathlib.Core.Path.{_≡_, sym, _∙_, ap}
 use mathlib.Core.Logic.{_≢_}
 use mathlib.Core.List.{List, _∷_}
 use Prim.Native.Nat.{ℕ, _≤_, _<_}
@@ -12,20 +12,12 @@ use Rattle.answers.specs.Answers.{Question, refuse, accept, decide, clear}
 use Rattle.answers.proofs.Laws.{numbered, clear-iff, numbered-second, decide-iff, decide-count, count-free, ask-yes, ask-no, ask-nil, ask-all}
 use Rattle.instance.specs.declared.Sizes.{Sizes}
 use Rattle.instance.specs.Instance.{Instance}
-use Rattle.formula.specs.Variables.{variableCount}
-use Rattle.formula.specs.Formula.{formula}
 use Rattle.plan.specs.Plan.{planBytes}
 use Rattle.calls.specs.Questions.{question13, question16}
 use Rattle.calls.specs.Calls.{planQuestions, encodeRest}
 use Rattle.calls.proofs.Plan.{numbered-plan}
 
-module _ (I : Instance) (s : Sizes) (es : s ≡ I .sizes) (p : List ℕ) (size : ℕ) where
-  abbrev N : ℕ
-  N = formula I .variables
-
-  count-same : variableCount s ≡ N
-  count-same = ap variableCount es
-
+module _ (I : Instance) (s : Sizes) (es : s ≡ I .sizes) (N : ℕ) (p : List ℕ) (size : ℕ) where
   bytes-same : planBytes s ≡ planBytes (I .sizes)
   bytes-same = ap planBytes es
 
@@ -33,42 +25,39 @@ module _ (I : Instance) (s : Sizes) (es : s ≡ I .sizes) (p : List ℕ) (size :
   q13 = question13 I p
 
   abbrev q16 : Question
-  q16 = question16 (formula I) size
+  q16 = question16 N size
 
   abbrev plan : List Question
   plan = planQuestions I p
 
-  pub stop-13 : length p ≢ planBytes s → refuse 13 (length p) ≡ decide (encodeRest I p size) N
+  pub stop-13 : length p ≢ planBytes s → refuse 13 (length p) ≡ decide (encodeRest I N p size) N
   stop-13 d = sym (ask-no (eqb (length p) (planBytes (I .sizes))) (refuse 13 (length p)) _ N (λ t. d (eqb-iff _ _ .0 t ∙ sym bytes-same)))
 
   module _ (e : length p ≡ planBytes s) where
-    pass-13 : decide (encodeRest I p size) N ≡ decide (q16 ∷ plan) N
+    pass-13 : decide (encodeRest I N p size) N ≡ decide (q16 ∷ plan) N
     pass-13 = ask-yes (eqb (length p) (planBytes (I .sizes))) (refuse 13 (length p)) _ N (eqb-iff _ _ .1 (e ∙ bytes-same))
 
-    pub stop-16 : size < variableCount s → refuse 16 (variableCount s) ≡ decide (encodeRest I p size) N
-    stop-16 l =
-        ap (refuse 16) count-same
-        ∙ sym (pass-13 ∙ ask-no (leb N size) (refuse 16 N) _ N (λ t. let h = leb-iff N size .0 t in let f : ⊥ = omega (arith, count-same) in f))
+    pub stop-16 : size < N → refuse 16 N ≡ decide (encodeRest I N p size) N
+    stop-16 l = sym (pass-13 ∙ ask-no (leb N size) (refuse 16 N) _ N (λ t. let h = leb-iff N size .0 t in let f : ⊥ = omega arith in f))
 
-    module _ (l : variableCount s ≤ size) (r : Answer) (er : r ≡ decide plan 0) where
-      pass-16 : decide (encodeRest I p size) N ≡ decide plan N
-      pass-16 = pass-13 ∙ ask-yes (leb N size) (refuse 16 N) _ N (leb-iff N size .1 (omega (arith, count-same)))
+    module _ (l : N ≤ size) (r : Answer) (er : r ≡ decide plan 0) where
+      pass-16 : decide (encodeRest I N p size) N ≡ decide plan N
+      pass-16 = pass-13 ∙ ask-yes (leb N size) (refuse 16 N) _ N (leb-iff N size .1 l)
 
-      pub stop-plan : r .number ≢ 0 → r ≡ decide (encodeRest I p size) N
+      pub stop-plan : r .number ≢ 0 → r ≡ decide (encodeRest I N p size) N
       stop-plan d = er ∙ count-free plan 0 N (λ z. d (ap (λ (a : Answer). a .number) er ∙ z)) ∙ sym pass-16
 
-      pub pass-plan : r .number ≡ 0 → accept (variableCount s) ≡ decide (encodeRest I p size) N
+      pub pass-plan : r .number ≡ 0 → accept N ≡ decide (encodeRest I N p size) N
       pass-plan z =
           let known = and-iff (numbered q13) _ .0 (numbered-plan I p) .1 in
-          ap accept count-same
-          ∙ sym (pass-16 ∙ decide-count plan N (decide-iff plan 0 known .0 (sym (ap (λ (a : Answer). a .number) er) ∙ z)))
+          sym (pass-16 ∙ decide-count plan N (decide-iff plan 0 known .0 (sym (ap (λ (a : Answer). a .number) er) ∙ z)))
 
   -- what an acceptance says
-  pub ready : decide (encodeRest I p size) N .number ≡ 0 → (length p ≡ planBytes s) × (variableCount s ≤ size)
+  pub ready : decide (encodeRest I N p size) N .number ≡ 0 → (length p ≡ planBytes s) × (N ≤ size)
   ready e =
-      let t = decide-iff (encodeRest I p size) N (numbered-second q13 q16 plan (ask-all _ (leb N size) _ .1 (λ f. tt)) (numbered-plan I p)) .0 e in
+      let t = decide-iff (encodeRest I N p size) N (numbered-second q13 q16 plan (ask-all _ (leb N size) _ .1 (λ f. tt)) (numbered-plan I p)) .0 e in
       let (x, y) = and-iff (clear q13) _ .0 t in
       let o = and-iff (clear q16) _ .0 y .0 in
       let h : length p ≡ planBytes (I .sizes) = eqb-iff _ _ .0 (ask-nil (eqb (length p) (planBytes (I .sizes))) (refuse 13 (length p)) .0 (clear-iff q13 .0 x)) in
       let l : N ≤ size = leb-iff _ _ .0 (ask-nil (leb N size) (refuse 16 N) .0 (clear-iff q16 .0 o)) in
-      (h ∙ sym bytes-same, subst (λ (z : ℕ). z ≤ size) (sym count-same) l)
+      (h ∙ sym bytes-same, l)

@@ -13,7 +13,6 @@ ghost use lib.IntN.{pos, negℤ};
 ghost use Rattle.lists.specs.Loop.{for};
 ghost use Rattle.lists.specs.Slice.{filled};
 ghost use Rattle.formula.specs.Variables.{variableCount, highest};
-ghost use Rattle.formula.specs.Formula.{formula};
 ghost use Rattle.instance.specs.Limits.{Limits};
 ghost use Rattle.answers.specs.Answers.{decide};
 ghost use Rattle.plan.specs.Plan.{planBytes};
@@ -38,7 +37,7 @@ fn write_agent(z: &mut [i32], n: usize, first: Variable, at: Vertex)
 
 // The valuation of a plan, first in the slice: one agent after another and one time after another. An agent's bytes in the plan are k
 // apart.
-fn write_valuation(z: &mut [i32], s: Sizes, p: &[u8])
+pub fn write_valuation(z: &mut [i32], s: Sizes, p: &[u8])
     requires { ⌜ Limits s ⌝ }
     requires { ⌜ (length (now p) ≡ planBytes s) × (variableCount s ≤ length (now z)) ⌝ }
     ensures { λ _. ⌜ now (z .exit) ≡ filled (planValuation s (now (p .entry))) (now (z .entry)) ⌝ }
@@ -58,8 +57,9 @@ fn write_valuation(z: &mut [i32], s: Sizes, p: &[u8])
     }
 }
 
-// Questions 13, 16 and 17 to 22, for a valuation slice of the given size.
-fn ask_encoding(
+// Questions 13, 16 and 17 to 22, for a valuation of so many variables and a slice of the given size.
+pub fn ask_encoding(
+    count: usize,
     s: Sizes,
     starts: &[u8; 16],
     goals: &[u8; 16],
@@ -68,7 +68,7 @@ fn ask_encoding(
     size: usize,
 ) -> Answer
     requires { ⌜ Limits s ⌝ }
-    ensures { λ r. ⌜ ((I : Instance) → Shows I s (now (starts .entry)) (now (goals .entry)) (now (near .entry)) → r ≡ decide (encodeRest I (now (p .entry)) size) (formula I .variables)) ⌝ }
+    ensures { λ r. ⌜ ((I : Instance) → Shows I s (now (starts .entry)) (now (goals .entry)) (now (near .entry)) → r ≡ decide (encodeRest I count (now (p .entry)) size) count) ⌝ }
 {
     let len = p.len();
     if len != counts::plan_bytes(s) {
@@ -77,7 +77,6 @@ fn ask_encoding(
             second: len,
         };
     }
-    let count = counts::variable_count(s);
     if size < count {
         return Answer {
             number: 16,
@@ -108,7 +107,8 @@ pub fn encode(b: &[u8], m: usize, rule: usize, p: &[u8], z: &mut [i32]) -> Answe
     let s = c.sizes;
     let starts = c.starts;
     let goals = c.goals;
-    let answer = ask_encoding(s, &starts, &goals, &c.near, p, z.len());
+    let count = counts::variable_count(s);
+    let answer = ask_encoding(count, s, &starts, &goals, &c.near, p, z.len());
     if answer.number != 0 {
         return answer;
     }

@@ -17,10 +17,6 @@ use Rattle.answers.specs.declared.Answer.{Answer}
 use Rattle.answers.specs.Answers.{Question, ask, refuse, accept, decide, lent}
 use Rattle.answers.specs.Fault.{FirstFault}
 use Rattle.answers.proofs.Laws.{numbered, decide-iff, ask-yes, ask-no, ask-all, each-all, decide-refused, decide-after, fault-pass, fault-stop, lent-accepted, lent-refused}
-use Rattle.instance.specs.declared.Sizes.{Sizes}
-use Rattle.instance.specs.Instance.{Instance}
-use Rattle.formula.specs.Variables.{variableCount}
-use Rattle.formula.specs.Formula.{formula}
 use Rattle.solver_text.specs.declared.Said.{Said}
 use Rattle.solver_text.specs.Text.{lines}
 use Rattle.solver_text.specs.Form.{textMost, status?, satisfiable?, complete?, statusPlace, literalsOf, given, times, inOrder}
@@ -162,21 +158,10 @@ module _ (N : ℕ) (vs z : List ℤ) (r : Answer) where
   pub text-yes : r .number ≡ 0 → (marks : List ℕ) → Says N vs marks → (y : List ℤ) → y ≡ filled (for N λ i. entryOf marks i ∷ []) z → y ≡ lent r (inOrder N vs) z
   text-yes o marks g y e = e ∙ ap (λ (l : List ℤ). filled l z) g ∙ sym (lent-accepted r (inOrder N vs) z o)
 
--- ---- 16, of an instance with these sizes
-module _ (I : Instance) (s : Sizes) (es : s ≡ I .sizes) (text : List ℕ) (size : ℕ) where
-  abbrev n : ℕ
-  n = formula I .variables
+-- ---- 16
+module _ (N : ℕ) (text : List ℕ) (size : ℕ) where
+  pub stop-16 : size < N → refuse 16 N ≡ decide (readRest N text size) N
+  stop-16 l = sym (ask-no (leb N size) (refuse 16 N) _ N (λ t. let h = leb-iff N size .0 t in let f : ⊥ = omega arith in f))
 
-  pub count-same : variableCount s ≡ n
-  count-same = ap variableCount es
-
-  pub stop-16 : size < variableCount s → refuse 16 (variableCount s) ≡ decide (readRest I text size) n
-  stop-16 l =
-      ap (refuse 16) count-same
-      ∙ sym (ask-no (leb n size) (refuse 16 n) _ n (λ t. let h = leb-iff n size .0 t in let f : ⊥ = omega (arith, count-same) in f))
-
-  pub pass-16 : variableCount s ≤ size → (r : Answer) → r ≡ decide (textQuestions (variableCount s) text) (variableCount s) → r ≡ decide (readRest I text size) n
-  pass-16 l r er =
-      er
-      ∙ ap (λ (x : ℕ). decide (textQuestions x text) x) count-same
-      ∙ sym (ask-yes (leb n size) (refuse 16 n) (textQuestions n text) n (leb-iff n size .1 (omega (arith, count-same))))
+  pub pass-16 : N ≤ size → (r : Answer) → r ≡ decide (textQuestions N text) N → r ≡ decide (readRest N text size) N
+  pass-16 l r er = er ∙ sym (ask-yes (leb N size) (refuse 16 N) (textQuestions N text) N (leb-iff N size .1 l))

@@ -14,7 +14,7 @@ ghost use Rattle.answers.specs.Fault.{FirstFault};
 ghost use Rattle.solver_text.specs.Form.{given, inOrder};
 ghost use Rattle.solver_text.specs.Walk.{whole?};
 ghost use Rattle.solver_lines.specs.Lines.{marked};
-ghost use Rattle.calls.specs.Calls.{textQuestions, readAnswer, readSlice};
+ghost use Rattle.calls.specs.Calls.{textQuestions, readRest, readAnswer, readSlice};
 ghost use Rattle.reader.specs.Marks.{once?, entryOf, Says, formQuestions};
 
 // Are the s line, and the 0 where it is SATISFIABLE, there?
@@ -147,17 +147,32 @@ fn write_entries(z: &mut [i32], marks: &[u8], n: usize)
 
 // Questions 27 to 29, and the entries written where all are answered yes.
 fn read_text(text: &[u8], n: usize, z: &mut [i32]) -> Answer
-    requires { ⌜ (n ≤ 33792) × (n ≤ length (now z)) ⌝ }
+    requires { ⌜ (n ≤ 38912) × (n ≤ length (now z)) ⌝ }
     ensures { λ r. ⌜ r ≡ decide (textQuestions n (now (text .entry))) n ⌝ }
     ensures { λ r. ⌜ now (z .exit) ≡ lent r (inOrder n (given (now (text .entry)))) (now (z .entry)) ⌝ }
 {
-    let mut marks = [0u8; 33792];
+    let mut marks = [0u8; 38912];
     let answer = ask_text(text, n, &mut marks);
     if answer.number != 0 {
         return answer;
     }
     write_entries(z, &marks, n);
     answer
+}
+
+// Questions 16 and 27 to 29, of a formula of n variables, and the entries written where all are answered yes.
+pub fn read_entries(n: usize, text: &[u8], z: &mut [i32]) -> Answer
+    requires { ⌜ n ≤ 38912 ⌝ }
+    ensures { λ r. ⌜ r ≡ decide (readRest n (now (text .entry)) (length (now (z .entry)))) n ⌝ }
+    ensures { λ r. ⌜ now (z .exit) ≡ lent r (inOrder n (given (now (text .entry)))) (now (z .entry)) ⌝ }
+{
+    if z.len() < n {
+        return Answer {
+            number: 16,
+            second: n,
+        };
+    }
+    read_text(text, n, z)
 }
 
 // The call, for every byte string, every two numbers, all bytes given as a text and every slice.
@@ -172,11 +187,5 @@ pub fn read_valuation(b: &[u8], m: usize, rule: usize, text: &[u8], z: &mut [i32
     }
     let c = inspection.checked;
     let n = counts::variable_count(c.sizes);
-    if z.len() < n {
-        return Answer {
-            number: 16,
-            second: n,
-        };
-    }
-    read_text(text, n, z)
+    read_entries(n, text, z)
 }

@@ -4,9 +4,15 @@ use Prim.Native.Nat.{ℕ, _-_}
 use native.Mathlib.Omega.{arith}
 use lib.ListN.{take}
 use Rattle.answers.specs.declared.Answer.{Answer}
+use Rattle.answers.specs.Fault.{FirstFault}
 use Rattle.instance.proofs.Accepted.{shown-counted}
+use Rattle.formula.specs.Variables.{variableCount}
+use Rattle.formula.specs.Formula.{formula}
+use Rattle.formula.specs.Counts.{clauseCount}
+use Rattle.formula.proofs.Counts.{clause-count}
 use Rattle.satisfaction.proofs.Families.{whole}
 use Rattle.plan.specs.Plan.{planBytes}
+use Rattle.valuation.specs.Valuation.{rightEntry}
 use Rattle.satisfaction.specs.Rows.{Read}
 use Rattle.decoder.proofs.Laws.{stop-14, stop-15, stop-23, stop-24, pass-24, accepted, planned}
 use borrow.Author.Needs.{needs}
@@ -20,10 +26,10 @@ plan-bytes-requires : tie.Need-plan-bytes-requires
 plan-bytes-requires c κs = c .before .before .pre .0 .limits
 
 returns : tie.Need-returns
-returns c = ((λ I g h. (stop-14 I (c .before .before .before .before .args .s) (g .graph .sizes) (c .before .before .before .before .args .entries .now) (c .before .before .before .before .args .size) (λ e. c .if1 .taken (e ∙ sym (c .before .before .variable-count .ensures .0))), λ e. absurd (let f : ⊥ = omega arith in f))), c .before .before .before .before .pre .1)
+returns c = ((λ I g h. (stop-14 I (formula I) (c .before .before .before .before .args .s) (g .graph .sizes) (c .before .before .before .before .args .entries .now) (c .before .before .before .before .args .size) (c .before .before .variable-count .result) (c .before .before .variable-count .ensures .0 ∙ ap variableCount (g .graph .sizes)) (c .if1 .taken), λ e. absurd (let f : ⊥ = omega arith in f))), c .before .before .before .before .pre .1)
 
 returns-2 : tie.Need-returns-2
-returns-2 c = ((λ I g h. (rw (c .before .before .plan-bytes .ensures .0) (stop-15 I (c .before .before .before .before .before .args .s) (g .graph .sizes) (c .before .before .before .before .before .args .entries .now) (c .before .before .before .before .before .args .size) (c .before .if1 .left ∙ c .before .before .before .variable-count .ensures .0) (omega (arith, c .before .before .plan-bytes .ensures .0, c .if2 .taken))), λ e. absurd (let f : ⊥ = omega arith in f))), c .before .before .before .before .before .pre .1)
+returns-2 c = ((λ I g h. (rw (c .before .before .plan-bytes .ensures .0) (stop-15 I (formula I) (c .before .before .before .before .before .args .s) (g .graph .sizes) (c .before .before .before .before .before .args .entries .now) (c .before .before .before .before .before .args .size) (c .before .before .before .variable-count .result) (c .before .before .before .variable-count .ensures .0 ∙ ap variableCount (g .graph .sizes)) (c .before .if1 .left) (omega (arith, c .before .before .plan-bytes .ensures .0, c .if2 .taken))), λ e. absurd (let f : ⊥ = omega arith in f))), c .before .before .before .before .before .pre .1)
 
 read-entries-requires : tie.Need-read-entries-requires
 read-entries-requires c κs = (c .before .before .before .before .before .before .pre .0 .limits, (c .before .before .if1 .left ∙ c .before .before .before .before .variable-count .ensures .0, c .before .before .before .before .before .before .pre .1))
@@ -32,7 +38,7 @@ same-length : tie.Need-same-length
 same-length c = c .before .before .before .read-entries .ensures .1 .0 ∙ sym (c .before .before .before .before .before .before .before .before .before .before .pre .1)
 
 returns-3 : tie.Need-returns-3
-returns-3 c = ((λ I g h. (stop-23 I (c .before .before .before .before .before .before .before .before .before .before .args .s) (g .graph .sizes) (c .before .before .before .before .before .before .before .before .before .before .args .entries .now) (c .before .before .before .before .before .before .before .before .before .before .args .size) (c .before .before .before .before .before .before .if1 .left ∙ c .before .before .before .before .before .before .before .before .variable-count .ensures .0) (omega (arith, c .before .before .before .before .before .before .before .plan-bytes .ensures .0, c .before .before .before .before .before .if2 .left)) (c .before .before .before .read-entries .result) (c .before .before .before .read-entries .ensures .0) (omega (arith, c .before .before .before .before .before .before .before .before .variable-count .ensures .0, c .if3 .taken)), λ e. absurd (let f : ⊥ = omega arith in f))), c .before .before .before .read-entries .ensures .1 .0)
+returns-3 c = ((λ I g h. (stop-23 I (formula I) (c .before .before .before .before .before .before .before .before .before .before .args .s) (g .graph .sizes) (c .before .before .before .before .before .before .before .before .before .before .args .entries .now) (c .before .before .before .before .before .before .before .before .before .before .args .size) (c .before .before .before .before .before .before .before .before .variable-count .result) (c .before .before .before .before .before .before .before .before .variable-count .ensures .0 ∙ ap variableCount (g .graph .sizes)) (c .before .before .before .before .before .before .if1 .left) (omega (arith, c .before .before .before .before .before .before .before .plan-bytes .ensures .0, c .before .before .before .before .before .if2 .left)) (c .before .before .before .read-entries .result) (subst (λ (x : ℕ). FirstFault x (rightEntry (c .before .before .before .before .before .before .before .before .before .before .args .entries .now)) (c .before .before .before .read-entries .result)) (sym (c .before .before .before .before .before .before .before .before .variable-count .ensures .0)) (c .before .before .before .read-entries .ensures .0)) (c .if3 .taken), λ e. absurd (let f : ⊥ = omega arith in f))), c .before .before .before .read-entries .ensures .1 .0)
 
 part-clause-fault-end : tie.Need-part-clause-fault-end
 part-clause-fault-end c = omega (arith, c .before .before .before .before .before .before .before .before .plan-bytes .ensures .1, c .before .before .before .before .read-entries .ensures .1 .0)
@@ -49,7 +55,7 @@ same-length-2 : tie.Need-same-length-2
 same-length-2 c = c .before .before .before .before .before .before .before .before .read-entries .ensures .1 .0 ∙ sym (c .before .before .before .before .before .before .before .before .before .before .before .before .before .before .before .pre .1)
 
 returns-4 : tie.Need-returns-4
-returns-4 c = ((λ I g h. (stop-24 I (c .before .before .before .before .before .before .before .before .before .before .before .before .before .before .before .args .s) (g .graph .sizes) (c .before .before .before .before .before .before .before .before .before .before .before .before .before .before .before .args .entries .now) (c .before .before .before .before .before .before .before .before .before .before .before .before .before .before .before .args .size) (c .before .before .before .before .before .before .before .before .before .before .before .if1 .left ∙ c .before .before .before .before .before .before .before .before .before .before .before .before .before .variable-count .ensures .0) (omega (arith, c .before .before .before .before .before .before .before .before .before .before .before .before .plan-bytes .ensures .0, c .before .before .before .before .before .before .before .before .before .before .if2 .left)) (c .before .before .before .before .before .before .before .before .read-entries .result) (c .before .before .before .before .before .before .before .before .read-entries .ensures .0) (omega (arith, c .before .before .before .before .before .before .before .before .before .before .before .before .before .variable-count .ensures .0, c .before .before .before .before .before .if3 .left)) (c .before .before .clause-fault .result) (c .before .clause-count .result) (whole I (c .before .before .before .before .before .before .before .before .before .before .before .before .before .before .before .args .s) (c .before .before .before .before .before .before .before .before .before .before .before .before .before .before .before .args .starts .now) (c .before .before .before .before .before .before .before .before .before .before .before .before .before .before .before .args .goals .now) (c .before .before .before .before .before .before .before .before .before .before .before .before .before .before .before .args .near .now) g h (c .before .before .before .before .before .before .before .before .before .before .before .before .before .before .before .args .entries .now) (c .before .before .clause-fault .result) (c .before .before .clause-fault .ensures)) (c .before .clause-count .ensures) (shown-counted I (c .before .before .before .before .before .before .before .before .before .before .before .before .before .before .before .args .s) (c .before .before .before .before .before .before .before .before .before .before .before .before .before .before .before .args .starts .now) (c .before .before .before .before .before .before .before .before .before .before .before .before .before .before .before .args .goals .now) (c .before .before .before .before .before .before .before .before .before .before .before .before .before .before .before .args .near .now) g (c .before .before .before .before .before .before .before .before .before .before .before .before .before .before .before .pre .0)) (c .if4 .taken), λ e. absurd (let f : ⊥ = omega arith in f))), c .before .before .before .before .before .before .before .before .read-entries .ensures .1 .0)
+returns-4 c = ((λ I g h. (stop-24 I (formula I) (c .before .before .before .before .before .before .before .before .before .before .before .before .before .before .before .args .s) (g .graph .sizes) (c .before .before .before .before .before .before .before .before .before .before .before .before .before .before .before .args .entries .now) (c .before .before .before .before .before .before .before .before .before .before .before .before .before .before .before .args .size) (c .before .before .before .before .before .before .before .before .before .before .before .before .before .variable-count .result) (c .before .before .before .before .before .before .before .before .before .before .before .before .before .variable-count .ensures .0 ∙ ap variableCount (g .graph .sizes)) (c .before .before .before .before .before .before .before .before .before .before .before .if1 .left) (omega (arith, c .before .before .before .before .before .before .before .before .before .before .before .before .plan-bytes .ensures .0, c .before .before .before .before .before .before .before .before .before .before .if2 .left)) (c .before .before .before .before .before .before .before .before .read-entries .result) (subst (λ (x : ℕ). FirstFault x (rightEntry (c .before .before .before .before .before .before .before .before .before .before .before .before .before .before .before .args .entries .now)) (c .before .before .before .before .before .before .before .before .read-entries .result)) (sym (c .before .before .before .before .before .before .before .before .before .before .before .before .before .variable-count .ensures .0)) (c .before .before .before .before .before .before .before .before .read-entries .ensures .0)) (c .before .before .before .before .before .if3 .left) (c .before .before .clause-fault .result) (c .before .clause-count .result) (whole I (c .before .before .before .before .before .before .before .before .before .before .before .before .before .before .before .args .s) (c .before .before .before .before .before .before .before .before .before .before .before .before .before .before .before .args .starts .now) (c .before .before .before .before .before .before .before .before .before .before .before .before .before .before .before .args .goals .now) (c .before .before .before .before .before .before .before .before .before .before .before .before .before .before .before .args .near .now) g h (c .before .before .before .before .before .before .before .before .before .before .before .before .before .before .before .args .entries .now) (c .before .before .clause-fault .result) (c .before .before .clause-fault .ensures)) (c .before .clause-count .ensures ∙ ap clauseCount (g .graph .sizes) ∙ sym (clause-count I (shown-counted I (c .before .before .before .before .before .before .before .before .before .before .before .before .before .before .before .args .s) (c .before .before .before .before .before .before .before .before .before .before .before .before .before .before .before .args .starts .now) (c .before .before .before .before .before .before .before .before .before .before .before .before .before .before .before .args .goals .now) (c .before .before .before .before .before .before .before .before .before .before .before .before .before .before .before .args .near .now) g (c .before .before .before .before .before .before .before .before .before .before .before .before .before .before .before .pre .0)))) (c .if4 .taken), λ e. absurd (let f : ⊥ = omega arith in f))), c .before .before .before .before .before .before .before .before .read-entries .ensures .1 .0)
 
 same-length-3 : tie.Need-same-length-3
 same-length-3 c = c .before .before .before .before .before .before .before .before .read-entries .ensures .1 .0 ∙ sym (c .before .before .before .before .before .before .before .before .before .before .before .before .before .before .before .pre .1)
@@ -57,9 +63,9 @@ same-length-3 c = c .before .before .before .before .before .before .before .bef
 returns-5 : tie.Need-returns-5
 returns-5 c = (
   (λ I g h.
-      let q = pass-24 I (c .before .before .before .before .before .before .before .before .before .before .before .before .before .before .before .args .s) (g .graph .sizes) (c .before .before .before .before .before .before .before .before .before .before .before .before .before .before .before .args .entries .now) (c .before .before .before .before .before .before .before .before .before .before .before .before .before .before .before .args .size) (c .before .before .before .before .before .before .before .before .before .before .before .if1 .left ∙ c .before .before .before .before .before .before .before .before .before .before .before .before .before .variable-count .ensures .0) (omega (arith, c .before .before .before .before .before .before .before .before .before .before .before .before .plan-bytes .ensures .0, c .before .before .before .before .before .before .before .before .before .before .if2 .left)) (c .before .before .before .before .before .before .before .before .read-entries .result) (c .before .before .before .before .before .before .before .before .read-entries .ensures .0) (omega (arith, c .before .before .before .before .before .before .before .before .before .before .before .before .before .variable-count .ensures .0, c .before .before .before .before .before .if3 .left)) (c .before .before .clause-fault .result) (c .before .clause-count .result) (whole I (c .before .before .before .before .before .before .before .before .before .before .before .before .before .before .before .args .s) (c .before .before .before .before .before .before .before .before .before .before .before .before .before .before .before .args .starts .now) (c .before .before .before .before .before .before .before .before .before .before .before .before .before .before .before .args .goals .now) (c .before .before .before .before .before .before .before .before .before .before .before .before .before .before .before .args .near .now) g h (c .before .before .before .before .before .before .before .before .before .before .before .before .before .before .before .args .entries .now) (c .before .before .clause-fault .result) (c .before .before .clause-fault .ensures)) (c .before .clause-count .ensures) (shown-counted I (c .before .before .before .before .before .before .before .before .before .before .before .before .before .before .before .args .s) (c .before .before .before .before .before .before .before .before .before .before .before .before .before .before .before .args .starts .now) (c .before .before .before .before .before .before .before .before .before .before .before .before .before .before .before .args .goals .now) (c .before .before .before .before .before .before .before .before .before .before .before .before .before .before .before .args .near .now) g (c .before .before .before .before .before .before .before .before .before .before .before .before .before .before .before .pre .0)) (c .if4 .left) in
-      let y = accepted I (c .before .before .before .before .before .before .before .before .before .before .before .before .before .before .before .args .s) (g .graph .sizes) (c .before .before .before .before .before .before .before .before .before .before .before .before .before .before .before .args .entries .now) (c .before .before .before .before .before .before .before .before .before .before .before .before .before .before .before .args .size) (sym (ap (λ (x : Answer). x .number) q)) in
-      (rw (c .before .before .before .before .before .before .before .before .before .before .before .before .plan-bytes .ensures .0) q, λ e. (c .before .before .before .before .before .before .before .before .before .before .before .before .plan-bytes .ensures .0, planned I (c .before .before .before .before .before .before .before .before .before .before .before .before .before .before .before .args .s) (g .graph .sizes) (c .before .before .before .before .before .before .before .before .before .before .before .before .before .before .before .args .entries .now) (c .before .before .before .before .before .before .before .before .before .before .before .before .before .before .before .args .size) y _ (c .before .before .before .before .before .before .before .before .read-entries .ensures .1 .1 (omega (arith, c .before .before .before .before .before .before .before .before .before .before .before .before .before .variable-count .ensures .0, c .before .before .before .before .before .if3 .left)))))),
+      let q = pass-24 I (formula I) (c .before .before .before .before .before .before .before .before .before .before .before .before .before .before .before .args .s) (g .graph .sizes) (c .before .before .before .before .before .before .before .before .before .before .before .before .before .before .before .args .entries .now) (c .before .before .before .before .before .before .before .before .before .before .before .before .before .before .before .args .size) (c .before .before .before .before .before .before .before .before .before .before .before .before .before .variable-count .result) (c .before .before .before .before .before .before .before .before .before .before .before .before .before .variable-count .ensures .0 ∙ ap variableCount (g .graph .sizes)) (c .before .before .before .before .before .before .before .before .before .before .before .if1 .left) (omega (arith, c .before .before .before .before .before .before .before .before .before .before .before .before .plan-bytes .ensures .0, c .before .before .before .before .before .before .before .before .before .before .if2 .left)) (c .before .before .before .before .before .before .before .before .read-entries .result) (subst (λ (x : ℕ). FirstFault x (rightEntry (c .before .before .before .before .before .before .before .before .before .before .before .before .before .before .before .args .entries .now)) (c .before .before .before .before .before .before .before .before .read-entries .result)) (sym (c .before .before .before .before .before .before .before .before .before .before .before .before .before .variable-count .ensures .0)) (c .before .before .before .before .before .before .before .before .read-entries .ensures .0)) (c .before .before .before .before .before .if3 .left) (c .before .before .clause-fault .result) (c .before .clause-count .result) (whole I (c .before .before .before .before .before .before .before .before .before .before .before .before .before .before .before .args .s) (c .before .before .before .before .before .before .before .before .before .before .before .before .before .before .before .args .starts .now) (c .before .before .before .before .before .before .before .before .before .before .before .before .before .before .before .args .goals .now) (c .before .before .before .before .before .before .before .before .before .before .before .before .before .before .before .args .near .now) g h (c .before .before .before .before .before .before .before .before .before .before .before .before .before .before .before .args .entries .now) (c .before .before .clause-fault .result) (c .before .before .clause-fault .ensures)) (c .before .clause-count .ensures ∙ ap clauseCount (g .graph .sizes) ∙ sym (clause-count I (shown-counted I (c .before .before .before .before .before .before .before .before .before .before .before .before .before .before .before .args .s) (c .before .before .before .before .before .before .before .before .before .before .before .before .before .before .before .args .starts .now) (c .before .before .before .before .before .before .before .before .before .before .before .before .before .before .before .args .goals .now) (c .before .before .before .before .before .before .before .before .before .before .before .before .before .before .before .args .near .now) g (c .before .before .before .before .before .before .before .before .before .before .before .before .before .before .before .pre .0)))) (c .if4 .left) in
+      let y = accepted I (formula I) (c .before .before .before .before .before .before .before .before .before .before .before .before .before .before .before .args .s) (g .graph .sizes) (c .before .before .before .before .before .before .before .before .before .before .before .before .before .before .before .args .entries .now) (c .before .before .before .before .before .before .before .before .before .before .before .before .before .before .before .args .size) (sym (ap (λ (x : Answer). x .number) q)) in
+      (rw (c .before .before .before .before .before .before .before .before .before .before .before .before .plan-bytes .ensures .0) q, λ e. (c .before .before .before .before .before .before .before .before .before .before .before .before .plan-bytes .ensures .0, planned I (c .before .before .before .before .before .before .before .before .before .before .before .before .before .before .before .args .s) (g .graph .sizes) (c .before .before .before .before .before .before .before .before .before .before .before .before .before .before .before .args .entries .now) (y .satisfies) _ (c .before .before .before .before .before .before .before .before .read-entries .ensures .1 .1 (omega (arith, c .before .before .before .before .before .before .before .before .before .before .before .before .before .variable-count .ensures .0, c .before .before .before .before .before .if3 .left)))))),
   c .before .before .before .before .before .before .before .before .read-entries .ensures .1 .0,
 )
 

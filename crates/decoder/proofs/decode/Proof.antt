@@ -11,9 +11,10 @@ use Rattle.answers.specs.declared.Answer.{Answer}
 use Rattle.answers.specs.Answers.{Question}
 use Rattle.instance.specs.declared.Sizes.{Sizes}
 use Rattle.instance.specs.Instance.{Instance}
-use Rattle.instance.specs.Accepted.{Accepted}
+use Rattle.instance.specs.Accepted.{Accepted, instanceOf}
 use Rattle.instance.proofs.Accepted.{limits-known, sizes-same, ready, graph, shown}
 use Rattle.instance.proofs.Call.{passed, horizon, instance-refuses, call-answers, slice-refused, slice-filled}
+use Rattle.formula.specs.Formula.{formula}
 use Rattle.formula.proofs.Limits.{rows}
 use Rattle.plan.specs.Plan.{planBytes}
 use Rattle.valuation.specs.Valuation.{namedPlan}
@@ -25,7 +26,7 @@ use Rattle.decoder.proofs.decode.Tie as tie
 
 -- the questions after 1 to 10 and 31, and the count
 abbrev asks : tie.Start → Instance → List Question
-asks s I = decodeRest I (s .args .entries .now) (length (s .args .plan .now))
+asks s I = decodeRest I (formula I) (s .args .entries .now) (length (s .args .plan .now))
 
 abbrev count : Instance → ℕ
 count I = planBytes (I .sizes)
@@ -59,7 +60,8 @@ copy-requires : tie.Need-copy-requires
 copy-requires c κs =
     let w = known (c .before .before .before .before .before .before .before .before .before .before .before .before .before .before .before .before) in
     let d = c .before .before .before .before .before .before .ask-entries .ensures .0 _ (shown _ _ w) (graph _ _ w) .1 (c .before .before .before .if2 .left) in
-    let y = accepted _ _ (sizes-same _ _ w) (c .before .before .before .before .before .before .before .before .before .before .before .before .before .before .before .before .before .before .before .before .before .before .args .entries .now) (length (c .before .before .before .before .before .before .before .before .before .before .before .before .before .before .before .before .before .before .before .before .before .before .args .plan .now)) (sym (ap (λ (a : Answer). a .number) (c .before .before .before .before .before .before .ask-entries .ensures .0 _ (shown _ _ w) (graph _ _ w) .0)) ∙ c .before .before .before .if2 .left) in
+    let J = instanceOf (c .before .before .before .before .before .before .before .before .before .before .before .before .before .before .before .before .before .before .before .before .before .before .args .b .now) (c .before .before .before .before .before .before .before .before .before .before .before .before .before .before .before .before .before .before .before .check-instance .result .checked) in
+    let y = accepted J (formula J) _ (sizes-same _ _ w) (c .before .before .before .before .before .before .before .before .before .before .before .before .before .before .before .before .before .before .before .before .before .before .args .entries .now) (length (c .before .before .before .before .before .before .before .before .before .before .before .before .before .before .before .before .before .before .before .before .before .before .args .plan .now)) (sym (ap (λ (a : Answer). a .number) (c .before .before .before .before .before .before .ask-entries .ensures .0 _ (shown _ _ w) (graph _ _ w) .0)) ∙ c .before .before .before .if2 .left) in
     let l = length-take-le (c .before .before .before .before .before .before .ask-entries .result .second - 0) (c .before .before .before .before .before .before .ask-entries .last .0) (omega (arith, d .0, c .before .before .before .before .before .before .ask-entries .ensures .1, rows _ (limits-known _ _ w))) in
     omega (arith, l, d .0, y .fits)
 

@@ -9,22 +9,19 @@ plan-bytes-requires : tie.Need-plan-bytes-requires
 plan-bytes-requires c κs = c .before .pre
 
 returns : tie.Need-returns
-returns c = λ I g. stop-13 I (c .before .before .before .args .s) (g .graph .sizes) (c .before .before .before .args .p .now) (c .before .before .before .args .size) (λ e. c .if1 .taken (e ∙ sym (c .before .plan-bytes .ensures .0)))
-
-variable-count-requires : tie.Need-variable-count-requires
-variable-count-requires c κs = c .before .before .before .pre
+returns c = λ I g. stop-13 I (c .before .before .before .args .s) (g .graph .sizes) (c .before .before .before .args .count) (c .before .before .before .args .p .now) (c .before .before .before .args .size) (λ e. c .if1 .taken (e ∙ sym (c .before .plan-bytes .ensures .0)))
 
 returns-2 : tie.Need-returns-2
-returns-2 c = λ I g. rw (c .before .variable-count .ensures .0) (stop-16 I (c .before .before .before .before .before .args .s) (g .graph .sizes) (c .before .before .before .before .before .args .p .now) (c .before .before .before .before .before .args .size) (c .before .before .if1 .left ∙ c .before .before .before .plan-bytes .ensures .0) (omega (arith, c .before .variable-count .ensures .0)))
+returns-2 c = λ I g. stop-16 I (c .before .before .before .before .args .s) (g .graph .sizes) (c .before .before .before .before .args .count) (c .before .before .before .before .args .p .now) (c .before .before .before .before .args .size) (c .before .if1 .left ∙ c .before .before .plan-bytes .ensures .0) (c .if2 .taken)
 
 ask-plan-requires : tie.Need-ask-plan-requires
-ask-plan-requires c κs = (c .before .before .before .before .before .pre, c .before .before .if1 .left ∙ c .before .before .before .plan-bytes .ensures .0)
+ask-plan-requires c κs = (c .before .before .before .before .pre, c .before .if1 .left ∙ c .before .before .plan-bytes .ensures .0)
 
 returns-3 : tie.Need-returns-3
-returns-3 c = λ I g. stop-plan I (c .before .before .before .before .before .before .before .before .args .s) (g .graph .sizes) (c .before .before .before .before .before .before .before .before .args .p .now) (c .before .before .before .before .before .before .before .before .args .size) (c .before .before .before .before .before .if1 .left ∙ c .before .before .before .before .before .before .plan-bytes .ensures .0) (omega (arith, c .before .before .before .before .variable-count .ensures .0)) (c .before .before .ask-plan .result) (c .before .before .ask-plan .ensures I g) (c .if3 .taken)
+returns-3 c = λ I g. stop-plan I (c .before .before .before .before .before .before .before .args .s) (g .graph .sizes) (c .before .before .before .before .before .before .before .args .count) (c .before .before .before .before .before .before .before .args .p .now) (c .before .before .before .before .before .before .before .args .size) (c .before .before .before .before .if1 .left ∙ c .before .before .before .before .before .plan-bytes .ensures .0) (omega (arith, c .before .before .before .if2 .left)) (c .before .before .ask-plan .result) (c .before .before .ask-plan .ensures I g) (c .if3 .taken)
 
 returns-4 : tie.Need-returns-4
-returns-4 c = λ I g. rw (c .before .before .before .before .variable-count .ensures .0) (pass-plan I (c .before .before .before .before .before .before .before .before .args .s) (g .graph .sizes) (c .before .before .before .before .before .before .before .before .args .p .now) (c .before .before .before .before .before .before .before .before .args .size) (c .before .before .before .before .before .if1 .left ∙ c .before .before .before .before .before .before .plan-bytes .ensures .0) (omega (arith, c .before .before .before .before .variable-count .ensures .0)) (c .before .before .ask-plan .result) (c .before .before .ask-plan .ensures I g) (c .if3 .left))
+returns-4 c = λ I g. pass-plan I (c .before .before .before .before .before .before .before .args .s) (g .graph .sizes) (c .before .before .before .before .before .before .before .args .count) (c .before .before .before .before .before .before .before .args .p .now) (c .before .before .before .before .before .before .before .args .size) (c .before .before .before .before .if1 .left ∙ c .before .before .before .before .before .plan-bytes .ensures .0) (omega (arith, c .before .before .before .if2 .left)) (c .before .before .ask-plan .result) (c .before .before .ask-plan .ensures I g) (c .if3 .left)
 
 pub ask-encoding-spec : {M : Type 1} → statement M
 ask-encoding-spec =
@@ -32,7 +29,6 @@ ask-encoding-spec =
     (tie.spec
     plan-bytes-requires
     returns
-    variable-count-requires
     returns-2
     ask-plan-requires
     returns-3

@@ -12,7 +12,7 @@ slice-aggregate-ask-text : tie.Need-slice-aggregate-ask-text
 slice-aggregate-ask-text c = search needs
 
 ask-text-requires : tie.Need-ask-text-requires
-ask-text-requires c κs = (omega (arith, c .before .before .pre), omega (arith, c .before .before .pre .0, length-replicate {A = ℕ} 33792 0), zeros 33792)
+ask-text-requires c κs = (omega (arith, c .before .before .pre), omega (arith, c .before .before .pre .0, length-replicate {A = ℕ} 38912 0), zeros 38912)
 
 returns : tie.Need-returns
 returns c = (c .before .before .before .ask-text .ensures .0, text-no (c .before .before .before .before .before .before .args .n) (given (c .before .before .before .before .before .before .args .text .now)) (c .before .before .before .before .before .before .args .z .now) (c .before .before .before .ask-text .result) (c .if1 .taken))
@@ -21,7 +21,7 @@ slice-aggregate-write-entries : tie.Need-slice-aggregate-write-entries
 slice-aggregate-write-entries c = search needs
 
 write-entries-requires : tie.Need-write-entries-requires
-write-entries-requires c κs = (omega (arith, c .before .before .before .before .before .before .before .before .pre), omega (arith, c .before .before .before .before .before .before .before .before .pre .0, c .before .before .before .before .before .ask-text .ensures .1 .1, length-replicate {A = ℕ} 33792 0), c .before .before .before .before .before .before .before .before .pre .1)
+write-entries-requires c κs = (omega (arith, c .before .before .before .before .before .before .before .before .pre), omega (arith, c .before .before .before .before .before .before .before .before .pre .0, c .before .before .before .before .before .ask-text .ensures .1 .1, length-replicate {A = ℕ} 38912 0), c .before .before .before .before .before .before .before .before .pre .1)
 
 same-length : tie.Need-same-length
 same-length c = search needs
