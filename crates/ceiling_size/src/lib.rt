@@ -10,7 +10,7 @@ ghost use Prim.Native.Nat.{_≤_};
 ghost use lib.Dec.{ltb};
 ghost use Rattle.instance.specs.Limits.{Limits};
 ghost use Rattle.instance.specs.Questions.{instanceChecked};
-ghost use Rattle.ceiling.specs.Ceiling.{addedVariables, addedCount, addedWords};
+ghost use Rattle.ceiling.specs.Ceiling.{addedVariables, addedCount, addedWords, ceilingVariables};
 ghost use Rattle.calls.specs.Ceiling.{ceilingAnswer, ceilingSizeAnswer};
 
 // Questions 1 to 10, 31 and 32.
@@ -71,6 +71,16 @@ pub fn added(s: Sizes, c: usize) -> Counts
         clauses: moves + waits + tree.clauses + over,
         words: 4 * moves + 3 * waits + tree.words + 2 * over,
     }
+}
+
+// All variables of the formula.
+pub fn variables(s: Sizes, c: usize) -> usize
+    requires { ⌜ Limits s ⌝ }
+    requires { ⌜ c ≤ 128 ⌝ }
+    ensures { λ r. ⌜ (r ≡ ceilingVariables s c) × (r ≤ 38912) ⌝ }
+{
+    let more = added(s, c);
+    counts::variable_count(s) + more.variables
 }
 
 // The size call: questions 1 to 10, 31 and 32.
