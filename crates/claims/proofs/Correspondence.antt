@@ -45,10 +45,10 @@ module _ (I : Instance) where
   open Instance I using (sizes)
   open Sizes sizes using (n, k, m)
 
-  inside-at : (p : List ℕ) → Passes I p → (t a : ℕ) → t < suc m → a < k → planRow sizes p t a < n
+  pub inside-at : (p : List ℕ) → Passes I p → (t a : ℕ) → t < suc m → a < k → planRow sizes p t a < n
   inside-at p w t a x y = w .inside (t * k + a) (place-lt (suc m) (k) t a x y)
 
-  names : (es : List ℤ) (p : List ℕ) → length p ≡ suc m * k → Places sizes (true? es) (planRow sizes p) → Names sizes es p
+  pub names : (es : List ℤ) (p : List ℕ) → length p ≡ suc m * k → Places sizes (true? es) (planRow sizes p) → Names sizes es p
   names es p l c =
       record {
         size = l;

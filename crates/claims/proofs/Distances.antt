@@ -32,7 +32,7 @@ use Rattle.calls.proofs.Plan.{check-iff}
 use Rattle.calls.proofs.Valuation.{satisfies-mem}
 use Rattle.calls.proofs.Floor.{floor-count, all-reached, floor-below, no-plan, first-cut, past-bytes, bytes-clear}
 use Rattle.claims.proofs.Refusals.{numbered-check}
-use Rattle.claims.proofs.Size.{size-call}
+use Rattle.claims.proofs.Size.{size-claim}
 use Rattle.claims.specs.Distances.{Distances, Pruned, Greatest, FirstUnreachable, Claim}
 
 module _ (b : List ℕ) (m rule : ℕ) (ok : T (all clear (instanceQuestions b m rule))) where
@@ -76,7 +76,7 @@ module _ (b : List ℕ) (m rule : ℕ) (ok : T (all clear (instanceQuestions b m
         wordTotal = pruned-word-count I (omega arith) (edges-known b m rule ok) (goals-counted b m rule);
         most = omega (arith, pruned-word-count I (omega arith) (edges-known b m rule ok) (goals-counted b m rule), pruned-words-most I (limits b m rule ok));
         size = λ e.
-            let c = size-call pruned b m rule in
+            let c = size-claim .size pruned b m rule in
             (c .wordsCounted e ∙ pruned-word-count I (omega arith) (edges-known b m rule ok) (goals-counted b m rule), c .clausesCounted e ∙ pruned-clause-count I (omega arith) (goals-counted b m rule));
       }
 

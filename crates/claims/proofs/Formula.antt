@@ -24,7 +24,7 @@ use Rattle.calls.specs.Calls.{clauseQuestions, clauseAnswer, checkAnswer, decod
 use Rattle.instance.proofs.Instance.{instance-iff, goals-counted, edges-known, limits}
 use Rattle.calls.proofs.Plan.{check-counts, check-iff}
 use Rattle.claims.proofs.Refusals.{numbered-clause, numbered-decode, numbered-encode, numbered-read}
-use Rattle.claims.proofs.Size.{size-call}
+use Rattle.claims.proofs.Size.{size-claim}
 use Rattle.claims.specs.Formula.{Counts, Claim}
 
 -- an acceptance holds its count
@@ -52,7 +52,7 @@ module _ (b : List ℕ) (m rule : ℕ) (ok : T (all clear (instanceQuestions b m
   unfolding instance clauseAnswer checkAnswer decodeAnswer encodeAnswer readAnswer
   counts =
       record {
-        size = λ e. let c = size-call formula b m rule in (c .wordsCounted e ∙ word-count I (edges-known b m rule ok) (goals-counted b m rule), c .clausesCounted e ∙ clause-count I (goals-counted b m rule));
+        size = λ e. let c = size-claim .size formula b m rule in (c .wordsCounted e ∙ word-count I (edges-known b m rule ok) (goals-counted b m rule), c .clausesCounted e ∙ clause-count I (goals-counted b m rule));
         clause = λ c room e.
             let t = decide-iff (clauseQuestions b m rule c room) _ (numbered-clause b m rule c room) .0 e in
             let l = ltb-iff c (length (clauses I)) .0 (ask-nil _ _ .0 (next-clear b m rule _ _ t)) in (

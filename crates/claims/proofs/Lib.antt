@@ -13,3 +13,4 @@ pub mod Size
 pub mod Free
 pub mod Rule
 pub mod Reversing
+pub mod Ceiling

@@ -18,9 +18,12 @@ use Rattle.instance.specs.Instance.{Instance, instance}
 use Rattle.instance.specs.Questions.{question10, question31, bytesQuestions, instanceQuestions, instanceAnswer}
 use Rattle.instance.proofs.Instance.{numbered-instance}
 use Rattle.formula.specs.Formula.{Formula, formula}
-use Rattle.calls.specs.Questions.{question13, question14, question15, question16, question23, question24}
-use Rattle.calls.specs.Calls.{stepQuestions, planQuestions, sizeQuestions, sizeAnswer, writeQuestions, writeAnswer, writeSlice, clauseQuestions, clauseAnswer, clauseSlice, checkQuestions, checkAnswer, decodeQuestions, decodeAnswer, decodeSlice, encodeQuestions, encodeAnswer, encodeSlice, textQuestions, readQuestions, readAnswer, readSlice, goalQuestion, floorQuestions, floorAnswer}
+use Rattle.ceiling.specs.Ceiling.{underCeiling}
+use Rattle.calls.specs.Questions.{question13, question14, question15, question16, question23, question24, question32, question33}
+use Rattle.calls.specs.Calls.{stepQuestions, planQuestions, sizeQuestions, sizeAnswer, writeQuestions, writeAnswer, writeSlice, clauseQuestions, clauseAnswer, clauseSlice, checkQuestions, checkAnswer, decodeQuestions, decodeAnswer, decodeSlice, encodeQuestions, encodeAnswer, encodeRest, encodeSlice, textQuestions, readQuestions, readAnswer, readSlice, goalQuestion, floorQuestions, floorAnswer}
+use Rattle.calls.specs.Ceiling.{ceilingQuestions, ceilingSizeAnswer, ceilingWriteQuestions, ceilingWriteAnswer, ceilingWriteSlice, ceilingDecodeQuestions, ceilingDecodeAnswer, ceilingDecodeSlice, ceilingEncodeQuestions, ceilingEncodeAnswer, ceilingEncodeSlice, ceilingReadQuestions, ceilingReadAnswer, ceilingReadSlice}
 use Rattle.calls.proofs.Plan.{numbered-plan}
+use Rattle.calls.proofs.Ceiling.{numbered-ceiling}
 use Rattle.calls.proofs.Valuation.{numbered-valuation}
 use Rattle.calls.proofs.Text.{numbered-text}
 use Rattle.calls.proofs.Floor.{numbered-floor}
@@ -168,12 +171,42 @@ module _ (b : List ℕ) (m rule : ℕ) where
   numbered-read text room =
       numbered-more b m rule _ (and-iff (numbered (question16 (F .variables) room)) _ .1 (simp ask-all (λ f. tt), numbered-text (F .variables) text))
 
-  asked-text : (text : List ℕ) → EachAsked (textQuestions (F .variables) text)
+  asked-text : (N : ℕ) (text : List ℕ) → EachAsked (textQuestions N text)
   unfolding textQuestions
-  asked-text text = (one _ _, (many _ _ _, (one _ _, (one _ _, (many _ _ _, tt)))))
+  asked-text N text = (one _ _, (many _ _ _, (one _ _, (one _ _, (many _ _ _, tt)))))
+
+  -- with a ceiling
+  module _ (c : ℕ) where
+    abbrev L : Formula
+    L = underCeiling c I
+
+    asked-first : EachAsked (ceilingQuestions b m rule c)
+    unfolding ceilingQuestions
+    asked-first = asked-append (instanceQuestions b m rule) (question32 c ∷ []) asked-instance (one _ _, tt)
+
+    asked-ceiling : (qs : List Question) → EachAsked qs → EachAsked (ceilingQuestions b m rule c ++ qs)
+    asked-ceiling qs h = asked-append (ceilingQuestions b m rule c) qs asked-first h
+
+    numbered-behind : (qs : List Question) → T (all numbered qs) → T (all numbered (ceilingQuestions b m rule c ++ qs))
+    numbered-behind qs h = all-append numbered (ceilingQuestions b m rule c) qs .1 (numbered-ceiling b m rule c, h)
+
+    pub numbered-ceiling-decode : (entries : List ℤ) (room : ℕ) → T (all numbered (ceilingDecodeQuestions b m rule c entries room))
+    numbered-ceiling-decode entries room =
+        numbered-behind _
+        (numbered-second (question14 L entries) (question15 I room) (question23 L entries ∷ question24 L entries ∷ []) (simp ask-all (λ f. tt)) (numbered-valuation L entries))
+
+    pub numbered-ceiling-encode : (p : List ℕ) (room : ℕ) → T (all numbered (ceilingEncodeQuestions b m rule c p room))
+    numbered-ceiling-encode p room =
+        numbered-behind _
+        (all-append numbered (encodeRest I (L .variables) p room) (question33 c I p ∷ []) .1
+        (numbered-second (question13 I p) (question16 (L .variables) room) (planQuestions I p) (simp ask-all (λ f. tt)) (numbered-plan I p), simp (and-iff, ask-all) ((λ f. tt), tt)))
+
+    pub numbered-ceiling-read : (text : List ℕ) (room : ℕ) → T (all numbered (ceilingReadQuestions b m rule c text room))
+    numbered-ceiling-read text room =
+        numbered-behind _ (and-iff (numbered (question16 (L .variables) room)) _ .1 (simp ask-all (λ f. tt), numbered-text (L .variables) text))
 
 pub refusals : Claim
-unfolding instanceAnswer sizeAnswer withClauses writeAnswer writeSlice clauseAnswer clauseSlice checkAnswer decodeAnswer decodeSlice encodeAnswer encodeSlice readAnswer readSlice floorAnswer
+unfolding instanceAnswer sizeAnswer withClauses writeAnswer writeSlice clauseAnswer clauseSlice checkAnswer decodeAnswer decodeSlice encodeAnswer encodeSlice readAnswer readSlice floorAnswer ceilingSizeAnswer ceilingWriteAnswer ceilingWriteSlice ceilingDecodeAnswer ceilingDecodeSlice ceilingEncodeAnswer ceilingEncodeSlice ceilingReadAnswer ceilingReadSlice
 refusals b m rule =
     record {
       instance = honest (instanceQuestions b m rule) 0 (numbered-instance b m rule) (asked-instance b m rule);
@@ -191,7 +224,23 @@ refusals b m rule =
           honest (encodeQuestions b m rule p room) _ (numbered-encode b m rule p room) (asked-more b m rule _ (one _ _, (one _ _, asked-plan b m rule p)));
       encoderSlice = λ p s d. lent-refused _ _ s d;
       reader = λ text room.
-          honest (readQuestions b m rule text room) _ (numbered-read b m rule text room) (asked-more b m rule _ (one _ _, asked-text b m rule text));
+          honest (readQuestions b m rule text room) _ (numbered-read b m rule text room) (asked-more b m rule _ (one _ _, asked-text b m rule _ text));
       readerSlice = λ text s d. lent-refused _ _ s d;
+      ceilingSize = λ c. honest (ceilingQuestions b m rule c) _ (numbered-ceiling b m rule c) (asked-first b m rule c);
+      ceilingWriter = λ c room.
+          honest (ceilingWriteQuestions b m rule c room) _ (numbered-behind b m rule c _ (simp (and-iff, ask-all) ((λ f. tt), tt))) (asked-ceiling b m rule c _ (one _ _, tt));
+      ceilingWriterSlice = λ c s d. lent-refused _ _ s d;
+      ceilingDecoder = λ c entries room.
+          honest (ceilingDecodeQuestions b m rule c entries room) _ (numbered-ceiling-decode b m rule c entries room)
+          (asked-ceiling b m rule c _ (one _ _, (one _ _, (many _ _ _, (many _ _ _, tt)))));
+      ceilingDecoderSlice = λ c entries s d. lent-refused _ _ s d;
+      ceilingEncoder = λ c p room.
+          honest (ceilingEncodeQuestions b m rule c p room) _ (numbered-ceiling-encode b m rule c p room)
+          (asked-ceiling b m rule c _ (asked-append (encodeRest (instance b m rule) (L b m rule c .variables) p room) _ (one _ _, (one _ _, asked-plan b m rule p)) (one _ _, tt)));
+      ceilingEncoderSlice = λ c p s d. lent-refused _ _ s d;
+      ceilingReader = λ c text room.
+          honest (ceilingReadQuestions b m rule c text room) _ (numbered-ceiling-read b m rule c text room)
+          (asked-ceiling b m rule c _ (one _ _, asked-text b m rule _ text));
+      ceilingReaderSlice = λ c text s d. lent-refused _ _ s d;
       floor = honest (floorQuestions b) _ (numbered-floor b) (asked-append (bytesQuestions b) (goalQuestion b ∷ []) (asked-bytes b m rule) (many _ _ _, tt));
     }

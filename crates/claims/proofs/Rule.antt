@@ -1,7 +1,7 @@
 -- The movement rule: 31 stands behind 10, 20 and 26 are not asked under rule 2, and condition 2 of rule 1 says more than that of rule 2.
 use mathlib.Core.Path.{_≡_, refl, sym, _∙_, ap, ap₂, subst}
 use mathlib.Core.Logic.{_≢_, inl, inr, ⊎-elim, by-cases}
-use mathlib.Core.List.{List, [], _∷_, _++_, append-nil}
+use mathlib.Core.List.{List, [], _∷_, _++_, append-nil, append-assoc}
 use mathlib.Core.Bool.{Bool, not, _||_, cond}
 use Prim.Native.Nat.{ℕ, suc, _+_, _*_, _-_, _≤_, _<_}
 use native.Mathlib.Decide.{decLt}
@@ -21,14 +21,16 @@ use Rattle.instance.specs.declared.Sizes.{Sizes}
 use Rattle.instance.specs.Instance.{Instance, Counted, instance}
 use Rattle.instance.specs.Questions.{question10, question31, bytesQuestions, instanceQuestions, instanceAnswer}
 use Rattle.instance.proofs.Instance.{instance-iff}
-use Rattle.formula.specs.Formula.{Clause, G, noFollowing, noExchange, formula}
+use Rattle.formula.specs.Formula.{Clause, G, noFollowing, noExchange, formula, words}
 use Rattle.formula.proofs.Blocks.{stored, clauses-stored}
 use Rattle.formula.proofs.Counts.{count-A, count-B, count-C, count-D, count-E, count-F, count-G, count-exchange}
 use Rattle.formula.proofs.Places.{exchange-getD}
 use Rattle.plan.specs.Plan.{planRow, cost}
 use Rattle.plan.specs.Passing.{ValidStep, Passes}
 use Rattle.plan.proofs.Steps.{vacant-exchange}
-use Rattle.calls.specs.Questions.{question13, question16}
+use Rattle.calls.specs.Questions.{question13, question16, question32, question33}
+use Rattle.calls.specs.Ceiling.{ceilingQuestions, ceilingSizeAnswer, ceilingWriteAnswer, ceilingDecodeAnswer, ceilingEncodeAnswer, ceilingReadAnswer}
+use Rattle.ceiling.specs.Ceiling.{underCeiling}
 use Rattle.calls.specs.Calls.{stepQuestions, planQuestions, textQuestions, sizeAnswer, writeRest, writeAnswer, clauseRest, clauseAnswer, checkRest, checkQuestions, checkAnswer, decodeRest, decodeAnswer, encodeRest, encodeAnswer, readRest, readAnswer, goalQuestion, floorQuestions, floorAnswer}
 use Rattle.calls.proofs.Occupied.{number-exchange}
 use Rattle.calls.proofs.Plan.{check-iff}
@@ -84,17 +86,28 @@ module _ (b : List ℕ) (m rule : ℕ) (e : instanceAnswer b m rule ≡ refuse 3
   sized : (c : ℕ) → Is31 (decide (instanceQuestions b m rule) c)
   sized c = subst (λ (qs : List Question). Is31 (decide qs c)) (append-nil (instanceQuestions b m rule)) (asked [] c)
 
+  -- with a ceiling
+  limited : (k : ℕ) (qs : List Question) (c : ℕ) → Is31 (decide (ceilingQuestions b m rule k ++ qs) c)
+  unfolding ceilingQuestions
+  limited k qs c =
+      subst (λ (rs : List Question). Is31 (decide rs c)) (sym (append-assoc (instanceQuestions b m rule) (question32 k ∷ []) qs)) (asked ((question32 k ∷ []) ++ qs) c)
+
   refused : Every b m rule (λ number place. (number ≡ 31) × (place ≡ 0))
-  unfolding withClauses sizeAnswer writeAnswer clauseAnswer checkAnswer decodeAnswer encodeAnswer readAnswer
+  unfolding withClauses sizeAnswer writeAnswer clauseAnswer checkAnswer decodeAnswer encodeAnswer readAnswer ceilingSizeAnswer ceilingWriteAnswer ceilingDecodeAnswer ceilingEncodeAnswer ceilingReadAnswer
   refused =
       record {
         size = λ f. sized _;
         writer = λ f room. asked (writeRest (f (instance b m rule)) room) _;
         clause = λ c room. asked (clauseRest (instance b m rule) c room) _;
         check = λ p. asked (checkRest (instance b m rule) p) _;
-        decoder = λ es room. asked (decodeRest (instance b m rule) es room) _;
-        encoder = λ p room. asked (encodeRest (instance b m rule) p room) _;
-        reader = λ text room. asked (readRest (instance b m rule) text room) _;
+        decoder = λ es room. asked (decodeRest (instance b m rule) (formula (instance b m rule)) es room) _;
+        encoder = λ p room. asked (encodeRest (instance b m rule) (formula (instance b m rule) .variables) p room) _;
+        reader = λ text room. asked (readRest (formula (instance b m rule) .variables) text room) _;
+        ceilingSize = λ k. subst (λ (qs : List Question). Is31 (decide qs (length (words (underCeiling k (instance b m rule)))))) (append-nil (ceilingQuestions b m rule k)) (limited k [] _);
+        ceilingWriter = λ k room. limited k _ _;
+        ceilingDecoder = λ k es room. limited k _ _;
+        ceilingEncoder = λ k p room. limited k _ _;
+        ceilingReader = λ k text room. limited k _ _;
       }
 
 -- ---- 20 and 26
@@ -135,6 +148,13 @@ module _ (b : List ℕ) (m rule : ℕ) where
   behind-instance : (qs : List Question) (c : ℕ) → Others qs → Neither (decide (instanceQuestions b m rule ++ qs) c .number)
   behind-instance qs c h = never-answered (instanceQuestions b m rule ++ qs) c (all-append (all other) (instanceQuestions b m rule) qs .1 (others-instance, h))
 
+  behind-ceiling : (k : ℕ) (qs : List Question) (c : ℕ) → Others qs → Neither (decide (ceilingQuestions b m rule k ++ qs) c .number)
+  unfolding ceilingQuestions
+  behind-ceiling k qs c h =
+      never-answered ((instanceQuestions b m rule ++ question32 k ∷ []) ++ qs) c
+      (all-append (all other) (instanceQuestions b m rule ++ question32 k ∷ []) qs .1
+      (all-append (all other) (instanceQuestions b m rule) (question32 k ∷ []) .1 (others-instance, simp (and-iff, ask-all) ((λ f. tt), tt)), h))
+
 -- under rule 2 question 20 has 25 alone
 others-plan : (I : Instance) → I .sizes .rule ≡ 2 → (p : List ℕ) → Others (planQuestions I p)
 unfolding planQuestions
@@ -151,7 +171,7 @@ module _ (b : List ℕ) (m : ℕ) where
   is-two = refl
 
   never : Every b m 2 (λ number second. Neither number)
-  unfolding withClauses sizeAnswer writeAnswer clauseAnswer checkAnswer decodeAnswer encodeAnswer readAnswer textQuestions
+  unfolding withClauses sizeAnswer writeAnswer clauseAnswer checkAnswer decodeAnswer encodeAnswer readAnswer textQuestions ceilingSizeAnswer ceilingWriteAnswer ceilingDecodeAnswer ceilingEncodeAnswer ceilingReadAnswer
   never =
       record {
         size = λ f. never-answered (instanceQuestions b m 2) _ (others-instance b m 2);
@@ -159,12 +179,24 @@ module _ (b : List ℕ) (m : ℕ) where
         clause = λ c room. behind-instance b m 2 (clauseRest I c room) _ (simp (and-iff, ask-all) ((λ f. tt), ((λ f. tt), tt)));
         check = λ p. behind-instance b m 2 (checkRest I p) _ (and-iff (all other (question13 I p)) _ .1 (simp ask-all (λ f. tt), others-plan I is-two p));
         decoder = λ es room.
-            behind-instance b m 2 (decodeRest I es room) _ (simp (and-iff, each-all, ask-all) ((λ f. tt), ((λ f. tt), ((λ i l f. tt), ((λ c l f. tt), tt)))));
+            behind-instance b m 2 (decodeRest I (formula I) es room) _ (simp (and-iff, each-all, ask-all) ((λ f. tt), ((λ f. tt), ((λ i l f. tt), ((λ c l f. tt), tt)))));
         encoder = λ p room.
-            behind-instance b m 2 (encodeRest I p room) _
+            behind-instance b m 2 (encodeRest I (formula I .variables) p room) _
             (and-iff (all other (question13 I p)) _ .1 (simp ask-all (λ f. tt), and-iff (all other (question16 (formula I .variables) room)) _ .1 (simp ask-all (λ f. tt), others-plan I is-two p)));
         reader = λ text room.
-            behind-instance b m 2 (readRest I text room) _
+            behind-instance b m 2 (readRest (formula I .variables) text room) _
+            (simp (and-iff, each-all, ask-all) ((λ f. tt), ((λ f. tt), ((λ i l f. tt), ((λ f. tt), ((λ f. tt), ((λ i l f. tt), tt)))))));
+        ceilingSize = λ k.
+            subst (λ (qs : List Question). Neither (decide qs (length (words (underCeiling k I))) .number)) (append-nil (ceilingQuestions b m 2 k)) (behind-ceiling b m 2 k [] _ tt);
+        ceilingWriter = λ k room. behind-ceiling b m 2 k (writeRest (underCeiling k I) room) _ (simp (and-iff, ask-all) ((λ f. tt), tt));
+        ceilingDecoder = λ k es room.
+            behind-ceiling b m 2 k (decodeRest I (underCeiling k I) es room) _ (simp (and-iff, each-all, ask-all) ((λ f. tt), ((λ f. tt), ((λ i l f. tt), ((λ c l f. tt), tt)))));
+        ceilingEncoder = λ k p room.
+            behind-ceiling b m 2 k (encodeRest I (underCeiling k I .variables) p room ++ question33 k I p ∷ []) _
+            (all-append (all other) (encodeRest I (underCeiling k I .variables) p room) (question33 k I p ∷ []) .1
+            (and-iff (all other (question13 I p)) _ .1 (simp ask-all (λ f. tt), and-iff (all other (question16 (underCeiling k I .variables) room)) _ .1 (simp ask-all (λ f. tt), others-plan I is-two p)), simp (and-iff, ask-all) ((λ f. tt), tt)));
+        ceilingReader = λ k text room.
+            behind-ceiling b m 2 k (readRest (underCeiling k I .variables) text room) _
             (simp (and-iff, each-all, ask-all) ((λ f. tt), ((λ f. tt), ((λ i l f. tt), ((λ f. tt), ((λ f. tt), ((λ i l f. tt), tt)))))));
       }
 

@@ -14,3 +14,4 @@ pub mod Free
 pub mod Rule
 pub mod Following
 pub mod Reversing
+pub mod Ceiling

@@ -14,6 +14,7 @@ use Rattle.instance.specs.Instance.{Instance}
 use Rattle.instance.specs.Questions.{instanceQuestions, instanceAnswer}
 use Rattle.formula.specs.Formula.{Formula}
 use Rattle.calls.specs.Calls.{sizeQuestions, sizeAnswer, writeQuestions, writeAnswer, writeSlice, clauseQuestions, clauseAnswer, clauseSlice, checkQuestions, checkAnswer, decodeQuestions, decodeAnswer, decodeSlice, encodeQuestions, encodeAnswer, encodeSlice, readQuestions, readAnswer, readSlice, floorQuestions, floorAnswer}
+use Rattle.calls.specs.Ceiling.{ceilingQuestions, ceilingSizeAnswer, ceilingWriteQuestions, ceilingWriteAnswer, ceilingWriteSlice, ceilingDecodeQuestions, ceilingDecodeAnswer, ceilingDecodeSlice, ceilingEncodeQuestions, ceilingEncodeAnswer, ceilingEncodeSlice, ceilingReadQuestions, ceilingReadAnswer, ceilingReadSlice}
 
 -- of items 0 to n - 1, each with a test and a refusal: the first that fails gives this answer, and every item before it passes
 pub record FirstItem (n : ℕ) (test : ℕ → Bool) (refusal : ℕ → Answer) (answer : Answer) : Type 0 where
@@ -65,6 +66,23 @@ module _ (b : List ℕ) (m rule : ℕ) where
     pub reader : (text : List ℕ) (room : ℕ)
         → Honest (readQuestions b m rule text room) (readAnswer b m rule text room .number) (readAnswer b m rule text room .second)
     pub readerSlice : (text : List ℕ) (s : List ℤ) → Unchanged (readAnswer b m rule text (length s) .number) s (readSlice b m rule text s)
+    -- with a ceiling
+    pub ceilingSize : (c : ℕ) → Honest (ceilingQuestions b m rule c) (ceilingSizeAnswer b m rule c .number) (ceilingSizeAnswer b m rule c .second)
+    pub ceilingWriter : (c room : ℕ)
+        → Honest (ceilingWriteQuestions b m rule c room) (ceilingWriteAnswer b m rule c room .number) (ceilingWriteAnswer b m rule c room .second)
+    pub ceilingWriterSlice : (c : ℕ) (s : List ℤ) → Unchanged (ceilingWriteAnswer b m rule c (length s) .number) s (ceilingWriteSlice b m rule c s)
+    pub ceilingDecoder : (c : ℕ) (entries : List ℤ) (room : ℕ)
+        → Honest (ceilingDecodeQuestions b m rule c entries room) (ceilingDecodeAnswer b m rule c entries room .number) (ceilingDecodeAnswer b m rule c entries room .second)
+    pub ceilingDecoderSlice : (c : ℕ) (entries : List ℤ) (s : List ℕ)
+        → Unchanged (ceilingDecodeAnswer b m rule c entries (length s) .number) s (ceilingDecodeSlice b m rule c entries s)
+    pub ceilingEncoder : (c : ℕ) (p : List ℕ) (room : ℕ)
+        → Honest (ceilingEncodeQuestions b m rule c p room) (ceilingEncodeAnswer b m rule c p room .number) (ceilingEncodeAnswer b m rule c p room .second)
+    pub ceilingEncoderSlice : (c : ℕ) (p : List ℕ) (s : List ℤ)
+        → Unchanged (ceilingEncodeAnswer b m rule c p (length s) .number) s (ceilingEncodeSlice b m rule c p s)
+    pub ceilingReader : (c : ℕ) (text : List ℕ) (room : ℕ)
+        → Honest (ceilingReadQuestions b m rule c text room) (ceilingReadAnswer b m rule c text room .number) (ceilingReadAnswer b m rule c text room .second)
+    pub ceilingReaderSlice : (c : ℕ) (text : List ℕ) (s : List ℤ)
+        → Unchanged (ceilingReadAnswer b m rule c text (length s) .number) s (ceilingReadSlice b m rule c text s)
     -- the floor, which is given no horizon
     pub floor : Honest (floorQuestions b) (floorAnswer b .number) (floorAnswer b .second)
 

@@ -16,6 +16,7 @@ use Rattle.formula.specs.Formula.{Formula, formula, exchange, clauses}
 use Rattle.formula.specs.Counts.{clausesBy}
 use Rattle.valuation.specs.Satisfying.{Valuation, Satisfies}
 use Rattle.calls.specs.Calls.{sizeAnswer, writeAnswer, clauseAnswer, checkAnswer, decodeAnswer, encodeAnswer, readAnswer, floorAnswer}
+use Rattle.calls.specs.Ceiling.{ceilingSizeAnswer, ceilingWriteAnswer, ceilingDecodeAnswer, ceilingEncodeAnswer, ceilingReadAnswer}
 use Rattle.claims.specs.Correspondence.{Accepts, N}
 
 -- number and second of every answer of the calls that are given a rule
@@ -27,6 +28,13 @@ pub record Every (b : List ℕ) (m rule : ℕ) (Holds : ℕ → ℕ → Type 0) 
   pub decoder : (entries : List ℤ) (room : ℕ) → Holds (decodeAnswer b m rule entries room .number) (decodeAnswer b m rule entries room .second)
   pub encoder : (p : List ℕ) (room : ℕ) → Holds (encodeAnswer b m rule p room .number) (encodeAnswer b m rule p room .second)
   pub reader : (text : List ℕ) (room : ℕ) → Holds (readAnswer b m rule text room .number) (readAnswer b m rule text room .second)
+  -- with a ceiling
+  pub ceilingSize : (c : ℕ) → Holds (ceilingSizeAnswer b m rule c .number) (ceilingSizeAnswer b m rule c .second)
+  pub ceilingWriter : (c room : ℕ) → Holds (ceilingWriteAnswer b m rule c room .number) (ceilingWriteAnswer b m rule c room .second)
+  pub ceilingDecoder : (c : ℕ) (entries : List ℤ) (room : ℕ)
+      → Holds (ceilingDecodeAnswer b m rule c entries room .number) (ceilingDecodeAnswer b m rule c entries room .second)
+  pub ceilingEncoder : (c : ℕ) (p : List ℕ) (room : ℕ) → Holds (ceilingEncodeAnswer b m rule c p room .number) (ceilingEncodeAnswer b m rule c p room .second)
+  pub ceilingReader : (c : ℕ) (text : List ℕ) (room : ℕ) → Holds (ceilingReadAnswer b m rule c text room .number) (ceilingReadAnswer b m rule c text room .second)
 
 -- some valuation satisfies the formula
 abbrev pub Satisfiable : List ℕ → ℕ → ℕ → Type 0

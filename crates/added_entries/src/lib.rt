@@ -1,0 +1,141 @@
+// The entries of the variables that a ceiling adds, for a plan: B, then the counting tree's own.
+use instance::Sizes;
+use variables::Variable;
+ghost use mathlib.Core.Path.{_≡_};
+ghost use mathlib.Core.List.{_++_};
+ghost use Prim.Native.Nat.{_+_, _≤_, min};
+ghost use lib.Dec.{ltb};
+ghost use lib.ListN.{length, take, replicate};
+ghost use Rattle.lists.specs.Slice.{filled, Wrote};
+ghost use Rattle.instance.specs.Limits.{Limits};
+ghost use Rattle.formula.specs.Variables.{highest};
+ghost use Rattle.plan.specs.Plan.{planBytes};
+ghost use Rattle.ceiling.specs.Tree.{entryOf};
+ghost use Rattle.ceiling.specs.Ceiling.{addedVariables};
+ghost use Rattle.ceiling.specs.Encoded.{busyEntries, counterEntries};
+ghost use Rattle.counting.specs.Over.{variablesOver};
+ghost use Rattle.added_entries.specs.Rest.{restTimes, busyIn, entriesOf, entriesOver, countOver};
+
+// The entries of a tree's own variables that were written, and how many of its inputs are true.
+struct Counted {
+    entries: usize,
+    count: usize,
+}
+
+// The agents' times until rest, 0 beyond them.
+fn rest_times(s: Sizes, p: &[u8]) -> [u8; 16]
+    requires { ⌜ Limits s ⌝ }
+    requires { ⌜ length (now p) ≡ planBytes s ⌝ }
+    ensures { λ r. ⌜ r ≡ filled (restTimes s (now (p .entry))) (replicate 16 0) ⌝ }
+{
+    let k = s.k;
+    let rows = s.m + 1;
+    let mut rest = [0u8; 16];
+    for a in 0..k {
+        rest[a] = plan_check::rest_time(s, p, rows, a) as u8;
+    }
+    rest
+}
+
+// Is input i true: is its agent not yet at rest at its time?
+fn is_busy(rest: &[u8; 16], k: usize, i: usize) -> bool
+    requires { ⌜ (1 ≤ k) × (k ≤ 16) ⌝ }
+    ensures { λ r. ⌜ r ≡ busyIn (now (rest .entry)) k i ⌝ }
+{
+    i / k < numbers::wide(rest[i % k])
+}
+
+// A variable's entry.
+fn entry_of(b: bool, x: Variable) -> i32
+    requires { ⌜ x .0 ≤ highest ⌝ }
+    ensures { λ r. ⌜ r ≡ entryOf b (x .0) ⌝ }
+{
+    if b {
+        return variables::literal_of(x);
+    }
+    variables::negation_of(x)
+}
+
+// The l inputs, which are the variables after x.
+fn write_inputs(z: &mut [i32], rest: &[u8; 16], k: usize, l: usize, x: usize)
+    requires { ⌜ (1 ≤ k) × (k ≤ 16) ⌝ }
+    requires { ⌜ (x + l ≤ highest) × (l ≤ length (now z)) ⌝ }
+    ensures { λ _. ⌜ now (z .exit) ≡ filled (entriesOf (busyIn (now (rest .entry)) k) l x) (now (z .entry)) ⌝ }
+{
+    for i in 0..l {
+        z[i] = entry_of(is_busy(rest, k, i), Variable(x + (i + 1)));
+    }
+}
+
+// w outputs, which are the variables after y: the first `count` are true.
+fn write_outputs(z: &mut [i32], w: usize, count: usize, y: usize)
+    requires { ⌜ (y + w ≤ highest) × (w ≤ length (now z)) ⌝ }
+    ensures { λ _. ⌜ now (z .exit) ≡ filled (entriesOf (λ j. ltb j count) w y) (now (z .entry)) ⌝ }
+{
+    for j in 0..w {
+        z[j] = entry_of(j < count, Variable(y + (j + 1)));
+    }
+}
+
+// The topmost node's outputs, behind the entries of its two subtrees. All of them stand after y.
+fn write_node(z: &mut [i32], c: usize, l: usize, y: usize, left: Counted, right: Counted) -> Counted
+    requires { ⌜ (c ≤ 128) × (left .count ≤ highest) × (right .count ≤ highest) ⌝ }
+    requires { ⌜ (y + (left .entries + right .entries + min l (c + 1)) ≤ highest) × (left .entries + right .entries + min l (c + 1) ≤ length (now z)) ⌝ }
+    ensures { λ r. ⌜ r .count ≡ left .count + right .count ⌝ }
+    ensures { λ r. ⌜ Wrote (take (left .entries + right .entries) (now (z .entry)) ++ entriesOf (λ j. ltb j (left .count + right .count)) (min l (c + 1)) (y + (left .entries + right .entries))) (now (z .entry)) (now (z .exit)) (r .entries) ⌝ }
+{
+    let at = left.entries + right.entries;
+    let count = left.count + right.count;
+    let w = counting::smaller(l, c + 1);
+    write_outputs(&mut z[at..], w, count, y + at);
+    Counted {
+        entries: at + w,
+        count,
+    }
+}
+
+// The tree over the l inputs from x on, its own variables after y.
+fn write_tree(
+    z: &mut [i32],
+    rest: &[u8; 16],
+    k: usize,
+    c: usize,
+    l: usize,
+    x: usize,
+    y: usize,
+) -> Counted
+    requires { ⌜ (1 ≤ k) × (k ≤ 16) ⌝ }
+    requires { ⌜ (c ≤ 128) × (1 ≤ l) × (x + l ≤ highest) × (y + variablesOver c l ≤ highest) × (variablesOver c l ≤ length (now z)) ⌝ }
+    ensures { λ r. ⌜ r .count ≡ countOver (now (rest .entry)) k l x ⌝ }
+    ensures { λ r. ⌜ Wrote (entriesOver (now (rest .entry)) k c l x y) (now (z .entry)) (now (z .exit)) (r .entries) ⌝ }
+{
+    if l < 2 {
+        return Counted {
+            entries: 0,
+            count: is_busy(rest, k, x) as usize,
+        };
+    }
+    let half = l / 2;
+    let left = write_tree(z, rest, k, c, half, x, y);
+    let at = left.entries;
+    let right = write_tree(&mut z[at..], rest, k, c, l - half, x + half, y + at);
+    write_node(z, c, l, y, left, right)
+}
+
+// What is added: B, then the tree's own variables. At m 0 that is nothing.
+pub fn write_added(z: &mut [i32], s: Sizes, c: usize, p: &[u8])
+    requires { ⌜ Limits s ⌝ }
+    requires { ⌜ c ≤ 128 ⌝ }
+    requires { ⌜ (length (now p) ≡ planBytes s) × (addedVariables s c ≤ length (now z)) ⌝ }
+    ensures { λ _. ⌜ now (z .exit) ≡ filled (busyEntries s (now (p .entry)) ++ counterEntries s (now (p .entry)) c) (now (z .entry)) ⌝ }
+{
+    let k = s.k;
+    let l = s.m * k;
+    if l == 0 {
+        return;
+    }
+    let n = counts::variable_count(s);
+    let rest = rest_times(s, p);
+    write_inputs(z, &rest, k, l, n);
+    write_tree(&mut z[l..], &rest, k, c, l, 0, n + l);
+}

@@ -1,0 +1,119 @@
+-- What is claimed of the calls with a ceiling on the cost: which valuations and plans they accept, what B and the outputs of the counting
+-- tree mean, when 32 and 33 are answered, and what a ceiling adds. `Size`, `Reader`, `Refusals` and `Rule` say of these calls too what
+-- they say of the others.
+use mathlib.Core.Path.{_≡_}
+use mathlib.Core.Logic.{_↔_, _≢_}
+use mathlib.Core.List.{List}
+use mathlib.Core.Bool.{Bool}
+use Prim.Native.Nat.{ℕ, _+_, _*_, _≤_, _<_}
+use lib.ListN.{length, take}
+use lib.IntN.{ℤ}
+use Rattle.answers.specs.Answers.{refuse}
+use Rattle.instance.specs.Instance.{Instance, instance}
+use Rattle.instance.specs.Questions.{instanceAnswer}
+use Rattle.formula.specs.Formula.{Formula, formula, words}
+use Rattle.formula.specs.Counts.{largestSizes}
+use Rattle.plan.specs.Plan.{planBytes, planRow, restTime, cost}
+use Rattle.valuation.specs.Satisfying.{True, Valuation, Satisfies, Names}
+use Rattle.ceiling.specs.Tree.{Tree, input, node, inputs, outputs, variables, before, on, count}
+use Rattle.ceiling.specs.Ceiling.{busyNumber, root, ceilingVariables, ceilingCount, ceilingWords, underCeiling}
+use Rattle.ceiling.specs.Encoded.{busyAt}
+use Rattle.calls.specs.Calls.{checkAnswer}
+use Rattle.calls.specs.Ceiling.{ceilingAnswer, ceilingSizeAnswer, ceilingWriteAnswer, ceilingDecodeAnswer, ceilingDecodeSlice, ceilingEncodeAnswer, ceilingEncodeSlice, ceilingReadAnswer}
+use Rattle.claims.specs.Correspondence.{Accepts}
+
+-- Under the entries, where b says which inputs are true: output i of each node is true exactly where at least i of its inputs are. The
+-- tree's inputs stand after x, its own variables after y.
+abbrev pub Counts : List ℤ → (ℕ → Bool) → ℕ → Tree → ℕ → ℕ → Type 0
+Counts entries b c input x y = Unit {0}
+Counts entries b c (node l r) x y =
+    Counts entries b c l x y
+    × Counts entries b c r (x + inputs l) (y + variables c l)
+    × ((i : ℕ) → 0 < i → i ≤ outputs c (node l r) → True entries (on (before c (node l r) x y + i)) ↔ (i ≤ count b x (inputs (node l r))))
+
+-- for the instance bytes b, the horizon m, the rule and the ceiling c
+module _ (b : List ℕ) (m rule c : ℕ) where
+  abbrev I : Instance
+  I = instance b m rule
+
+  -- the formula with the ceiling
+  abbrev limited : Formula
+  limited = underCeiling c I
+
+  abbrev pub bytes : ℕ
+  bytes = planBytes (I .sizes)
+
+  -- all variables: N and those added
+  abbrev pub all : ℕ
+  all = limited .variables
+
+  -- the plan handed back, and the valuation written
+  abbrev pub handedBack : List ℤ → List ℕ → List ℕ
+  handedBack entries s = take bytes (ceilingDecodeSlice b m rule c entries s)
+
+  abbrev pub written : List ℕ → List ℤ → List ℤ
+  written p z = take all (ceilingEncodeSlice b m rule c p z)
+
+  -- a plan passes the check and costs at most c
+  abbrev pub Within : List ℕ → Type 0
+  Within p = Accepts (checkAnswer b m rule p) × (cost (I .sizes) p ≤ c)
+
+  pub record Ceiling : Type 0 where
+    -- the decoder accepts exactly the valuations of all variables that satisfy every clause
+    pub decoder : (entries : List ℤ) (s : List ℕ) → bytes ≤ length s
+        → Accepts (ceilingDecodeAnswer b m rule c entries (length s)) ↔ (Valuation all entries × Satisfies limited entries)
+    -- the plan handed back is the one that the valuation names; it passes the check and costs at most c
+    pub decoded : (entries : List ℤ) (s : List ℕ) → bytes ≤ length s → Accepts (ceilingDecodeAnswer b m rule c entries (length s))
+        → Names (I .sizes) entries (handedBack entries s) × Within (handedBack entries s)
+    -- its count is that without a ceiling
+    pub decodedCount : (entries : List ℤ) (room : ℕ) → Accepts (ceilingDecodeAnswer b m rule c entries room)
+        → ceilingDecodeAnswer b m rule c entries room .second ≡ (m + 1) * I .sizes .k
+    -- the encoder accepts exactly the plans that pass the check and cost at most c
+    pub encoder : (p : List ℕ) (z : List ℤ) → all ≤ length z
+        → Accepts (ceilingEncodeAnswer b m rule c p (length z)) ↔ Within p
+    -- what it writes is a satisfying valuation that names that plan, and the decoder turns it back into the same bytes
+    pub encoded : (p : List ℕ) (z : List ℤ) → all ≤ length z → Accepts (ceilingEncodeAnswer b m rule c p (length z))
+        → Valuation all (written p z) × Satisfies limited (written p z) × Names (I .sizes) (written p z) p
+        × ((s : List ℕ) → bytes ≤ length s
+        → Accepts (ceilingDecodeAnswer b m rule c (written p z) (length s)) × (handedBack (written p z) s ≡ p))
+    -- in it B(t,a) is true exactly while agent a is not yet at rest, and the outputs count the B
+    pub busy : (p : List ℕ) (z : List ℤ) → all ≤ length z → Accepts (ceilingEncodeAnswer b m rule c p (length z))
+        → (t a : ℕ) → t < I .sizes .m → a < I .sizes .k
+        → True (written p z) (on (busyNumber (I .sizes) t a)) ↔ (t < restTime (I .sizes .m) (planRow (I .sizes) p) a)
+    pub counted : (p : List ℕ) (z : List ℤ) → all ≤ length z → Accepts (ceilingEncodeAnswer b m rule c p (length z))
+        → 0 < I .sizes .m * I .sizes .k
+        → Counts (written p z) (busyAt (I .sizes) p) c (root (I .sizes)) (formula I .variables) (formula I .variables + I .sizes .m * I .sizes .k)
+    pub encodedCount : (p : List ℕ) (room : ℕ) → Accepts (ceilingEncodeAnswer b m rule c p room) → ceilingEncodeAnswer b m rule c p room .second ≡ all
+    pub readCount : (text : List ℕ) (room : ℕ) → Accepts (ceilingReadAnswer b m rule c text room) → ceilingReadAnswer b m rule c text room .second ≡ all
+    -- a plan that the check refuses it refuses alike; one that passes and costs more gets 33, and its cost
+    pub alike : (p : List ℕ) (z : List ℤ) → all ≤ length z → checkAnswer b m rule p .number ≢ 0
+        → ceilingEncodeAnswer b m rule c p (length z) ≡ checkAnswer b m rule p
+    pub costly : (p : List ℕ) (z : List ℤ) → all ≤ length z → Accepts (checkAnswer b m rule p) → c < cost (I .sizes) p
+        → ceilingEncodeAnswer b m rule c p (length z) ≡ refuse 33 (cost (I .sizes) p)
+    -- some valuation satisfies the formula exactly when some plan passes the check and costs at most c
+    pub satisfiable : ((entries : List ℤ) × Valuation all entries × Satisfies limited entries) ↔ ((p : List ℕ) × Within p)
+    -- the counts are those of the lists: variables as numbered, clauses, words
+    pub clauses : length (limited .clauses) ≡ ceilingCount (I .sizes) c
+    pub words : length (words limited) ≡ ceilingWords (I .sizes) c
+    -- no formula has more variables than this
+    pub most : all ≤ 38_912
+
+-- a ceiling above 128 gets 32 and place 0 from every call that is given one
+pub record Refused (b : List ℕ) (m rule c : ℕ) : Type 0 where
+  pub size : (ceilingSizeAnswer b m rule c .number ≡ 32) × (ceilingSizeAnswer b m rule c .second ≡ 0)
+  pub writer : (room : ℕ) → ceilingWriteAnswer b m rule c room ≡ refuse 32 0
+  pub decoder : (entries : List ℤ) (room : ℕ) → ceilingDecodeAnswer b m rule c entries room ≡ refuse 32 0
+  pub encoder : (p : List ℕ) (room : ℕ) → ceilingEncodeAnswer b m rule c p room ≡ refuse 32 0
+  pub reader : (text : List ℕ) (room : ℕ) → ceilingReadAnswer b m rule c text room ≡ refuse 32 0
+
+pub record Claim : Type 0 where
+  -- for every accepted instance, horizon and rule, and every ceiling from 0 to 128
+  pub ceiling : (b : List ℕ) (m rule c : ℕ) → Accepts (instanceAnswer b m rule) → c ≤ 128 → Ceiling b m rule c
+  -- what is asked first accepts exactly these; what the instance check refuses is refused alike, and else a higher ceiling gets 32
+  pub accepts : (b : List ℕ) (m rule c : ℕ) → Accepts (ceilingAnswer b m rule c) ↔ (Accepts (instanceAnswer b m rule) × (c ≤ 128))
+  pub first : (b : List ℕ) (m rule c : ℕ) → instanceAnswer b m rule .number ≢ 0 → ceilingAnswer b m rule c ≡ instanceAnswer b m rule
+  pub high : (b : List ℕ) (m rule c : ℕ) → Accepts (instanceAnswer b m rule) → 128 < c → Refused b m rule c
+  -- at m 0 nothing is added
+  pub nothing : (b : List ℕ) (rule c : ℕ) → underCeiling c (instance b 0 rule) ≡ formula (instance b 0 rule)
+  -- the largest, under rule 2
+  pub largest : (ceilingVariables (largestSizes 2) 128 ≡ 38_275) × (ceilingCount (largestSizes 2) 128 ≡ 16_953_636) × (ceilingWords (largestSizes 2) 128 ≡ 84_038_444)
