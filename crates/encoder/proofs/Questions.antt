@@ -1,4 +1,4 @@
--- The encoder's questions one after another, for any number N of variables, and what an acceptance says of the plan and the slice.
+-- The encoder's questions one after another, for any number N of variables.
 use mathlib.Core.Path.{_≡_, sym, _∙_, ap}
 use mathlib.Core.Logic.{_≢_}
 use mathlib.Core.List.{List, _∷_}
@@ -51,13 +51,3 @@ module _ (I : Instance) (s : Sizes) (es : s ≡ I .sizes) (N : ℕ) (p : List �
       pass-plan z =
           let known = and-iff (numbered q13) _ .0 (numbered-plan I p) .1 in
           sym (pass-16 ∙ decide-count plan N (decide-iff plan 0 known .0 (sym (ap (λ (a : Answer). a .number) er) ∙ z)))
-
-  -- what an acceptance says
-  pub ready : decide (encodeRest I N p size) N .number ≡ 0 → (length p ≡ planBytes s) × (N ≤ size)
-  ready e =
-      let t = decide-iff (encodeRest I N p size) N (numbered-second q13 q16 plan (ask-all _ (leb N size) _ .1 (λ f. tt)) (numbered-plan I p)) .0 e in
-      let (x, y) = and-iff (clear q13) _ .0 t in
-      let o = and-iff (clear q16) _ .0 y .0 in
-      let h : length p ≡ planBytes (I .sizes) = eqb-iff _ _ .0 (ask-nil (eqb (length p) (planBytes (I .sizes))) (refuse 13 (length p)) .0 (clear-iff q13 .0 x)) in
-      let l : N ≤ size = leb-iff _ _ .0 (ask-nil (leb N size) (refuse 16 N) .0 (clear-iff q16 .0 o)) in
-      (h ∙ sym bytes-same, l)

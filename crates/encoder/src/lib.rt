@@ -69,6 +69,7 @@ pub fn ask_encoding(
 ) -> Answer
     requires { ⌜ Limits s ⌝ }
     ensures { λ r. ⌜ ((I : Instance) → Shows I s (now (starts .entry)) (now (goals .entry)) (now (near .entry)) → r ≡ decide (encodeRest I count (now (p .entry)) size) count) ⌝ }
+    ensures { λ r. ⌜ (r .number ≡ 0 → (length (now (p .entry)) ≡ planBytes s) × (count ≤ size)) ⌝ }
 {
     let len = p.len();
     if len != counts::plan_bytes(s) {

@@ -15,7 +15,6 @@ use Rattle.formula.specs.Variables.{variableCount}
 use Rattle.formula.specs.Formula.{formula}
 use Rattle.valuation.specs.Valuation.{planValuation}
 use Rattle.calls.specs.Calls.{encodeRest, encodeAnswer, encodeSlice}
-use Rattle.encoder.proofs.Questions.{ready}
 use borrow.Author.Needs.{needs}
 use Rattle.encoder.proofs.encode.Statement.{statement}
 use Rattle.encoder.proofs.encode.Tie as tie
@@ -51,20 +50,19 @@ ask-encoding-requires c κs = limits-known _ _ (known (c .before .before .before
 returns-2 : tie.Need-returns-2
 unfolding encodeAnswer encodeSlice
 returns-2 c =
-    let e = call-answers (c .before .before .before .before .before .before .before .before .before .before .before .before .before .before .before .before .before .before .args .b .now) (c .before .before .before .before .before .before .before .before .before .before .before .before .before .before .before .before .before .before .args .m) (c .before .before .before .before .before .before .before .before .before .before .before .before .before .before .before .before .before .before .args .rule) (c .before .before .before .before .before .before .before .before .before .before .before .before .before .before .before .check-instance .result .answer) (c .before .before .before .before .before .before .before .before .before .before .before .before .before .before .before .check-instance .result .checked) (c .before .before .before .before .before .before .before .before .before .before .before .before .before .before .before .check-instance .ensures .0) (c .before .before .before .before .before .before .before .before .before .before .before .before .before .before .before .check-instance .ensures .1) (asks (c .before .before .before .before .before .before .before .before .before .before .before .before .before .before .before .before .before .before)) count (c .before .before .before .before .before .before .before .before .before .before .before .before .if1 .left) (c .before .before .ask-encoding .result) (told (c .before .before .before .before .before .before .before) (c .before .before .ask-encoding .result) (c .before .before .ask-encoding .ensures _ (shown _ _ (known (c .before .before .before .before .before .before .before .before .before .before .before .before))))) in
+    let e = call-answers (c .before .before .before .before .before .before .before .before .before .before .before .before .before .before .before .before .before .before .args .b .now) (c .before .before .before .before .before .before .before .before .before .before .before .before .before .before .before .before .before .before .args .m) (c .before .before .before .before .before .before .before .before .before .before .before .before .before .before .before .before .before .before .args .rule) (c .before .before .before .before .before .before .before .before .before .before .before .before .before .before .before .check-instance .result .answer) (c .before .before .before .before .before .before .before .before .before .before .before .before .before .before .before .check-instance .result .checked) (c .before .before .before .before .before .before .before .before .before .before .before .before .before .before .before .check-instance .ensures .0) (c .before .before .before .before .before .before .before .before .before .before .before .before .before .before .before .check-instance .ensures .1) (asks (c .before .before .before .before .before .before .before .before .before .before .before .before .before .before .before .before .before .before)) count (c .before .before .before .before .before .before .before .before .before .before .before .before .if1 .left) (c .before .before .ask-encoding .result) (told (c .before .before .before .before .before .before .before) (c .before .before .ask-encoding .result) (c .before .before .ask-encoding .ensures .0 _ (shown _ _ (known (c .before .before .before .before .before .before .before .before .before .before .before .before))))) in
     (e, slice-refused _ (c .before .before .ask-encoding .result) e _ (c .before .before .before .before .before .before .before .before .before .before .before .before .before .before .before .before .before .before .args .z .now) (c .if2 .taken))
 
 write-valuation-requires : tie.Need-write-valuation-requires
 write-valuation-requires c κs =
-    let w = known (c .before .before .before .before .before .before .before .before .before .before .before .before .before) in
-    let y = ready (instanceOf (c .before .before .before .before .before .before .before .before .before .before .before .before .before .before .before .before .before .before .before .args .b .now) (c .before .before .before .before .before .before .before .before .before .before .before .before .before .before .before .before .check-instance .result .checked)) _ (sizes-same _ _ w) _ (c .before .before .before .before .before .before .before .before .before .before .before .before .before .before .before .before .before .before .before .args .p .now) (length (c .before .before .before .before .before .before .before .before .before .before .before .before .before .before .before .before .before .before .before .args .z .now)) (sym (ap (λ (a : Answer). a .number) (told (c .before .before .before .before .before .before .before .before) (c .before .before .before .ask-encoding .result) (c .before .before .before .ask-encoding .ensures _ (shown _ _ (known (c .before .before .before .before .before .before .before .before .before .before .before .before .before)))))) ∙ c .before .if2 .left) in
-    (limits-known _ _ w, (y .0, subst (λ (x : ℕ). x ≤ length (c .before .before .before .before .before .before .before .before .before .before .before .before .before .before .before .before .before .before .before .args .z .now)) (sym (ap variableCount (sizes-same _ _ w))) (y .1)))
+    let (l, r) = c .before .before .before .ask-encoding .ensures .1 (c .before .if2 .left) in
+    (limits-known _ _ (known (c .before .before .before .before .before .before .before .before .before .before .before .before .before)), (l, subst (λ (x : ℕ). x ≤ length (c .before .before .before .before .before .before .before .before .before .before .before .before .before .before .before .before .before .before .before .args .z .now)) (c .before .before .before .before .before .before .before .before .variable-count .ensures .0) r))
 
 returns-3 : tie.Need-returns-3
 unfolding encodeAnswer encodeSlice
 returns-3 c =
     let w = known (c .before .before .before .before .before .before .before .before .before .before .before .before .before .before .before) in
-    let e = call-answers (c .before .before .before .before .before .before .before .before .before .before .before .before .before .before .before .before .before .before .before .before .before .args .b .now) (c .before .before .before .before .before .before .before .before .before .before .before .before .before .before .before .before .before .before .before .before .before .args .m) (c .before .before .before .before .before .before .before .before .before .before .before .before .before .before .before .before .before .before .before .before .before .args .rule) (c .before .before .before .before .before .before .before .before .before .before .before .before .before .before .before .before .before .before .check-instance .result .answer) (c .before .before .before .before .before .before .before .before .before .before .before .before .before .before .before .before .before .before .check-instance .result .checked) (c .before .before .before .before .before .before .before .before .before .before .before .before .before .before .before .before .before .before .check-instance .ensures .0) (c .before .before .before .before .before .before .before .before .before .before .before .before .before .before .before .before .before .before .check-instance .ensures .1) (asks (c .before .before .before .before .before .before .before .before .before .before .before .before .before .before .before .before .before .before .before .before .before)) count (c .before .before .before .before .before .before .before .before .before .before .before .before .before .before .before .if1 .left) (c .before .before .before .before .before .ask-encoding .result) (told (c .before .before .before .before .before .before .before .before .before .before) (c .before .before .before .before .before .ask-encoding .result) (c .before .before .before .before .before .ask-encoding .ensures _ (shown _ _ (known (c .before .before .before .before .before .before .before .before .before .before .before .before .before .before .before))))) in
+    let e = call-answers (c .before .before .before .before .before .before .before .before .before .before .before .before .before .before .before .before .before .before .before .before .before .args .b .now) (c .before .before .before .before .before .before .before .before .before .before .before .before .before .before .before .before .before .before .before .before .before .args .m) (c .before .before .before .before .before .before .before .before .before .before .before .before .before .before .before .before .before .before .before .before .before .args .rule) (c .before .before .before .before .before .before .before .before .before .before .before .before .before .before .before .before .before .before .check-instance .result .answer) (c .before .before .before .before .before .before .before .before .before .before .before .before .before .before .before .before .before .before .check-instance .result .checked) (c .before .before .before .before .before .before .before .before .before .before .before .before .before .before .before .before .before .before .check-instance .ensures .0) (c .before .before .before .before .before .before .before .before .before .before .before .before .before .before .before .before .before .before .check-instance .ensures .1) (asks (c .before .before .before .before .before .before .before .before .before .before .before .before .before .before .before .before .before .before .before .before .before)) count (c .before .before .before .before .before .before .before .before .before .before .before .before .before .before .before .if1 .left) (c .before .before .before .before .before .ask-encoding .result) (told (c .before .before .before .before .before .before .before .before .before .before) (c .before .before .before .before .before .ask-encoding .result) (c .before .before .before .before .before .ask-encoding .ensures .0 _ (shown _ _ (known (c .before .before .before .before .before .before .before .before .before .before .before .before .before .before .before))))) in
     let same = sizes-same _ _ w ∙ ap (λ (J : Instance). J .sizes) (horizon (c .before .before .before .before .before .before .before .before .before .before .before .before .before .before .before .before .before .before .before .before .before .args .b .now) (c .before .before .before .before .before .before .before .before .before .before .before .before .before .before .before .before .before .before .before .before .before .args .m) (c .before .before .before .before .before .before .before .before .before .before .before .before .before .before .before .before .before .before .before .before .before .args .rule) (c .before .before .before .before .before .before .before .before .before .before .before .before .before .before .before .before .before .before .check-instance .result .answer) (c .before .before .before .before .before .before .before .before .before .before .before .before .before .before .before .before .before .before .check-instance .result .checked) (c .before .before .before .before .before .before .before .before .before .before .before .before .before .before .before .before .before .before .check-instance .ensures .0) (c .before .before .before .before .before .before .before .before .before .before .before .before .before .before .before .before .before .before .check-instance .ensures .1) (c .before .before .before .before .before .before .before .before .before .before .before .before .before .before .before .if1 .left)) in (
       e,
       c .before .write-valuation .ensures ∙ ap (λ (s : Sizes). filled (planValuation s (c .before .before .before .before .before .before .before .before .before .before .before .before .before .before .before .before .before .before .before .before .before .args .p .now)) (c .before .before .before .before .before .before .before .before .before .before .before .before .before .before .before .before .before .before .before .before .before .args .z .now)) same
