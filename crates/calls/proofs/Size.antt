@@ -7,12 +7,15 @@ use native.Mathlib.Decide.{decLt}
 use native.Mathlib.Omega.{arith}
 use lib.ListN.{length}
 use lib.Dec.{T, leb}
+use lib.IntN.{ℤ}
 use Rattle.lists.specs.Loop.{all}
+use Rattle.lists.specs.Slice.{filled}
 use Rattle.lists.proofs.Tests.{leb-iff}
 use Rattle.answers.specs.declared.Answer.{Answer}
 use Rattle.answers.specs.declared.Size.{Size}
-use Rattle.answers.specs.Answers.{Question, refuse, accept, decide, withClauses}
-use Rattle.answers.proofs.Laws.{numbered, ask-yes, ask-no, asked-all, count-free, decide-iff, decide-after, decide-refused, decide-count, no-clauses}
+use Rattle.answers.specs.Answers.{Question, refuse, accept, decide, lent, withClauses}
+use Rattle.answers.proofs.Laws.{numbered, ask-yes, ask-no, asked-all, count-free, decide-iff, decide-after, decide-refused, decide-count, no-clauses, lent-accepted, lent-refused}
+use Rattle.instance.specs.Instance.{Instance}
 use Rattle.formula.specs.Formula.{Formula, words}
 use Rattle.calls.specs.Questions.{question12}
 use Rattle.calls.specs.Calls.{writeRest}
@@ -62,3 +65,36 @@ module _ (qs : List Question) (ok : T (all numbered qs)) (F : Formula) where
 
     pub write-passed : decide qs 0 .number ≡ 0 → decide (writeRest F room) 0 ≡ decide (qs ++ writeRest F room) 0
     write-passed e = sym (decide-after qs (writeRest F room) 0 (decide-iff qs 0 ok .0 e))
+
+-- ---- a writer of the formula f I, where a function asks qs and answers a, and has found the instance J; its slice holds s
+module _ (f : Instance → Formula) (qs : List Question) (ok : T (all numbered qs)) (I J : Instance) (a : Answer) (ea : a ≡ decide qs 0) (same : a .number ≡ 0 → J ≡ I) (s : List ℤ) where
+  abbrev pub written : Answer
+  written = decide (qs ++ writeRest (f I) (length s)) 0
+
+  abbrev pub slice : List ℤ
+  slice = lent written (words (f I)) s
+
+  unchanged : (r : Answer) → r ≡ written → r .number ≢ 0 → s ≡ slice
+  unchanged r e d = sym (lent-refused written (words (f I)) s (subst (λ (x : Answer). x .number ≢ 0) e d))
+
+  pub write-refuses : a .number ≢ 0 → (a ≡ written) × (s ≡ slice)
+  write-refuses d =
+      let e : a ≡ written = ea ∙ write-refused qs ok (f I) (length s) (subst (λ (x : Answer). x .number ≢ 0) ea d) in
+      (e, unchanged a e d)
+
+  -- so many words are needed, and r is the answer to 12
+  module _ (o : a .number ≡ 0) (needed : ℕ) (count : length (words (f J)) ≡ needed) (r : Answer) (er : r ≡ decide (question12 needed (length s) ∷ []) 0) where
+    answers : r ≡ written
+    answers =
+        er
+        ∙ ap (λ (x : ℕ). decide (question12 x (length s) ∷ []) 0) (sym count ∙ ap (λ (K : Instance). length (words (f K))) (same o))
+        ∙ write-passed qs ok (f I) (length s) (sym (ap (λ (x : Answer). x .number) ea) ∙ o)
+
+    pub write-stops : r .number ≢ 0 → (r ≡ written) × (s ≡ slice)
+    write-stops d = (answers, unchanged r answers d)
+
+    pub write-fills : r .number ≡ 0 → (g : List ℤ) → g ≡ filled (words (f J)) s → (r ≡ written) × (g ≡ slice)
+    write-fills z g eg = (
+      answers,
+      eg ∙ ap (λ (K : Instance). filled (words (f K)) s) (same o) ∙ sym (lent-accepted written (words (f I)) s (subst (λ (x : Answer). x .number ≡ 0) answers z)),
+    )

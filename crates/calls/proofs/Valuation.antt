@@ -28,7 +28,7 @@ module _ (es : List ℤ) where
     (λ i. any-mem (sameNumber l) es .1 (l, i, sameNumber-iff l l .1 refl)),
   )
 
-  right-iff : (i : ℕ) → T (rightEntry es i) ↔ ((entry es i ≡ pos (suc i)) ⊎ (entry es i ≡ negℤ (pos (suc i))))
+  pub right-iff : (i : ℕ) → T (rightEntry es i) ↔ ((entry es i ≡ pos (suc i)) ⊎ (entry es i ≡ negℤ (pos (suc i))))
   right-iff i =
       let z : ℤ = entry es i in (
         (λ t. ⊎-elim (λ u. inl (sameNumber-iff z (pos (suc i)) .0 u)) (λ u. inr (sameNumber-iff z (negsuc i) .0 u)) (or-iff (sameNumber z (pos (suc i))) _ .0 t)),

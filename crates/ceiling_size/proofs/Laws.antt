@@ -1,11 +1,13 @@
 -- What a ceiling adds, with its bounds, and the size of the formula with a ceiling.
 use mathlib.Core.Path.{_≡_, refl, sym, _∙_, ap}
-use mathlib.Core.Logic.{_≢_}
+use mathlib.Core.Logic.{_≢_, by-cases}
 use mathlib.Core.List.{List}
 use Prim.Native.Nat.{ℕ, zero, suc, _+_, _*_, _-_, _≤_, _<_}
 use native.Mathlib.Nat.{suc-mul, zero-mul, mul-le-mul}
+use native.Mathlib.Decide.{decLt}
 use native.Mathlib.Omega.{arith}
 use borrow.Author.Tests.{le-ltb}
+use lib.Dec.{ltb}
 use lib.ListN.{length}
 use Rattle.answers.specs.declared.Answer.{Answer}
 use Rattle.answers.specs.Answers.{accept, withClauses}
@@ -20,7 +22,7 @@ use Rattle.formula.specs.Formula.{words}
 use Rattle.formula.proofs.Limits.{agent-steps}
 use Rattle.ceiling.specs.Tree.{treeOver, variables, clausesIn, wordsIn}
 use Rattle.ceiling.specs.Ceiling.{addedVariables, addedCount, addedWords, ceilingCount, ceilingWords, underCeiling}
-use Rattle.ceiling.proofs.Tree.{tree-one}
+use Rattle.ceiling.proofs.Tree.{tree-one, one-of}
 use Rattle.ceiling.proofs.Counts.{ceiling-count, ceiling-words}
 use Rattle.calls.specs.Ceiling.{ceilingQuestions, ceilingAnswer, ceilingSizeAnswer}
 use Rattle.calls.proofs.Size.{size-refuses, size-accepts}
@@ -74,6 +76,13 @@ module _ (s : Sizes) (w : Limits s) where
         clauses = x;
         words = y;
       }
+
+  pub added-most : (c : ℕ) → c ≤ 128 → addedCount s c ≤ 9000000
+  unfolding addedCount clauseCountOver
+  added-most c h =
+      by-cases (decLt 0 (m * k))
+      (λ o. let p = parts c h o in let x = p .moves in let y = p .waits in let z = p .clauses in omega (arith, one-of (ltb c (m * k)) .1))
+      (λ o. omega (arith, none-added c (omega arith) .1))
 
 -- ---- the size call, where the check answers a and gives k
 module _ (b : List ℕ) (m rule c : ℕ) (a : Answer) (k : Checked) (ea : a ≡ ceilingAnswer b m rule c) (ek : k ≡ instanceChecked b m rule) where

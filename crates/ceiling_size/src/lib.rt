@@ -10,7 +10,7 @@ ghost use Prim.Native.Nat.{_≤_};
 ghost use lib.Dec.{ltb};
 ghost use Rattle.instance.specs.Limits.{Limits};
 ghost use Rattle.instance.specs.Questions.{instanceChecked};
-ghost use Rattle.ceiling.specs.Ceiling.{addedVariables, addedCount, addedWords, ceilingVariables};
+ghost use Rattle.ceiling.specs.Ceiling.{addedVariables, addedCount, addedWords, ceilingVariables, ceilingWords};
 ghost use Rattle.calls.specs.Ceiling.{ceilingAnswer, ceilingSizeAnswer};
 
 // Questions 1 to 10, 31 and 32.
@@ -81,6 +81,16 @@ pub fn variables(s: Sizes, c: usize) -> usize
 {
     let more = added(s, c);
     counts::variable_count(s) + more.variables
+}
+
+// All its words.
+pub fn words(s: Sizes, c: usize) -> usize
+    requires { ⌜ Limits s ⌝ }
+    requires { ⌜ c ≤ 128 ⌝ }
+    ensures { λ r. ⌜ r ≡ ceilingWords s c ⌝ }
+{
+    let more = added(s, c);
+    counts::word_count(s) + more.words
 }
 
 // The size call: questions 1 to 10, 31 and 32.

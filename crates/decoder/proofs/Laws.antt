@@ -18,11 +18,11 @@ use Rattle.instance.specs.declared.Sizes.{Sizes}
 use Rattle.instance.specs.Instance.{Instance}
 use Rattle.formula.specs.Variables.{variableCount}
 use Rattle.formula.specs.Formula.{clauses, Formula}
-use Rattle.plan.specs.Plan.{planBytes}
+use Rattle.plan.specs.Plan.{planBytes, planRow}
 use Rattle.valuation.specs.Valuation.{rightEntry, true?, named, namedPlan}
 use Rattle.valuation.specs.Satisfying.{Valuation}
 use Rattle.valuation.specs.Places.{Places}
-use Rattle.valuation.proofs.Families.{Sat, sat-CD}
+use Rattle.valuation.proofs.Families.{Sat, sat-CD, places-cong}
 use Rattle.valuation.proofs.Entries.{named-places, named-size, named-at}
 use Rattle.calls.specs.Questions.{question14, question15, question23, question24}
 use Rattle.calls.specs.Calls.{decodeRest}
@@ -118,3 +118,6 @@ module _ (I : Instance) (s : Sizes) (same : s ≡ I .sizes) (es : List ℤ) (h :
       (λ i l.
       let (t, a, h, h′, e) = place-split (suc (s .m)) (s .k) i (subst (λ (x : ℕ). i < x) (rd .size) l) in
       rw e (sym (named-at s es t a h h′ ∙ place-named s es p rd placed t a h h′)))
+
+  pub placed-read : Places s (true? es) (planRow s p)
+  placed-read = places-cong s (true? es) (named s es) (planRow s p) placed (place-named s es p rd placed)

@@ -1,0 +1,4 @@
+pub mod Truth
+pub mod Nodes
+pub mod Trees
+pub mod Added

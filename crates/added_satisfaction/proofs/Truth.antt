@@ -1,0 +1,43 @@
+-- The truth of a variable is the entry at its place.
+use mathlib.Core.Path.{_≡_, sym, _∙_, ap, subst}
+use mathlib.Core.Logic.{_↔_, ⊎-elim}
+use mathlib.Core.List.{List, [], _∷_}
+use Prim.Native.Nat.{ℕ, suc, _-_, _≤_}
+use native.Mathlib.Omega.{arith}
+use lib.ListN.{length, getD}
+use lib.Dec.{T}
+use lib.IntN.{ℤ, pos}
+use Rattle.lists.proofs.Tests.{T-ext}
+use Rattle.lists.proofs.Loops.{any-two}
+use Rattle.valuation.specs.Valuation.{sameNumber, true?, satisfied?}
+use Rattle.valuation.specs.Satisfying.{Valuation}
+use Rattle.valuation.proofs.Entries.{sameNumber-iff}
+use Rattle.ceiling.specs.Tree.{on, off}
+use Rattle.ceiling.proofs.Tree.{one-of}
+use Rattle.ceiling.proofs.Entries.{true-at, true-here, either}
+
+module _ (es : List ℤ) (w : Valuation (length es) es) (z : ℕ) (p : 1 ≤ z) (q : z ≤ length es) where
+  pub read-at : sameNumber (getD es (z - 1) (pos 0)) (pos z) ≡ true? es (on z)
+  read-at =
+      T-ext (sameNumber (getD es (z - 1) (pos 0)) (pos z)) (true? es (on z)) (
+        (λ t. subst (λ (l : ℤ). T (true? es l)) (sameNumber-iff (getD es (z - 1) (pos 0)) (pos z) .0 t) (true-here _ es w (z - 1) (omega arith))),
+        (λ t.
+            let (i, l, a, e) = true-at _ es w (pos z) t in
+            let a′ : z ≡ suc i = a in
+            let q : i ≡ z - 1 = omega arith in
+            sameNumber-iff (getD es (z - 1) (pos 0)) (pos z) .1 (ap (λ (j : ℕ). getD es j (pos 0)) (sym q) ∙ e)),
+      )
+
+  -- its negation is true where it is not
+  pub off-iff : T (true? es (off z)) ↔ (T (true? es (on z)) → ⊥)
+  off-iff =
+      let e : suc (z - 1) ≡ z = omega arith in
+      subst (λ (u : ℕ). T (true? es (off u)) ↔ (T (true? es (on u)) → ⊥)) e (either _ es w (z - 1) (omega arith))
+
+  -- the clause of its negation and another variable
+  pub two-iff : (u : ℕ) → T (satisfied? es (off z ∷ on u ∷ [])) ↔ (T (true? es (on z)) → T (true? es (on u)))
+  two-iff u =
+      let two = any-two (true? es) (off z) (on u) in (
+        (λ t y. two .0 t (λ n. off-iff .0 n y)),
+        (λ h. two .1 (λ f. h (⊎-elim (λ y. y) (λ n. absurd (f (off-iff .1 n))) (one-of (true? es (on z)) .0)))),
+      )
