@@ -1,5 +1,5 @@
 #!/usr/bin/env bash
-# solve.sh [--rule R] DESCRIPTION [HORIZON]: from a description to a checked plan, by way of a SAT solver.
+# solve.sh [--rule R] [--ceiling C] DESCRIPTION [HORIZON]: from a description to a checked plan, by way of a SAT solver.
 #
 # The movement rule R is 1 where none is given: an agent enters only a vertex on which none stood as the step began. Under
 # rule 2 it may follow another in the same step, and every line says so.
@@ -7,11 +7,14 @@
 # horizon, which tells its outcome when the solver has ended. The solver gets the formula with family H, from the tool.
 # With a horizon it asks for a plan of that makespan alone, by the formula without family H: that of the formula program,
 # which keeps to rule 1, or under rule 2 that of the tool. What comes back is read, decoded and checked in the same way.
+# With a ceiling C, from 0 to 128, only plans that cost at most C count, and every line says so. The formula is then always
+# the tool's, without family H, which has no ceiling.
 #
 # SOLVER            the solver to use; otherwise the first one installed, in the order of solver_commands.sh
 # LIMIT             the seconds that the solver may take at each horizon; otherwise as long as it needs
 # RUNGLAET_LIB      the static library; otherwise the repository's own
-# RUNGLAET_PROGRAM  the formula program; otherwise the repository's own; needed only with a horizon under rule 1
+# RUNGLAET_PROGRAM  the formula program; otherwise the repository's own; needed only with a horizon under rule 1, without
+#                   a ceiling
 # KEEP              a folder for instance.bin, formula.cnf and output.txt, the last two of the last horizon, and where the
 #                   formula program is asked also input.bin; otherwise they are removed
 #
@@ -80,11 +83,14 @@ for signal in HUP INT TERM; do
 done
 { true 9>&1; } 2>/dev/null || stop "standard output is closed, so no result could be shown"
 
-# What was given. `rule` has the tool's words for it, `under` what is said of it.
-given=$# words=() rule=()
+# What was given. `rule` and `ceiling` have the tool's words for them, `under`, `within` and `cost` what is said of them.
+given=$# words=() rule=() ceiling=()
 while [ $# -gt 0 ]; do
     if [ "$1" = --rule ] && [ $# -ge 2 ] && [ ${#rule[@]} -eq 0 ]; then
         rule=(--rule "$2")
+        shift
+    elif [ "$1" = --ceiling ] && [ $# -ge 2 ] && [ ${#ceiling[@]} -eq 0 ]; then
+        ceiling=(--ceiling "$2")
         shift
     else
         words+=("$1")
@@ -92,14 +98,16 @@ while [ $# -gt 0 ]; do
     shift
 done
 set -- "${words[@]}"
-if [ $# -lt 1 ] || [ $# -gt 2 ] || [ "$1" = --rule ] || [ "${2:-}" = --rule ]; then
-    stop "a description is needed, and a horizon may follow, and --rule R once; words given: $given"
+if [ $# -lt 1 ] || [ $# -gt 2 ] || [[ $1 =~ ^--(rule|ceiling)$ ]] || [[ ${2:-} =~ ^--(rule|ceiling)$ ]]; then
+    stop "a description is needed, and a horizon may follow, and --rule R and --ceiling C once; words given: $given"
 fi
 description=$1
-under=
+under='' within='' cost=''
 [ "${rule[1]:-1}" = 1 ] || under=" under rule ${rule[1]}"
+[ ${#ceiling[@]} -eq 0 ] || within=", cost at most ${ceiling[1]}" cost=" and cost at most ${ceiling[1]}"
+options=("${rule[@]}" "${ceiling[@]}")
 # by_program: the formula program is asked for the formula.
-by_program() { [ $# -eq 2 ] && [ -z "$under" ]; }
+by_program() { [ $# -eq 2 ] && [ -z "$under$within" ]; }
 limit=()
 if [ -n "${LIMIT:-}" ]; then
     [[ $LIMIT =~ ^[1-9][0-9]{0,8}$ ]] || stop "LIMIT must be a whole number of seconds, 1 or more: $LIMIT"
@@ -179,10 +187,10 @@ write() {
     judged "$status" "$answer"
 }
 
-# known_rule: goes on where the rule is one. The floor is the same under both, and does not ask.
-known_rule() {
+# known_options: goes on where the rule and the ceiling are ones. The floor does not ask for them.
+known_options() {
     local status=0 answer
-    answer=$(quietly "$shuttles" size "$description" 0 "${rule[@]}" 2>&1) || status=$?
+    answer=$(quietly "$shuttles" size "$description" 0 "${options[@]}" 2>&1) || status=$?
     judged "$status" "$answer"
 }
 
@@ -215,7 +223,7 @@ base_formula() {
 
 # tool_formula WORD: from the tool: `formula`, or `pruned` with family H.
 tool_formula() {
-    write "$formula" "$1" "$description" "$horizon" "${rule[@]}"
+    write "$formula" "$1" "$description" "$horizon" "${options[@]}"
 }
 
 # whole CLAUSES LINES: some solvers take a formula that was cut short. It is whole when every clause of the header has a
@@ -276,7 +284,7 @@ notes=$'\n'
 read_back() {
     local note='' outcome
     status=0
-    answer=$(quietly "$shuttles" decode "$description" "$horizon" "${rule[@]}" 2>&1 <"$output") || status=$?
+    answer=$(quietly "$shuttles" decode "$description" "$horizon" "${options[@]}" 2>&1 <"$output") || status=$?
     # There is one note at most, and it comes first.
     if [[ $answer == "note: "* ]]; then
         note=${answer%%$'\n'*}
@@ -320,7 +328,7 @@ if [ $# -eq 2 ]; then
         tool_formula formula
         measure "$shuttles"
     fi
-    say "$name$under, horizon $horizon: $sizes, $SOLVER"
+    say "$name$under$within, horizon $horizon: $sizes, $SOLVER"
     run_solver
     read_back
     say "$answer"
@@ -328,21 +336,23 @@ if [ $# -eq 2 ]; then
 fi
 
 # From the floor on.
-[ ${#rule[@]} -eq 0 ] || known_rule
+[ ${#options[@]} -eq 0 ] || known_options
 find_floor
 if [ "$floor" -gt "$highest" ]; then
     say "no plan of makespan 0 to $highest: the floor is $floor, the greatest distance from a start to its goal"
     exit 3
 fi
+wanted=pruned
+[ ${#ceiling[@]} -eq 0 ] || wanted=formula
 for ((horizon = floor; horizon <= highest; horizon++)); do
-    tool_formula pruned
+    tool_formula "$wanted"
     measure "$shuttles"
-    begin "$name$under, horizon $horizon: $sizes, $SOLVER"
+    begin "$name$under$within, horizon $horizon: $sizes, $SOLVER"
     run_solver
     read_back
     [ "$status" -ne 3 ] || continue
     say "$answer"
     exit "$status"
 done
-say "no plan of makespan 0 to $highest$under"
+say "no plan of makespan 0 to $highest$cost$under"
 exit 3

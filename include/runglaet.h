@@ -7,9 +7,10 @@
  *
  * A pointer must be valid and aligned for as many elements as its length says; with length 0 it may be NULL. A slice
  * needs, for a formula, as many words as its size call says; for a clause at most 66 words; for a plan k * (m + 1) bytes;
- * for a valuation n * k * (m + 1) entries. One that is too short gets 12, 15 or 16, and `second` is what it needs. No two
- * slices of a call may overlap. Each call uses less than 12 KiB of stack, but the two of the pruned formula, which use
- * less than 24 KiB, and the reader, less than 64 KiB. The calls share nothing, so several threads may call at once.
+ * for a valuation n * k * (m + 1) entries, with a ceiling more (below). One that is too short gets 12, 15 or 16, and
+ * `second` is what it needs. No two slices of a call may overlap. Each call uses less than 12 KiB of stack, but the two of
+ * the pruned formula, which use less than 24 KiB, and the readers, less than 64 KiB. The calls share nothing, so several
+ * threads may call at once.
  *
  * An instance is bytes: n vertices, k agents, e edges (two bytes, the low one first); the low ends of all edges, then
  * their high ends, sorted by low end and then by high end; the starts of all agents, then their goals. A goal byte of 255
@@ -130,6 +131,55 @@ runglaet_answer runglaet_floor(const uint8_t *instance, size_t instance_len);
 runglaet_size runglaet_pruned_size(const uint8_t *instance, size_t instance_len, uint64_t horizon, uint64_t rule);
 runglaet_answer runglaet_write_pruned(const uint8_t *instance, size_t instance_len, uint64_t horizon, uint64_t rule,
                                       int32_t *words, size_t words_len);
+
+/* The calls with a ceiling: plans of cost at most c, the ceiling, from 0 to 128. The formula with a ceiling is that of
+ * runglaet_write_formula and more behind it. It can be satisfied exactly where a plan passes that costs at most c.
+ *
+ * With N = n * k * (m + 1), the added variables begin at N + 1. N + 1 + t * k + a is B(t,a), for each time t below m and
+ * each agent: agent a is not yet at rest at t. A tree counts these m * k inputs, in the order of their numbers. A list of
+ * two inputs or more is cut into its first half, rounded down, and the rest. A node over L inputs has min(L, c + 1)
+ * outputs; output i says that i of them or more are true. Outputs are numbered behind the inputs: those of the first half,
+ * those of the rest, then the node's own. One input alone is its own output. At m 0 nothing is added. So there are at most
+ * 38,275 variables.
+ *
+ * The added clauses, in this order:
+ *
+ * - for each t, a, v: agent a is not at v at t, or is at v at t + 1, or B(t,a);
+ * - for each t below m - 1 and each a: not B(t + 1,a), or B(t,a);
+ * - of the tree, those of the first half, those of the rest, then the node's: for each i from 0 to the outputs of the
+ *   first half and each j from 0 to those of the rest, but not for 0 and 0: not output i of the first half, not output j of
+ *   the rest, and output min(i + j, c + 1) of the node; that of a 0 is left out;
+ * - where m * k exceeds c: not output c + 1 of the whole.
+ *
+ * Each call asks 32 just after 31: the ceiling exceeds 128, place 0. What it asks besides, and in which order, is what the
+ * call without a ceiling asks, and every count and place takes in what is added. There is no call with a ceiling for one
+ * clause, for family H, for the floor or for the plan check, which tells the cost.
+ *
+ * The size: asks 1 to 10, 31 and 32. The words are at most 8,098,604 under rule 1 and 84,038,444 under rule 2. */
+runglaet_size runglaet_ceiling_size(const uint8_t *instance, size_t instance_len, uint64_t horizon, uint64_t rule,
+                                    uint64_t ceiling);
+
+/* Asks 1 to 10, 31, 32 and 12. */
+runglaet_answer runglaet_write_ceiling(const uint8_t *instance, size_t instance_len, uint64_t horizon, uint64_t rule,
+                                       uint64_t ceiling, int32_t *words, size_t words_len);
+
+/* Asks 1 to 10, 31, 32, 14, 15, 23 and 24, of all variables and all clauses. Accepted: the plan passes and costs at most
+ * the ceiling; `second` is k * (m + 1), the bytes of the plan. Other valuations than the encoder's may name the same plan:
+ * B and the outputs may be true where they need not be. */
+runglaet_answer runglaet_decode_ceiling(const uint8_t *instance, size_t instance_len, uint64_t horizon, uint64_t rule,
+                                        uint64_t ceiling, const int32_t *entries, size_t entries_len, uint8_t *plan,
+                                        size_t plan_len);
+
+/* Asks 1 to 10, 31, 32, 13, 16 to 22, and 33, and gives 25 and 26, as the plan check does. Refusal 33, the plan costs more
+ * than the ceiling: its cost. Accepted: B and the outputs have their meaning, and `second` is how many entries there are. */
+runglaet_answer runglaet_encode_ceiling(const uint8_t *instance, size_t instance_len, uint64_t horizon, uint64_t rule,
+                                        uint64_t ceiling, const uint8_t *plan, size_t plan_len, int32_t *entries,
+                                        size_t entries_len);
+
+/* Asks 1 to 10, 31, 32, 16 and 27 to 29. The text is of the form that runglaet_read_valuation reads, of all variables. */
+runglaet_answer runglaet_read_ceiling(const uint8_t *instance, size_t instance_len, uint64_t horizon, uint64_t rule,
+                                      uint64_t ceiling, const uint8_t *text, size_t text_len, int32_t *entries,
+                                      size_t entries_len);
 
 #ifdef __cplusplus
 }

@@ -1,11 +1,13 @@
 #!/usr/bin/env bash
 # Compares the proved program `comparison` with the independent one on fresh cases.
 #   tests/compare.sh SEED PIECES COUNT
-# Each piece has its own seed, SEED and up, COUNT random instances, and COUNT random plans that pass, held and reversed.
+# Each piece has its own seed, SEED and up, COUNT random instances, COUNT random plans that pass, held and reversed, and
+# COUNT such plans with ceilings around their costs.
 # Before the pieces come all small instances (up to 4 vertices, 2 agents, horizon 2), all clauses of every nineteenth, all
 # plans of tiny ones, all sign patterns of some with at most 16 variables, all short texts of some kinds for the reader,
-# for the floor and the pruned writer all maps of 5 vertices with one agent, long paths at every horizon, and grids, and
-# for the sizes every number of vertices and agents.
+# for the floor and the pruned writer all maps of 5 vertices with one agent, long paths at every horizon, and grids, for
+# the sizes every number of vertices and agents, and with a ceiling all instances of up to 3 vertices, 2 agents and horizon
+# 2, every fifth at 3, with every ceiling up to m*k + 1, all walks of each, and all sign patterns of tiny ones.
 # RUNGLAET_COMPARISON: the program, if it is not target/bin/comparison.
 set -eu
 cd "$(dirname "$0")/.."
@@ -32,7 +34,7 @@ piece() {
 
 : >"$work/times"
 : >"$work/skips"
-for mode in small clauses plans valuations texts floors sizes; do
+for mode in small clauses plans valuations texts floors sizes ceilings; do
     piece "$mode" "$seed" 0
 done
 i=0
@@ -42,10 +44,11 @@ while [ "$i" -lt "$pieces" ]; do
 done
 awk '{ times[$1, $2] += $3 }
     END {
-        kinds = split("writer clause plan decoder encoder reader floor pruned size pruned-size", name, " ")
+        kinds = split("writer clause plan decoder encoder reader floor pruned size pruned-size ceiling-size " \
+            "ceiling-writer ceiling-decoder ceiling-encoder ceiling-reader", name, " ")
         for (kind = 1; kind <= kinds; kind++) {
             line = ""
-            for (number = 0; number <= 31; number++)
+            for (number = 0; number <= 33; number++)
                 if ((kind, number) in times) line = line " " number ":" times[kind, number]
             print name[kind] line
         }

@@ -8,7 +8,7 @@
 # rule 1 must pass under rule 2 too; one of rule 2 must pass under rule 1 or get 26. What cadical and picosat print is
 # read as it is, and kissat is held to that where it is installed. Of minisat's output, and of cryptominisat's where a v
 # line ends with a space, a note says that it was brought into the form that is read. Nothing else is said on standard
-# error.
+# error. By examples/least_cost.sh, which asks with ceilings, the least costs known beforehand.
 # INSTALL=yes installs the solvers first (as root). RUNGLAET_LIB and RUNGLAET_PROGRAM as in examples/solve.sh.
 # Status 77: no solver is installed, and the table alone was read.
 set -u
@@ -155,6 +155,23 @@ cat >>"$folder/climbs" <<'END'
 2 turn 1 1
 1 complete 1 1
 2 complete 1 1
+END
+
+# Rule, example, horizon and least cost of a plan, or none. In the train one agent moves in a step, the front one first; in
+# the grids each agent needs its distance, and in the larger one under rule 2 every second one two steps more.
+cat >"$folder/costs" <<'END'
+1 stay 3 0
+1 pair 5 1
+1 path 3 3
+2 path 3 2
+1 idle 4 4
+2 idle 4 3
+1 train 5 10
+2 train 5 4
+1 grid4 6 24
+2 grid4 8 24
+2 grid8 9 128
+1 exchange 5 none
 END
 
 if [ "${INSTALL:-no}" = yes ]; then
@@ -325,6 +342,24 @@ climb() {
     told "climb $1$(under): $(wc -l <"$run/outcomes") horizons from $2, $3" "$fault"
 }
 
+# cheapest EXAMPLE HORIZON COST: the least cost, and a plan that has it.
+cheapest() {
+    local fault='' status=0 begin
+    begin=$(date +%s%N)
+    SOLVER=$solver LIMIT=$limit "$root/examples/least_cost.sh" --rule "$rule" "$folder/$1.txt" "$2" \
+        </dev/null >"$run/shown" 2>"$run/errors" || status=$?
+    took=$((($(date +%s%N) - begin) / 1000000))
+    last=$(tail -n 1 "$run/shown")
+    if [ "$3" = none ]; then
+        [ "$status $last" = "3 no plan of makespan $2$(under)" ] || fault="not none"
+    elif [ "$status ${last%%;*}" != "0 least cost of makespan $2$(under): $3" ] ||
+        [[ $(tail -n 2 "$run/shown" | head -n 1) != "plan passes$(under): makespan $2, cost $3, ceiling "* ]]; then
+        fault="status $status, expected cost $3"
+    fi
+    told "cheapest $1 $2$(under): $3, $(grep -c ', cost at most ' "$run/shown") ceilings" "$fault"
+    ran=$((ran + 1))
+}
+
 ran=0
 plans=0
 compared=0
@@ -349,6 +384,9 @@ for solver in $installed; do
     while read -r rule example floor first; do
         climb "$example" "$floor" "$first"
     done <"$folder/climbs"
+    while read -r rule example horizon cost; do
+        cheapest "$example" "$horizon" "$cost"
+    done <"$folder/costs"
     case $solver in
     minisat | cryptominisat5)
         echo "$solver: $brought outputs brought into the form that is read"

@@ -1,5 +1,6 @@
 #!/usr/bin/env bash
-# What the tool, examples/solve.sh, the scripts that build and the formula program say of faults: tests/words.sh.
+# What the tool, examples/solve.sh and least_cost.sh, the scripts that build and the formula program say of faults:
+# tests/words.sh.
 #
 # Provokes every error that there is, and every refusal, by command lines. Each must end with its documented status and
 # say one line, whose first forty characters tell its kind: equal within a kind, different between kinds. So it is with
@@ -173,7 +174,7 @@ aside() {
     refuse "$@"
     result "$(head -c 100 said)" "nothing on standard output: ${*:3}"
 }
-# unfit NUMBER TERMS FILE: no call takes this instance, with a horizon and a rule or without.
+# unfit NUMBER TERMS FILE: no call takes this instance, with a horizon, a rule and a ceiling or without.
 unfit() {
     refuse "$1" "$2" "$shuttles" check "$3" 1
     refuse "$1" "$2" "$shuttles" encode "$3" x
@@ -185,6 +186,9 @@ unfit() {
     refuse "$1" "$2" "$shuttles" hold "$3" 1 2
     refuse "$1" "$2" "$shuttles" reverse "$3" 1
     aside "$1" "$2" "$shuttles" exchange "$3"
+    aside "$1" "$2" "$shuttles" formula "$3" 33 --ceiling 129
+    refuse "$1" "$2" "$shuttles" encode "$3" 1 --ceiling 3
+    refuse "$1" "$2" fed x "$shuttles" decode "$3" 1 --ceiling 129 --rule 3
 }
 # bytes OCTAL...: a file of instance bytes.
 bytes() { printf '%b' "$(printf '\\0%s' "$@")" >bytes.bin; }
@@ -846,6 +850,8 @@ expect Output 2 small 9 with "$plan" "$solve" "$root/examples/grid4.txt"
 . "$root/tests/words_rule.sh"
 # shellcheck source=tests/words_reversing.sh
 . "$root/tests/words_reversing.sh"
+# shellcheck source=tests/words_ceiling.sh
+. "$root/tests/words_ceiling.sh"
 
 # tools/shuttles/build.sh. The tool that is built needs no cargo; a copy of the sources has nothing built.
 solves 0 '' "$shuttles" "$root/tools/shuttles/build.sh"
@@ -920,11 +926,12 @@ sed -n 's/^    [A-Z][A-Za-z]*: "\(.*\)",$/shuttles: \1/p' "$root/tools/shuttles/
 sed -n 's/^    (\([0-9]*\), "\(.*\)$/refused \1: \2/p' "$root/tools/shuttles/src/refusals.rs" >refusals
 grep -oE '"note: .*' "$root/tools/shuttles/src/solver_form.rs" | cut -c 2- >notes
 grep -o 'stop ".*' "$root/examples/solve.sh" | sed 's/stop "/solve.sh: /' >solve
+grep -o 'stop ".*' "$root/examples/least_cost.sh" | sed 's/stop "/least_cost.sh: /' >least
 grep -oE '(stop |no_cargo=)"[^$].*' "$root/tools/shuttles/build.sh" | sed -E 's/^(stop |no_cargo=)"/shuttles\/build.sh: /' >build
 grep -oE '(stop |no_compiler=)"[^$].*' "$root/tools/formula_program/build.sh" |
     sed -E 's/^(stop |no_compiler=)"/formula_program\/build.sh: /' >program
 cut -f 2 pairs >seen
-for source in errors refusals notes solve build program; do
+for source in errors refusals notes solve least build program; do
     [ -s "$source" ] || echo nothing >"$source"
     result "$(cut -c 1-40 "$source" | sort -u | grep -vxF -f seen)" "never said here, of $source"
 done

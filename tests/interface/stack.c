@@ -4,45 +4,18 @@
  * that it accepts and with some that it refuses late, and its answers are compared with those of documents 01 and 02.
  * For the floor and the pruned formula there are also the longest path, and the same in two parts. Then all agents are
  * free; at last they have their goals again, and the rule is 2. */
-#define _POSIX_C_SOURCE 200809L
-#include "runglaet.h"
-
-#include <pthread.h>
-#include <stdio.h>
-#include <stdlib.h>
-#include <string.h>
-#include <sys/wait.h>
-#include <unistd.h>
+#include "stack.h"
 
 /* What the header promises is enough for any call but the reader and those of the pruned formula, and for these. */
 enum { PROMISED = 12288, READER_PROMISED = 65536, PRUNED_PROMISED = 24576 };
 
-enum { N = 64, K = 16, E = N * (N - 1) / 2, M = 32, ROWS = M + 1 };
-enum { PLAN = ROWS * K, VARIABLES = PLAN * N };
+/* The path 0-1-..-63: as many clauses, but shorter ones in family F. From a to 63-a is further than M for every agent, so
+ * that family H rules out all. */
+enum { PATH_E = N - 1, PATH_H = VARIABLES, PATH_WORDS = WORDS - 2 * M * K * (E - PATH_E) + 2 * PATH_H };
 
-/* Clauses and words of families A to G, from the table of document 01. */
-enum {
-    A = K, B = K, C = ROWS * K, D = ROWS * K * N * (N - 1) / 2, EE = ROWS * N * K * (K - 1) / 2, F = M * K * N,
-    G = M * K * (K - 1) * N,
-    CLAUSES = A + B + C + D + EE + F + G,
-    WORDS = 2 * K + 2 * K + C * (N + 1) + 3 * D + 3 * EE + M * K * (3 * N + 2 * E) + 3 * G,
-    /* The lowest clause that SWAPS below falsifies: of family G with t M-1, a K-2, b K-1, and v the goal of a. */
-    SWAPPED = CLAUSES - G + (((M - 1) * K + K - 2) * (K - 1) + K - 2) * N + N - 1 - (K - 2),
-    /* Under rule 2: G has a clause for each edge. SWAPS exchanges over the edge 48-49, agent K-2 on its low end. */
-    CLOSING_G = M * E * K * (K - 1), CLOSING_CLAUSES = CLAUSES - G + CLOSING_G,
-    CLOSING_WORDS = WORDS - 3 * G + 5 * CLOSING_G, LOW = N - K, EDGE = LOW * (2 * N - LOW - 1) / 2,
-    CLOSING_SWAPPED = CLAUSES - G + (((M - 1) * E + EDGE) * K + K - 2) * (K - 1) + K - 2,
-    /* Family H: all vertices are one step from each other, so that only time 0 and time M rule some out. */
-    H = 2 * K * (N - 1),
-    /* The path 0-1-..-63: as many clauses, but shorter ones in family F. From a to 63-a is further than M for every
-     * agent, so that family H rules out all. */
-    PATH_E = N - 1, PATH_H = VARIABLES, PATH_WORDS = WORDS - 2 * M * K * (E - PATH_E) + 2 * PATH_H
-};
-
-static uint8_t instance[4 + 2 * E + 2 * K], decoded[PLAN];
+static uint8_t decoded[PLAN];
 /* Agents without a goal: none, or all. Family B has no clause for them, and at time M family H rules out nothing. */
 static int idle = 0;
-static uint64_t rule = 1;
 static int32_t words[CLOSING_WORDS + 2 * H], encoded[VARIABLES];
 
 /* The path, and the same without its middle edge. */
@@ -50,54 +23,24 @@ enum { PATH, CUT };
 static uint8_t paths[2][4 + 2 * PATH_E + 2 * K];
 static const size_t path_lengths[2] = {4 + 2 * PATH_E + 2 * K, 4 + 2 * (PATH_E - 1) + 2 * K};
 
-/* Plans and their valuations. PASSES: every vertex is one step from every other, so all agents go to their goals in the
- * first step and wait there. SWAPS: the last two go to each other's goal and exchange places in the last step. TURNS, for
- * rule 2: they go to the goal of the next and turn in a ring, each to where another was. */
-enum { PASSES, SWAPS, TURNS, PLANS };
-static uint8_t plans[PLANS][PLAN];
-static int32_t valuations[PLANS][VARIABLES];
-
 /* Texts of the valuation of PASSES: v lines of at most 78 bytes, after an s line. ENDS_WRONG: a wrong line follows.
  * SAYS_UNKNOWN: the s line is another, and comes last. LACKS: without the last variable. LONGEST: empty lines make it as
  * long as may be, LONGER: by a byte longer. */
 enum { RIGHT, ENDS_WRONG, SAYS_UNKNOWN, LACKS, LONGEST, LONGER, TEXTS };
-static char texts[TEXTS][RUNGLAET_TEXT_MAX + 1];
-static size_t lengths[TEXTS], wrong_line, unknown_line;
-
-static void append(int text, const char *bytes) {
-    size_t length = strlen(bytes);
-    memcpy(texts[text] + lengths[text], bytes, length);
-    lengths[text] += length;
-}
-
-static void print_literals(int text, int count) {
-    size_t column = 0;
-    for (int i = 0; i <= count; i++) {
-        char token[16];
-        size_t length = (size_t)sprintf(token, " %d", (int)(i < count ? valuations[PASSES][i] : 0));
-        if (column == 0 || column + length > 78) {
-            append(text, column == 0 ? "v" : "\nv");
-            column = 1;
-        }
-        append(text, token);
-        column += length;
-    }
-    append(text, "\n");
-}
+static text texts[TEXTS];
+static size_t wrong_line, unknown_line;
 
 static void fill_texts(void) {
-    for (int text = 0; text < TEXTS; text++) {
-        if (text != SAYS_UNKNOWN) append(text, "s SATISFIABLE\n");
-        print_literals(text, text == LACKS ? VARIABLES - 1 : VARIABLES);
+    for (int which = 0; which < TEXTS; which++) {
+        if (which != SAYS_UNKNOWN) append(&texts[which], "s SATISFIABLE\n");
+        print_literals(&texts[which], valuations[PASSES], which == LACKS ? VARIABLES - 1 : VARIABLES);
     }
-    wrong_line = lengths[ENDS_WRONG];
-    append(ENDS_WRONG, "v 1\n");
-    unknown_line = lengths[SAYS_UNKNOWN];
-    append(SAYS_UNKNOWN, "s UNKNOWN");
-    for (int text = LONGEST; text <= LONGER; text++) {
-        memset(texts[text] + lengths[text], '\n', sizeof texts[text] - lengths[text]);
-        lengths[text] = RUNGLAET_TEXT_MAX + (text == LONGER);
-    }
+    wrong_line = texts[ENDS_WRONG].length;
+    append(&texts[ENDS_WRONG], "v 1\n");
+    unknown_line = texts[SAYS_UNKNOWN].length;
+    append(&texts[SAYS_UNKNOWN], "s UNKNOWN");
+    lengthen(&texts[LONGEST], RUNGLAET_TEXT_MAX);
+    lengthen(&texts[LONGER], RUNGLAET_TEXT_MAX + 1);
 }
 
 static void fill_path(int which) {
@@ -118,50 +61,10 @@ static void fill_path(int which) {
     }
 }
 
-static void fill(void) {
-    instance[0] = N;
-    instance[1] = K;
-    instance[2] = E & 255;
-    instance[3] = E >> 8;
-    int j = 4;
-    for (int low = 0; low < N; low++)
-        for (int high = low + 1; high < N; high++, j++) {
-            instance[j] = (uint8_t)low;
-            instance[j + E] = (uint8_t)high;
-        }
-    for (int a = 0; a < K; a++) {
-        instance[4 + 2 * E + a] = (uint8_t)a;
-        instance[4 + 2 * E + K + a] = (uint8_t)(N - 1 - a);
-        int other = a == K - 1 ? K - 2 : a == K - 2 ? K - 1 : a;
-        for (int t = 0; t < ROWS; t++) {
-            plans[PASSES][t * K + a] = (uint8_t)(t == 0 ? a : N - 1 - a);
-            plans[SWAPS][t * K + a] = (uint8_t)(t == 0 ? a : t < M ? N - 1 - other : N - 1 - a);
-            plans[TURNS][t * K + a] = (uint8_t)(t == 0 ? a : N - 1 - (a + t) % K);
-        }
-    }
-    /* Variable i + 1 is that of agent i / N / ROWS at time i / N % ROWS. */
-    for (int p = 0; p < PLANS; p++)
-        for (int i = 0; i < VARIABLES; i++) {
-            int at = plans[p][i / N % ROWS * K + i / N / ROWS];
-            valuations[p][i] = at == i % N ? i + 1 : -(i + 1);
-        }
-}
-
-typedef enum {
+enum {
     WRITER, CLAUSE, CHECK, DECODER, ENCODER, READER, FLOOR, PRUNED, PATH_FLOOR, PATH_PRUNED, FORMULA_SIZE, PRUNED_SIZE,
     PATH_SIZE
-} call;
-
-/* One call: which one, with which horizon, plan, text or clause number and length of its last slice, and the answer that
- * it must give. */
-typedef struct {
-    call which;
-    const char *what;
-    uint64_t horizon, chosen;
-    size_t length;
-    uint32_t number;
-    uint64_t second;
-} run;
+};
 
 static runglaet_size make(const run *r) {
     const uint8_t *plan = plans[r->chosen < PLANS ? r->chosen : PASSES];
@@ -180,8 +83,8 @@ static runglaet_size make(const run *r) {
         answer = runglaet_encode(instance, sizeof instance, r->horizon, rule, plan, PLAN, encoded, r->length);
         break;
     case READER:
-        answer = runglaet_read_valuation(instance, sizeof instance, r->horizon, rule, (const uint8_t *)texts[r->chosen],
-                                         lengths[r->chosen], encoded, r->length);
+        answer = runglaet_read_valuation(instance, sizeof instance, r->horizon, rule, (const uint8_t *)texts[r->chosen].bytes,
+                                         texts[r->chosen].length, encoded, r->length);
         break;
     case FLOOR: answer = runglaet_floor(instance, sizeof instance); break;
     case PRUNED: answer = runglaet_write_pruned(instance, sizeof instance, r->horizon, rule, words, r->length); break;
@@ -196,89 +99,18 @@ static runglaet_size make(const run *r) {
     return (runglaet_size){answer.number, answer.second, 0};
 }
 
-/* The stack of the thread that makes the calls. */
-enum { SIZE = 1 << 20 };
-static _Alignas(4096) unsigned char stack[SIZE];
-
-typedef struct {
-    const run *r;
-    unsigned char paint;
-    runglaet_size answer;
-    size_t used;
-} measurement;
-
-/* Paints all that lies below the stack pointer, makes the call, and looks how far down the paint is gone. The few bytes
- * of `make` count as the call's. */
-static void *measure(void *argument) {
-    measurement *m = argument;
-    volatile unsigned char *top, *p;
-    __asm__ volatile("mov %%rsp, %0" : "=r"(top));
-    for (p = stack; p < top; p++) *p = m->paint;
-    m->answer = make(m->r);
-    for (p = stack; p < top && *p == m->paint; p++) {
-    }
-    m->used = (size_t)(top - p);
-    return NULL;
-}
-
-static void stop(const char *what) {
-    printf("stack: %s\n", what);
-    exit(1);
-}
-
-/* The bytes used by one call, whose answer must be the expected one. */
-static size_t used(const run *r, unsigned char paint) {
-    measurement m = {r, paint, {0, 0, 0}, 0};
-    pthread_attr_t attributes;
-    pthread_t thread;
-    if (pthread_attr_init(&attributes) != 0 || pthread_attr_setstack(&attributes, stack, SIZE) != 0 ||
-        pthread_create(&thread, &attributes, measure, &m) != 0 || pthread_join(thread, NULL) != 0)
-        stop("no thread with a stack of its own");
-    pthread_attr_destroy(&attributes);
+static uint64_t clauses_of(const run *r) {
     uint64_t all = rule == 1 ? CLAUSES - idle : CLOSING_CLAUSES;
-    uint64_t clauses = r->which == FORMULA_SIZE  ? all
-                       : r->which == PRUNED_SIZE ? all + (idle ? H / 2 : H)
-                       : r->which == PATH_SIZE   ? CLAUSES + PATH_H
-                                                 : 0;
-    if (r->number != 0) clauses = 0;
-    if (m.answer.number != r->number || m.answer.second != r->second || m.answer.clauses != clauses) {
-        printf("stack: %s: wrong answer, %u %llu, %llu clauses\n", r->what, (unsigned)m.answer.number,
-               (unsigned long long)m.answer.second, (unsigned long long)m.answer.clauses);
-        exit(1);
-    }
-    return m.used;
-}
-
-/* A process of its own for each call: the first time, the dynamic linker may look up memcpy and memset on the caller's
- * stack. Two paints, since a byte may hold one of them by chance. */
-static size_t measured(const run *r) {
-    int ends[2], status;
-    size_t first, again, other;
-    if (pipe(ends) != 0) stop("no pipe");
-    fflush(stdout);
-    pid_t child = fork();
-    if (child < 0) stop("no process");
-    if (child == 0) {
-        first = used(r, 0xA5);
-        again = used(r, 0x3C);
-        other = used(r, 0xA5);
-        if (other > again) again = other;
-        if (again > first) first = again;
-        printf("stack: %-46s %5zu bytes, %5zu the first time\n", r->what, again, first);
-        fflush(stdout);
-        _exit(write(ends[1], &first, sizeof first) != sizeof first);
-    }
-    close(ends[1]);
-    if (waitpid(child, &status, 0) != child || status != 0 || read(ends[0], &first, sizeof first) != sizeof first)
-        stop("a measurement failed");
-    close(ends[0]);
-    return first;
+    return r->which == FORMULA_SIZE  ? all
+           : r->which == PRUNED_SIZE ? all + (idle ? H / 2 : H)
+           : r->which == PATH_SIZE   ? CLAUSES + PATH_H
+                                     : 0;
 }
 
 /* Makes the calls; `most` is the most bytes of any call, of the reader, and of those of the pruned formula. */
 static void measure_all(const run *runs, size_t count, size_t most[3]) {
     for (size_t i = 0; i < count; i++) {
-        call which = runs[i].which;
+        int which = runs[i].which;
         int pruned = which == PRUNED || which == PATH_PRUNED || which == PRUNED_SIZE || which == PATH_SIZE;
         size_t bytes = measured(&runs[i]);
         size_t *counted = &most[which == READER ? 1 : pruned ? 2 : 0];
@@ -390,11 +222,6 @@ int main(void) {
     static const char *const calls[3] = {"", "reader ", "pruned writer and size "};
     static const size_t promised[3] = {PROMISED, READER_PROMISED, PRUNED_PROMISED};
     int failed = 0;
-    for (int i = 0; i < 3; i++) {
-        int more = most[i] >= promised[i];
-        printf("stack: %sat most %zu bytes, promised are less than %zu%s\n", calls[i], most[i], promised[i],
-               more ? ": TOO MANY" : "");
-        failed |= more;
-    }
+    for (int i = 0; i < 3; i++) failed |= too_many(calls[i], most[i], promised[i]);
     return failed;
 }

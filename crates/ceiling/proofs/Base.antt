@@ -93,10 +93,11 @@ module _ (I : Instance) (s : Endpoints I) (g : Edges I) where
   in-second : (f : Bool) → Within (cond f (for m λ t. for e λ j. noExchange sizes t (low j) (high j)) (for m λ t. for k λ a. noFollowing sizes t a))
   in-second true =
       simp (for-all, when-all, one-all, all-more) (λ t p j l a q b u o.
-      let (x, y) = g .ends j l in
-      (in-¬X sizes t a (low j) (omega arith) q (omega arith),
-       in-¬X sizes (suc t) a (high j) (omega arith) q y,
-       (in-¬X sizes t b (high j) (omega arith) u y, in-¬X sizes (suc t) b (low j) (omega arith) u (omega arith), tt)))
+      let (x, y) = g .ends j l in (
+        in-¬X sizes t a (low j) (omega arith) q (omega arith),
+        in-¬X sizes (suc t) a (high j) (omega arith) q y,
+        (in-¬X sizes t b (high j) (omega arith) u y, in-¬X sizes (suc t) b (low j) (omega arith) u (omega arith), tt),
+      ))
   in-second false =
       simp (for-all, when-all, one-all, all-two) (λ t p a q b u o v r. (in-¬X sizes t b v (omega arith) u r, in-¬X sizes (suc t) a v (omega arith) q r))
 

@@ -67,8 +67,11 @@ rests-step m P a t l = (
       (r t (omega arith) (omega arith) ∙ sym (r (suc t) (omega arith) (omega arith)), rests-iff m P a (suc t) .1 (rests-later m P a t (suc t) (omega arith) (v, r)))),
   (λ (e, h).
       let (v, r) = rests-iff m P a (suc t) .0 h in
-      rests-iff m P a t .1 (v, λ u q f.
-      by-cases (decLt t u) (λ o. r u o f) (λ o. let z : u ≡ t = omega arith in ap (λ (w : ℕ). P w a) z ∙ e ∙ r (suc t) (omega arith) (omega arith)))),
+      rests-iff m P a t .1 (
+        v,
+        λ u q f.
+            by-cases (decLt t u) (λ o. r u o f) (λ o. let z : u ≡ t = omega arith in ap (λ (w : ℕ). P w a) z ∙ e ∙ r (suc t) (omega arith) (omega arith)),
+      )),
 )
 
 last-rests : (m : ℕ) (P : ℕ → Row) (a : ℕ) → T (rests m P a m)
@@ -299,12 +302,15 @@ module _ (s : Sizes) (p : List ℕ) where
     unfolding counters outputs treeClauses
     added-hold inside′ l =
         let w = ceiling-written inside′ in
-        added-iff s c (true? es) .1
-        (((movers-hold s (true? es) p w says-B, waiters-hold s (true? es) p w says-B),
-          by-cases (decLt 0 (m * k))
-          (λ o. means-sat c (true? es) (busyAt s p) (root s) N (N + m * k) (ceiling-means o))
-          (λ o. rw (tree-one (m * k) (omega arith)) tt)),
-         limit-iff s c (true? es) .1 (λ o.
-         let e : inputs (root s) ≡ m * k = tree-inputs (m * k) (omega arith) in
-         means-outputs c (true? es) (busyAt s p) (root s) N (N + m * k) (ceiling-means (omega arith)) (suc c) (omega arith) (omega arith)
-         .1 (λ t. let z = rw e at (leb-iff (suc c) (count (busyAt s p) N (inputs (root s))) .0 t) in omega (arith, count-cost))))
+        added-iff s c (true? es) .1 (
+          (
+            (movers-hold s (true? es) p w says-B, waiters-hold s (true? es) p w says-B),
+            by-cases (decLt 0 (m * k))
+                (λ o. means-sat c (true? es) (busyAt s p) (root s) N (N + m * k) (ceiling-means o))
+                (λ o. rw (tree-one (m * k) (omega arith)) tt),
+          ),
+          limit-iff s c (true? es) .1 (λ o.
+              let e : inputs (root s) ≡ m * k = tree-inputs (m * k) (omega arith) in
+              means-outputs c (true? es) (busyAt s p) (root s) N (N + m * k) (ceiling-means (omega arith)) (suc c) (omega arith) (omega arith)
+              .1 (λ t. let z = rw e at (leb-iff (suc c) (count (busyAt s p) N (inputs (root s))) .0 t) in omega (arith, count-cost))),
+        )

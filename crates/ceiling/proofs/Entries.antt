@@ -116,15 +116,16 @@ module _ (c : ℕ) (b : ℕ → Bool) where
       let left = tree-entries-length l x y in
       let right = tree-entries-length r (x + inputs l) (y + variables c l) in
       let (q, own) = part-append es y _ _ p in
-      let (u, v) = part-append es y _ _ q in
-      (entries-mean es l x y (λ j h. s j (omega arith)) u,
-       entries-mean es r (x + inputs l) (y + variables c l)
-         (λ j h. let e : x + inputs l + suc j ≡ x + suc (inputs l + j) = omega arith in rw e (s (inputs l + j) (omega arith)))
-         (rw left at v),
-       (λ i h k.
-       let e : suc (i - 1) ≡ i = omega arith in
-       subst (λ (u : ℕ). Says (true? es) (y + (variables c l + variables c r) + i) (leb u (count b x (inputs l + inputs r)))) e
-       (says-for es (y + (variables c l + variables c r)) (outputs c (node l r)) (λ j. leb (suc j) (count b x (inputs l + inputs r))) (rw (length-append, left, right) at own) i h k)))
+      let (u, v) = part-append es y _ _ q in (
+        entries-mean es l x y (λ j h. s j (omega arith)) u,
+        entries-mean es r (x + inputs l) (y + variables c l)
+            (λ j h. let e : x + inputs l + suc j ≡ x + suc (inputs l + j) = omega arith in rw e (s (inputs l + j) (omega arith)))
+            (rw left at v),
+        (λ i h k.
+            let e : suc (i - 1) ≡ i = omega arith in
+            subst (λ (u : ℕ). Says (true? es) (y + (variables c l + variables c r) + i) (leb u (count b x (inputs l + inputs r)))) e
+            (says-for es (y + (variables c l + variables c r)) (outputs c (node l r)) (λ j. leb (suc j) (count b x (inputs l + inputs r))) (rw (length-append, left, right) at own) i h k)),
+      )
 
 -- ---- entry j of the list is the variable y + j + 1 or its negative
 abbrev pub Entry : ℕ → ℤ → Type 0

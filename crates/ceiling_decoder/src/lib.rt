@@ -117,7 +117,14 @@ fn ask_entries(
 }
 
 // The call, for every byte string, every three numbers, every list of entries and every slice.
-pub fn decode_ceiling(b: &[u8], m: usize, rule: usize, c: usize, entries: &[i32], plan: &mut [u8]) -> Answer
+pub fn decode_ceiling(
+    b: &[u8],
+    m: usize,
+    rule: usize,
+    c: usize,
+    entries: &[i32],
+    plan: &mut [u8],
+) -> Answer
     ensures { λ r. ⌜ r ≡ ceilingDecodeAnswer (now (b .entry)) m rule c (now (entries .entry)) (length (now (plan .entry))) ⌝ }
     ensures { λ _. ⌜ now (plan .exit) ≡ ceilingDecodeSlice (now (b .entry)) m rule c (now (entries .entry)) (now (plan .entry)) ⌝ }
 {

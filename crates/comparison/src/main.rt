@@ -1,10 +1,12 @@
-// Runs the ten calls on cases made elsewhere, at most two million of them. A case: the kind of call (1 byte: 1 the formula writer,
+// Runs the calls on cases made elsewhere, at most two million of them. A case: the kind of call (1 byte: 1 the formula writer,
 // 2 one clause, 3 the plan check, 4 the decoder, 5 the encoder, 6 the reader, 7 the floor, 8 the pruned writer, 9 the formula's size,
-// 10 the pruned formula's size), the horizon, the rule and the clause number (8 bytes each), the instance's length (2 bytes), the payload's
+// 10 the pruned formula's size, and with a ceiling 11 the size, 12 the writer, 13 the decoder, 14 the encoder, 15 the reader), the
+// horizon, the rule and the clause number or the ceiling (8 bytes each), the instance's length (2 bytes), the payload's
 // length in bytes and the lent slice's length in elements (4 bytes each), low bytes first; then the instance, then the payload: a
 // plan, entries of 4 bytes, or a text. Each case prints a line: the answer's number, its second number, the clauses (0 but for a
 // size), and a hash of the lent slice after the call; or "skip" where the slice is longer than the array here.
 mod case;
+mod ceilings;
 mod lent;
 mod outcome;
 mod plans;
@@ -34,6 +36,11 @@ fn run_case(h: Head, b: &[u8], s: &[u8], words: &mut [i32], plan: &mut [u8]) -> 
         8 => words::write_pruned(h, b, words),
         9 => sized(formula_size::formula_size(b, h.m, h.rule)),
         10 => sized(formula_size::pruned_size(b, h.m, h.rule)),
+        11 => sized(ceiling_size::ceiling_size(b, h.m, h.rule, h.number)),
+        12 => ceilings::write_ceiling(h, b, words),
+        13 => ceilings::decode_ceiling(h, b, s, &mut words[0..40000], plan),
+        14 => ceilings::encode_ceiling(h, b, s, &mut words[0..40000]),
+        15 => ceilings::read_ceiling(h, b, s, &mut words[0..40000]),
         _ => skipped(),
     }
 }

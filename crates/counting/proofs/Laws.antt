@@ -48,9 +48,15 @@ module _ (c : ℕ) where
       let left = tree-inputs (l / 2) (omega arith) in
       let right = tree-inputs (l - l / 2) (omega arith) in
       let e : y + (variables c (treeOver (l / 2)) + variables c (treeOver (l - l / 2))) ≡ y + variables c (treeOver (l / 2)) + variables c (treeOver (l - l / 2)) = omega arith in
-      rw (tree-two l h, left, right, e, add-one c,
+      rw (
+        tree-two l h,
+        left,
+        right,
+        e,
+        add-one c,
         outputs-last (l / 2) x y (omega arith) (decLt (l / 2) 2),
-        outputs-last (l - l / 2) (x + l / 2) (y + variables c (treeOver (l / 2))) (omega arith) (decLt (l - l / 2) 2))
+        outputs-last (l - l / 2) (x + l / 2) (y + variables c (treeOver (l / 2))) (omega arith) (decLt (l - l / 2) 2),
+      )
 
   pub before-most : (l x next : ℕ) → x ≤ 40000 → next ≤ 40000 → beforeOutputs c l x next ≤ 40000
   unfolding beforeOutputs

@@ -4,7 +4,7 @@
 pub type Item = (u32, u64);
 
 /// All numbers, 0 for accepted included, are below this one.
-pub const NUMBERS: usize = 32;
+pub const NUMBERS: usize = 34;
 
 /// The calls, by their places in `ASKED`.
 pub const WRITER: usize = 0;
@@ -17,9 +17,15 @@ pub const FLOOR: usize = 6;
 pub const PRUNED: usize = 7;
 pub const SIZE: usize = 8;
 pub const PRUNED_SIZE: usize = 9;
+/// From here on with a ceiling.
+pub const CEILING_SIZE: usize = 10;
+pub const CEILING_WRITER: usize = 11;
+pub const CEILING_DECODER: usize = 12;
+pub const CEILING_ENCODER: usize = 13;
+pub const CEILING_READER: usize = 14;
 
 /// The numbers that each call can give beside 0, in the order asked.
-pub const ASKED: [&[u32]; 10] = [
+pub const ASKED: [&[u32]; 15] = [
     &[1, 2, 3, 4, 5, 6, 7, 8, 9, 10, 31, 12],
     &[1, 2, 3, 4, 5, 6, 7, 8, 9, 10, 31, 11, 12],
     &[
@@ -34,7 +40,19 @@ pub const ASKED: [&[u32]; 10] = [
     &[1, 2, 3, 4, 5, 6, 7, 8, 9, 10, 31, 12],
     &[1, 2, 3, 4, 5, 6, 7, 8, 9, 10, 31],
     &[1, 2, 3, 4, 5, 6, 7, 8, 9, 10, 31],
+    &[1, 2, 3, 4, 5, 6, 7, 8, 9, 10, 31, 32],
+    &[1, 2, 3, 4, 5, 6, 7, 8, 9, 10, 31, 32, 12],
+    &[1, 2, 3, 4, 5, 6, 7, 8, 9, 10, 31, 32, 14, 15, 23, 24],
+    &[
+        1, 2, 3, 4, 5, 6, 7, 8, 9, 10, 31, 32, 13, 16, 17, 18, 19, 20, 25, 26, 21, 22, 33,
+    ],
+    &[1, 2, 3, 4, 5, 6, 7, 8, 9, 10, 31, 32, 16, 27, 28, 29],
 ];
+
+/// Does this call take a ceiling?
+pub fn has_ceiling(call: usize) -> bool {
+    call >= CEILING_SIZE
+}
 
 /// The question whose no gives this number: 20, 25 and 26 are of one.
 pub fn question(number: u32) -> u32 {
@@ -44,11 +62,12 @@ pub fn question(number: u32) -> u32 {
     }
 }
 
-/// Where a question stands among all: 31 comes just after 10, the others rise.
+/// Where a question stands among all: 31 and 32 come just after 10, the others rise.
 pub(crate) fn order(question: u32) -> u32 {
     match question {
-        31 => 21,
-        _ => 2 * question,
+        31 => 31,
+        32 => 32,
+        _ => 3 * question,
     }
 }
 

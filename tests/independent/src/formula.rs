@@ -92,6 +92,10 @@ fn write(
 }
 
 /// Fills families A to G, for which there are words enough.
+pub(crate) fn fill_base(instance: &Instance, words: &mut [i32]) {
+    fill(instance, words, write_f);
+}
+
 fn fill(instance: &Instance, words: &mut [i32], write_f: WriteF) {
     let counts = instance.word_counts();
     let (part_a, rest) = words.split_at_mut(counts[0]);

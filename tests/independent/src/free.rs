@@ -5,7 +5,8 @@ use crate::calls::Said;
 use crate::costs::{runs, until_rest};
 use crate::parts::Parts;
 use crate::plain;
-use crate::questions::{failing, order, question, turn, Handed, Item, ASKED};
+use crate::questions::{failing, has_ceiling, order, question, turn, Handed, Item};
+use crate::questions::{ASKED, CEILING_SIZE};
 use crate::questions::{CLAUSE, DECODER, ENCODER, FLOOR, PLAN, PRUNED, PRUNED_SIZE, SIZE, WRITER};
 use crate::sample::{instance_bytes, path_edges};
 use crate::{formula_size, is_free, NO_GOAL};
@@ -494,8 +495,9 @@ pub struct Told {
 
 impl Default for Told {
     fn default() -> Told {
+        // Those with a ceiling are told elsewhere.
         let calls_asking =
-            |number: u32| (0..ASKED.len()).filter(move |&x| ASKED[x].contains(&number));
+            |number: u32| (0..CEILING_SIZE).filter(move |&x| ASKED[x].contains(&number));
         let questions = QUESTIONS
             .iter()
             .flat_map(|&(name, numbers, _)| calls_asking(numbers[0]).map(move |call| (name, call)));
@@ -525,7 +527,7 @@ impl Told {
         said: &Said,
         again: impl Fn(&[u8]) -> Said,
     ) {
-        if (1..=7).contains(&said.answer.number) {
+        if has_ceiling(call) || (1..=7).contains(&said.answer.number) {
             return;
         }
         let asked = Asked {

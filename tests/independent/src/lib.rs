@@ -1,6 +1,6 @@
 //! A second, independent program for shuttle formulas, valuations and plans.
 //!
-//! The ten calls and `check_instance` work on raw bytes and never panic; `calls`
+//! The fifteen calls and `check_instance` work on raw bytes and never panic; `calls`
 //! makes them by number. `plain` generates the clauses slowly, `questions` asks one
 //! question at a time, `sample`, `closing`, `parts` and `output` make test inputs,
 //! `costs` has plans with known costs, `floors` maps with known floors and families
@@ -8,12 +8,18 @@
 //! goal, `rules` those on which the movement rule matters, `wrong_rules` programs that
 //! are wrong about it. `reversing` holds and reverses plans and exchanges starts and
 //! goals, `worked_reversing` has such plans with known answers, `wrong_reversing`
-//! programs that are wrong about this. `text` prints a formula as DIMACS CNF.
+//! programs that are wrong about this. `plain_ceiling` is `plain` for the formula with
+//! a ceiling, `worked_ceiling` has such formulas, answers and sizes by hand,
+//! `wrong_ceiling` programs that are wrong about it. `text` prints a formula as DIMACS
+//! CNF.
 
 #![forbid(unsafe_code)]
 
 mod asked;
 pub mod calls;
+mod ceiling;
+mod ceiling_counts;
+mod ceiling_valuation;
 pub mod closing;
 pub mod costs;
 mod distances;
@@ -24,6 +30,7 @@ mod instance;
 pub mod output;
 pub mod parts;
 pub mod plain;
+pub mod plain_ceiling;
 mod plan;
 pub mod questions;
 mod reader;
@@ -34,7 +41,11 @@ pub mod sizes;
 pub mod text;
 mod twice;
 mod valuation;
+pub mod worked_ceiling;
 pub mod worked_reversing;
+pub mod wrong_ceiling;
+mod wrong_designs;
+mod wrong_formula;
 pub mod wrong_reversing;
 pub mod wrong_rules;
 mod wrong_steps;
@@ -42,6 +53,8 @@ mod wrong_steps;
 #[cfg(test)]
 mod tests;
 
+pub use ceiling::{ceiling_size, write_ceiling, HIGHEST_CEILING};
+pub use ceiling_valuation::{decode_ceiling, encode_ceiling, read_ceiling};
 pub use distances::floor;
 pub use formula::{clause, formula_size, pruned_size};
 pub use formula::{write_formula, write_formula_searching, write_pruned};

@@ -69,14 +69,18 @@ fn occupied(rule: Rule, row: &[u8], next: &[u8]) -> Option<(u32, usize)> {
     })
 }
 
-/// The time until rest, summed over the agents: an agent's is the least t such
-/// that it keeps one vertex in all rows t to m.
-fn cost(instance: &Instance, plan: &[u8]) -> usize {
+/// The time until rest, summed over the agents.
+pub(crate) fn cost(instance: &Instance, plan: &[u8]) -> usize {
+    let agents = 0..instance.k;
+    agents.map(|a| time_until_rest(instance, plan, a)).sum()
+}
+
+/// The least t such that the agent keeps one vertex in all rows t to m.
+pub(crate) fn time_until_rest(instance: &Instance, plan: &[u8], a: usize) -> usize {
     let (k, m) = (instance.k, instance.m);
-    let at = |t: usize, a: usize| plan[t * k + a];
+    let at = |t: usize| plan[t * k + a];
     // The last row is compared first: it differs most often.
-    let rests = |t: usize, a: usize| (t..=m).rev().all(|later| at(later, a) == at(t, a));
+    let rests = |t: usize| (t..=m).rev().all(|later| at(later) == at(t));
     // From m on it keeps one: there is no later row.
-    let until_rest = |a: usize| (0..=m).find(|&t| rests(t, a)).unwrap_or(m);
-    (0..k).map(until_rest).sum()
+    (0..=m).find(|&t| rests(t)).unwrap_or(m)
 }

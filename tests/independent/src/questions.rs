@@ -1,8 +1,8 @@
 //! Each question by itself, whatever the others answer. Shares no code with
-//! the ten calls, but for the test whether an agent is free.
+//! the calls, but for the test whether an agent is free.
 
 pub use crate::asked::*;
-use crate::{is_free, plain};
+use crate::{ceiling_counts, is_free, plain, plain_ceiling};
 use std::collections::BTreeMap;
 
 /// What a call is handed; what it has none of is empty, 0 or none.
@@ -21,6 +21,8 @@ pub struct Handed<'a> {
     pub lent: usize,
     /// Does the formula have family H?
     pub pruned: bool,
+    /// None for the calls that take none.
+    pub ceiling: Option<u64>,
 }
 
 /// The places of all items whose no gives this number, rising. Items that the
@@ -63,6 +65,7 @@ fn all_places(number: u32, handed: &Handed) -> Option<Vec<u128>> {
         text,
         lent,
         pruned,
+        ceiling,
     } = handed;
     let raw = |bytes: &[u8], at: u128| bytes.get(usize::try_from(at).ok()?).copied();
     let item = |bytes: &[u8], at: u128| Some(u128::from(raw(bytes, at)?));
@@ -89,10 +92,17 @@ fn all_places(number: u32, handed: &Handed) -> Option<Vec<u128>> {
         let all: u128 = clause_counts(n()?, k()?, e()?, m, rule).iter().sum();
         Some(all - free_count()?)
     };
-    let word_count = || Some(word_count(n()?, k()?, e()?, m, rule) - 2 * free_count()?);
+    let added = || match ceiling {
+        Some(c) => Some(ceiling_counts::added(n()?, k()?, m, c.into())),
+        None => Some(Default::default()),
+    };
+    let word_count = || {
+        let base = word_count(n()?, k()?, e()?, m, rule) - 2 * free_count()?;
+        Some(base + added()?.words)
+    };
     let edges = || Some((0..e()?).filter_map(edge).collect::<Vec<_>>());
     let plan_length = || Some((m + 1) * k()?);
-    let variables = || Some(n()? * plan_length()?);
+    let variables = || Some(n()? * plan_length()? + added()?.variables);
 
     let places = match number {
         1 => only(length < 4, length),
@@ -204,7 +214,10 @@ fn all_places(number: u32, handed: &Handed) -> Option<Vec<u128>> {
         }
         24 if !accepted(handed) => return None,
         24 => {
-            let clauses = plain::clauses(instance, horizon, rule);
+            let clauses = match ceiling {
+                Some(c) => plain_ceiling::clauses(instance, horizon, rule, c),
+                None => plain::clauses(instance, horizon, rule),
+            };
             let numbers = (0..clauses.len()).filter(|&number| {
                 let mut literals = clauses[number].iter();
                 !literals.any(|literal| entries.contains(literal))
@@ -262,6 +275,18 @@ fn all_places(number: u32, handed: &Handed) -> Option<Vec<u128>> {
             agents.map(|a| from + a).collect()
         }
         31 => only(![1, 2].contains(&rule), 0),
+        32 => only(ceiling? > 128, 0),
+        33 if k()? == 0 || plan.len() as u128 != plan_length()? => return None,
+        33 => {
+            let (k, rows) = (k()?, plan.len() as u128 / k()?);
+            let busy = |t: u128, a: u128| {
+                let mut later = t + 1..rows;
+                later.any(|s| vertex(s * k + a) != vertex(t * k + a))
+            };
+            let agents = |t: u128| (0..k).filter(|&a| busy(t, a)).count() as u128;
+            let cost = (0..rows).map(agents).sum();
+            only(cost > ceiling?.into(), cost)
+        }
         _ => panic!("there is no number {number}"),
     };
     Some(places)

@@ -14,7 +14,8 @@ pub fn read_valuation(
     text: &[u8],
     entries: &mut [i32],
 ) -> Answer {
-    answer(read(instance, horizon, rule, text, entries))
+    let instance = Instance::read(instance, horizon, rule);
+    answer(instance.and_then(|instance| read_text(instance.variable_count(), text, entries)))
 }
 
 /// What a line of the right form holds.
@@ -32,15 +33,8 @@ enum Status {
     Unknown,
 }
 
-fn read(
-    bytes: &[u8],
-    horizon: u64,
-    rule: u64,
-    text: &[u8],
-    entries: &mut [i32],
-) -> Result<usize, Answer> {
-    let instance = Instance::read(bytes, horizon, rule)?;
-    let count = instance.variable_count();
+/// Questions 16 and 27 to 29, for so many variables.
+pub(crate) fn read_text(count: usize, text: &[u8], entries: &mut [i32]) -> Result<usize, Answer> {
     if entries.len() < count {
         return refuse(16, count);
     }

@@ -41,18 +41,28 @@ fn decoded(
     if plan.len() < length {
         return refuse(15, length);
     }
-    // Only variable numbers are negated here, no entry.
-    let own = |(&entry, variable): (&i32, i32)| entry == variable || entry == -variable;
-    if let Some(i) = entries.iter().zip(1..).position(|pair| !own(pair)) {
+    if let Some(i) = first_wrong(entries) {
         return refuse(23, i);
     }
     if let Some(number) = first_false(&instance, entries) {
         return refuse(24, number);
     }
-    for (byte, row) in plan.iter_mut().zip(rows(&instance, entries)) {
+    decode_rows(&instance, entries, plan);
+    Ok(length)
+}
+
+/// The first entry that is not its variable's number or the negative of that.
+pub(crate) fn first_wrong(entries: &[i32]) -> Option<usize> {
+    // Only variable numbers are negated here, no entry.
+    let own = |(&entry, variable): (&i32, i32)| entry == variable || entry == -variable;
+    entries.iter().zip(1..).position(|pair| !own(pair))
+}
+
+/// Writes the plan that a satisfying valuation names.
+pub(crate) fn decode_rows(instance: &Instance, entries: &[i32], plan: &mut [u8]) {
+    for (byte, row) in plan.iter_mut().zip(rows(instance, entries)) {
         *byte = row.iter().position(|&entry| entry > 0).unwrap_or(0) as u8;
     }
-    Ok(length)
 }
 
 /// The entries of X(t,a,0) to X(t,a,n−1).
@@ -72,7 +82,7 @@ fn rows<'a>(
 
 /// The lowest number of a clause without a true literal. Entry i belongs to
 /// variable i + 1, so its sign tells which literal of that variable is true.
-fn first_false(instance: &Instance, entries: &[i32]) -> Option<usize> {
+pub(crate) fn first_false(instance: &Instance, entries: &[i32]) -> Option<usize> {
     let in_g = match instance.rule {
         Rule::Vacant => false_in_g,
         Rule::Exchange => false_exchange,
@@ -221,6 +231,12 @@ fn encoded(
         return refuse(16, count);
     }
     check_rows(&instance, plan)?;
+    encode_rows(&instance, plan, entries);
+    Ok(count)
+}
+
+/// Writes the entries of all X(t,a,v), for which there are places enough.
+pub(crate) fn encode_rows(instance: &Instance, plan: &[u8], entries: &mut [i32]) {
     for ((t, a), &vertex) in instance.times_and_agents(instance.m + 1).zip(plan) {
         for v in 0..instance.n {
             let variable = instance.x(t, a, v);
@@ -231,5 +247,4 @@ fn encoded(
             };
         }
     }
-    Ok(count)
 }

@@ -45,6 +45,7 @@ kinds! {
     Agents: "too many agents in the description, one byte counts to 255",
 
     ProgramRule: "the formula program keeps to rule 1, and another was asked for",
+    NoCeiling: "a cost ceiling was given with a command that has none",
     HeldShorter: "a plan is held until its makespan or later, not until before it",
     NoWayBack: "an agent without a destination has no start for the way back",
     PlanWord: "a word of the plan is not a whole number from 0 to 255",

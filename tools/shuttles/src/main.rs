@@ -1,11 +1,14 @@
 //! Shuttle instances, plans and solvers' valuations on the command line.
 
+mod ceiling;
 mod clause;
+mod counting;
 mod description;
 mod dimacs;
 mod errors;
 mod horizon;
 mod map;
+mod options;
 mod places;
 mod refusals;
 mod reversing;
@@ -15,18 +18,20 @@ mod size;
 mod solver_form;
 mod solver_lines;
 mod streams;
+mod subject;
 mod usage;
 #[cfg(test)]
 mod words;
 
+use ceiling::Ceiling;
 use errors::{quoted, Error, Kind};
 use horizon::Horizon;
-use map::Map;
-use places::Subject;
+use options::Options;
 use rule::Rule;
 use runglaet::{Answer, Size};
 use std::io::{Read, Write};
 use std::process::ExitCode;
+use subject::Subject;
 use usage::USAGE;
 
 /// What a run comes to: a text for standard output and an exit status, or an error.
@@ -57,9 +62,14 @@ fn main() -> ExitCode {
 }
 
 fn run(words: &[&str]) -> Outcome {
-    let known = rule::taken(words).and_then(|(words, rule)| match rule {
-        None => without_rule(&words).or_else(|| with_rule(&words, Rule::default())),
-        Some(rule) => with_rule(&words, rule),
+    let known = options::taken(words).and_then(|(words, options)| {
+        let Options { rule, ceiling } = options;
+        let with = || with_rule(&words, rule.unwrap_or_default(), ceiling);
+        match (rule, ceiling) {
+            (None, None) => without_rule(&words).or_else(with),
+            (_, Some(_)) => ceiling::none_of(&words).map(Err).or_else(with),
+            (Some(_), None) => with(),
+        }
     });
     known.unwrap_or_else(|| {
         let details = format!("{}\n{USAGE}", quoted(words.join(" ")));
@@ -79,16 +89,20 @@ fn without_rule(words: &[&str]) -> Option<Outcome> {
     })
 }
 
-/// Those that are given a horizon, and the rule beside it.
-fn with_rule(words: &[&str], rule: Rule) -> Option<Outcome> {
+/// Those that are given a horizon, and the rule beside it; some of them take a ceiling too.
+fn with_rule(words: &[&str], rule: Rule, ceiling: Option<Ceiling>) -> Option<Outcome> {
     Some(match *words {
-        ["size", instance, horizon] => size(instance, horizon, rule),
+        ["size", instance, horizon] => size(instance, horizon, rule, ceiling),
         ["input", instance, horizon] => input(instance, horizon, rule),
-        ["formula", instance, horizon] => formula(instance, horizon, rule),
+        ["formula", instance, horizon] => formula(instance, horizon, rule, ceiling),
         ["pruned", instance, horizon] => pruned(instance, horizon, rule),
-        ["decode", "--numbers", instance, horizon] => decode(instance, horizon, rule, true),
-        ["decode", instance, horizon] => decode(instance, horizon, rule, false),
-        ["encode", instance, horizon, ref plan @ ..] => encode(instance, horizon, rule, plan),
+        ["decode", "--numbers", instance, horizon] => {
+            decode(instance, horizon, rule, ceiling, true)
+        }
+        ["decode", instance, horizon] => decode(instance, horizon, rule, ceiling, false),
+        ["encode", instance, horizon, ref plan @ ..] => {
+            encode(instance, horizon, rule, ceiling, plan)
+        }
         ["check", instance, horizon, ref plan @ ..] => check(instance, horizon, rule, plan),
         ["hold", instance, horizon, until, ref plan @ ..] => {
             reversing::hold(instance, horizon, until, rule, plan)
@@ -97,7 +111,7 @@ fn with_rule(words: &[&str], rule: Rule) -> Option<Outcome> {
             reversing::reverse(instance, horizon, rule, plan)
         }
         ["refusal", number, place, ref subject @ ..] if subject.len() <= 2 => {
-            refusal(number, place, subject, rule)
+            refusal(number, place, subject, rule, ceiling)
         }
         _ => return None,
     })
@@ -139,11 +153,14 @@ fn floor(instance: &str) -> Outcome {
     said(format!("makespan at least {}\n", answer.second), DONE)
 }
 
-fn size(instance: &str, horizon: &str, rule: Rule) -> Outcome {
+fn size(instance: &str, horizon: &str, rule: Rule, ceiling: Option<Ceiling>) -> Outcome {
     let (map, horizon) = (map::read(instance)?, Horizon::read(horizon));
-    match size::told(&map, &horizon, rule) {
+    match size::told(&map, &horizon, rule, ceiling) {
         Ok(text) => said(text, DONE),
-        Err(answer) => refused(answer, about(&map, &horizon, rule)),
+        Err(answer) => refused(
+            answer,
+            Subject::of(&map, &horizon, rule).with_ceiling(ceiling),
+        ),
     }
 }
 
@@ -151,7 +168,7 @@ fn input(instance: &str, horizon: &str, rule: Rule) -> Outcome {
     let (map, horizon) = (map::read(instance)?, Horizon::read(horizon));
     // The size call asks just what the formula program will ask, and of the rule whether it is one.
     if let Err(answer) = size::formula(&map, &horizon, rule) {
-        return refused_aside(answer, about(&map, &horizon, rule));
+        return refused_aside(answer, Subject::of(&map, &horizon, rule));
     }
     if rule.value != rule::FIRST {
         return Err(Kind::ProgramRule.with("`shuttles formula` writes the formula of either rule"));
@@ -161,95 +178,110 @@ fn input(instance: &str, horizon: &str, rule: Rule) -> Outcome {
     Ok((bytes, DONE))
 }
 
-fn formula(instance: &str, horizon: &str, rule: Rule) -> Outcome {
+fn formula(instance: &str, horizon: &str, rule: Rule, ceiling: Option<Ceiling>) -> Outcome {
     let (map, horizon) = (map::read(instance)?, Horizon::read(horizon));
-    let size = size::formula(&map, &horizon, rule);
-    formula_text(&map, &horizon, rule, size, runglaet::write_formula)
+    let size = size::bounded(&map, &horizon, rule, ceiling);
+    let write = |words: &mut [i32]| ceiling::write(&map, &horizon, rule, ceiling, words);
+    formula_text(
+        Subject::of(&map, &horizon, rule).with_ceiling(ceiling),
+        size,
+        write,
+    )
 }
 
 fn pruned(instance: &str, horizon: &str, rule: Rule) -> Outcome {
     let (map, horizon) = (map::read(instance)?, Horizon::read(horizon));
     let size = size::pruned(&map, &horizon, rule);
-    formula_text(&map, &horizon, rule, size, runglaet::write_pruned)
+    let write =
+        |words: &mut [i32]| runglaet::write_pruned(&map.bytes, horizon.value, rule.value, words);
+    formula_text(Subject::of(&map, &horizon, rule), size, write)
 }
 
-/// The call that writes the formula whose size is known.
-type Writer = fn(&[u8], u64, u64, &mut [i32]) -> Answer;
-
+/// The formula whose size is known, by the call that writes it.
 fn formula_text(
-    map: &Map,
-    horizon: &Horizon,
-    rule: Rule,
+    subject: Subject,
     size: Result<Size, Answer>,
-    write: Writer,
+    write: impl FnOnce(&mut [i32]) -> Answer,
 ) -> Outcome {
     let size = match size {
         Ok(size) => size,
-        Err(answer) => return refused_aside(answer, about(map, horizon, rule)),
+        Err(answer) => return refused_aside(answer, subject),
     };
     let mut words = vec![0; size.second as usize];
-    let answer = write(&map.bytes, horizon.value, rule.value, &mut words);
+    let answer = write(&mut words);
     if answer.number != 0 {
-        return refused_aside(answer, about(map, horizon, rule));
+        return refused_aside(answer, subject);
     }
-    let text = dimacs::text(map.variables(horizon), size.clauses, &words);
+    let text = dimacs::text(subject.variables(), size.clauses, &words);
     Ok((text, DONE))
 }
 
-fn decode(instance: &str, horizon: &str, rule: Rule, numbers: bool) -> Outcome {
+fn decode(
+    instance: &str,
+    horizon: &str,
+    rule: Rule,
+    ceiling: Option<Ceiling>,
+    numbers: bool,
+) -> Outcome {
     let (map, horizon) = (map::read(instance)?, Horizon::read(horizon));
     let given = standard_input()?;
     let (text, note) = solver_form::brought(&given);
     if let Some(note) = note {
         complain(&note);
     }
-    let mut entries = vec![0; map.variables(&horizon)];
-    let answer =
-        runglaet::read_valuation(&map.bytes, horizon.value, rule.value, &text, &mut entries);
+    let subject = Subject::of(&map, &horizon, rule).with_ceiling(ceiling);
+    let mut entries = vec![0; subject.variables()];
+    let answer = ceiling::read(&map, &horizon, rule, ceiling, &text, &mut entries);
     if answer.number != 0 {
-        return not_read(&map, &horizon, rule, &text, answer);
+        return not_read(subject, &horizon, &text, answer);
     }
     let mut plan = vec![0; map.plan_bytes(&horizon)];
-    let answer = runglaet::decode(&map.bytes, horizon.value, rule.value, &entries, &mut plan);
+    let answer = ceiling::decode(&map, &horizon, rule, ceiling, &entries, &mut plan);
     if answer.number != 0 {
-        return refused(answer, about(&map, &horizon, rule));
+        return refused(answer, subject);
     }
-    let answer = runglaet::check_plan(&map.bytes, horizon.value, rule.value, &plan);
+    let checked = runglaet::check_plan(&map.bytes, horizon.value, rule.value, &plan);
+    let answer = ceiling::held_to(checked, ceiling);
     if answer.number != 0 {
-        return refused(answer, about_plan(&map, &horizon, rule, &plan));
+        return refused(answer, subject.with_plan(&plan));
     }
     if numbers {
         return said(rows::numbers(&map, &plan), DONE);
     }
     said(
-        rows::shown(&map, &plan) + &passed(&horizon, rule, answer),
+        rows::shown(&map, &plan) + &passed(&horizon, rule, ceiling, answer),
         DONE,
     )
 }
 
 /// A refused text; that there is no plan is an answer all the same.
-fn not_read(map: &Map, horizon: &Horizon, rule: Rule, text: &[u8], answer: Answer) -> Outcome {
+fn not_read(subject: Subject, horizon: &Horizon, text: &[u8], answer: Answer) -> Outcome {
     let place = answer.second as usize;
     if answer.number == refusals::VERDICT && solver_lines::is_unsatisfiable(text, place) {
-        let (makespan, rule) = (&horizon.word, rule.told());
-        return said(format!("no plan of makespan {makespan}{rule}\n"), NO_PLAN);
+        let (makespan, rule) = (&horizon.word, subject.rule.told());
+        let cost = ceiling::of_plans(subject.ceiling);
+        return said(
+            format!("no plan of makespan {makespan}{cost}{rule}\n"),
+            NO_PLAN,
+        );
     }
     let text = Some(text);
-    refused(
-        answer,
-        Subject {
-            text,
-            ..about(map, horizon, rule)
-        },
-    )
+    refused(answer, Subject { text, ..subject })
 }
 
-fn encode(instance: &str, horizon: &str, rule: Rule, plan: &[&str]) -> Outcome {
+fn encode(
+    instance: &str,
+    horizon: &str,
+    rule: Rule,
+    ceiling: Option<Ceiling>,
+    plan: &[&str],
+) -> Outcome {
     let (map, horizon, plan) = (map::read(instance)?, Horizon::read(horizon), plan_of(plan)?);
-    let mut entries = vec![0; map.variables(&horizon)];
-    let answer = runglaet::encode(&map.bytes, horizon.value, rule.value, &plan, &mut entries);
+    let subject = Subject::of(&map, &horizon, rule).with_ceiling(ceiling);
+    let mut entries = vec![0; subject.variables()];
+    let answer = ceiling::encode(&map, &horizon, rule, ceiling, &plan, &mut entries);
     if answer.number != 0 {
-        return refused(answer, about_plan(&map, &horizon, rule, &plan));
+        return refused(answer, subject.with_plan(&plan));
     }
     let mut text = "s SATISFIABLE\n".to_string();
     for some in entries.chunks(16) {
@@ -263,9 +295,9 @@ fn check(instance: &str, horizon: &str, rule: Rule, plan: &[&str]) -> Outcome {
     let (map, horizon, plan) = (map::read(instance)?, Horizon::read(horizon), plan_of(plan)?);
     let answer = runglaet::check_plan(&map.bytes, horizon.value, rule.value, &plan);
     if answer.number != 0 {
-        return refused(answer, about_plan(&map, &horizon, rule, &plan));
+        return refused(answer, Subject::of(&map, &horizon, rule).with_plan(&plan));
     }
-    said(passed(&horizon, rule, answer), DONE)
+    said(passed(&horizon, rule, None, answer), DONE)
 }
 
 fn show(instance: &str, plan: &[&str]) -> Outcome {
@@ -273,7 +305,13 @@ fn show(instance: &str, plan: &[&str]) -> Outcome {
     said(rows::shown(&map, &plan), DONE)
 }
 
-fn refusal(number: &str, place: &str, subject: &[&str], rule: Rule) -> Outcome {
+fn refusal(
+    number: &str,
+    place: &str,
+    subject: &[&str],
+    rule: Rule,
+    ceiling: Option<Ceiling>,
+) -> Outcome {
     let answer = Answer {
         number: whole(number)?,
         second: whole(place)?,
@@ -284,30 +322,10 @@ fn refusal(number: &str, place: &str, subject: &[&str], rule: Rule) -> Outcome {
         map: map.as_ref(),
         horizon: horizon.as_ref(),
         rule,
+        ceiling,
         ..Subject::default()
     };
     said(format!("{}\n", refusals::describe(answer, subject)), DONE)
-}
-
-fn about<'a>(map: &'a Map, horizon: &'a Horizon, rule: Rule<'a>) -> Subject<'a> {
-    Subject {
-        map: Some(map),
-        horizon: Some(horizon),
-        rule,
-        ..Subject::default()
-    }
-}
-
-fn about_plan<'a>(
-    map: &'a Map,
-    horizon: &'a Horizon,
-    rule: Rule<'a>,
-    plan: &'a [u8],
-) -> Subject<'a> {
-    Subject {
-        plan: Some(plan),
-        ..about(map, horizon, rule)
-    }
 }
 
 fn refused(answer: Answer, subject: Subject) -> Outcome {
@@ -327,9 +345,10 @@ fn said(text: String, status: u8) -> Outcome {
     Ok((text.into_bytes(), status))
 }
 
-fn passed(horizon: &Horizon, rule: Rule, answer: Answer) -> String {
+fn passed(horizon: &Horizon, rule: Rule, ceiling: Option<Ceiling>, answer: Answer) -> String {
     let (rule, makespan, cost) = (rule.told(), &horizon.word, answer.second);
-    format!("plan passes{rule}: makespan {makespan}, cost {cost}\n")
+    let ceiling = ceiling::of_cost(ceiling);
+    format!("plan passes{rule}: makespan {makespan}, cost {cost}{ceiling}\n")
 }
 
 fn standard_input() -> Result<Vec<u8>, Error> {

@@ -1,23 +1,12 @@
 //! The place of a refusal in plain terms. Each function says nothing where what it needs is not known.
 
-use crate::clause;
+use crate::ceiling;
+use crate::counting::{self, meaning};
 use crate::errors::quoted;
-use crate::horizon::Horizon;
 use crate::map::Map;
-use crate::rule::Rule;
 use crate::solver_lines;
+use crate::subject::Subject;
 use std::cmp::Ordering;
-
-/// What was refused, as far as it is known.
-#[derive(Default, Clone, Copy)]
-pub struct Subject<'a> {
-    pub map: Option<&'a Map>,
-    pub horizon: Option<&'a Horizon>,
-    pub rule: Rule<'a>,
-    pub plan: Option<&'a [u8]>,
-    /// What a solver printed, in the form that the library reads.
-    pub text: Option<&'a [u8]>,
-}
 
 /// A place in plain terms.
 pub type Terms = fn(Subject, usize) -> Option<String>;
@@ -228,11 +217,15 @@ pub fn plan_length(subject: Subject, length: usize) -> Option<String> {
 
 pub fn valuation_length(subject: Subject, length: usize) -> Option<String> {
     let (map, horizon) = (subject.map?, subject.horizon?);
-    let (given, needed) = (entries(length), map.variables(horizon));
+    let (given, ceiling) = (entries(length), subject.ceiling);
     let (k, n) = (agents(map.agents()), vertices(map.vertices()));
-    let last = horizon.times() - 1;
+    let (last, needed) = (
+        horizon.times() - 1,
+        counting::variables(map, horizon, ceiling),
+    );
+    let ceiling = ceiling::of_formula(ceiling);
     Some(format!(
-        "{given} given, {k} on {n} at times 0 to {last} need {needed}"
+        "{given} given, {k} on {n} at times 0 to {last}{ceiling} need {needed}"
     ))
 }
 
@@ -345,30 +338,24 @@ pub fn shared(subject: Subject, place: usize) -> Option<String> {
 
 // The valuation
 
-/// What a variable of the formula says: `agent 0 (line 3) at vertex 1 at time 0`.
-fn meaning(map: &Map, horizon: &Horizon, number: usize) -> Option<String> {
-    let x = clause::variable(map, horizon, number)?;
-    let (agent, vertex, time) = (map.agent(x.agent), x.vertex, x.time);
-    Some(format!("{agent} at vertex {vertex} at time {time}"))
-}
-
 pub fn entry(subject: Subject, place: usize) -> Option<String> {
     let number = place.checked_add(1)?;
-    let meaning = meaning(subject.map?, subject.horizon?, number)?;
+    let meaning = meaning(subject, number)?;
     Some(format!(
         "entry {place} must be {number} or -{number}, for {meaning}"
     ))
 }
 
 pub fn falsified(subject: Subject, place: usize) -> Option<String> {
-    clause::told(subject.map?, subject.horizon?, subject.rule, place as u64)
+    let (map, horizon, rule) = (subject.map?, subject.horizon?, subject.rule);
+    counting::told(map, horizon, rule, place as u64, subject.ceiling)
 }
 
 // The solver's text
 
 pub fn text_form(subject: Subject, place: usize) -> Option<String> {
-    let variables = subject.map?.variables(subject.horizon?);
-    solver_lines::fault(subject.text?, place, variables)
+    subject.map.zip(subject.horizon)?;
+    solver_lines::fault(subject.text?, place, subject.variables())
 }
 
 pub fn verdict(subject: Subject, place: usize) -> Option<String> {
@@ -376,7 +363,8 @@ pub fn verdict(subject: Subject, place: usize) -> Option<String> {
 }
 
 pub fn variable_given(subject: Subject, number: usize) -> Option<String> {
-    let Some(meaning) = meaning(subject.map?, subject.horizon?, number) else {
+    subject.map.zip(subject.horizon)?;
+    let Some(meaning) = meaning(subject, number) else {
         return Some("the formula has no such variable".to_string());
     };
     let given = subject.text.map_or(String::new(), |text| {

@@ -3,7 +3,9 @@
 //! A line begins with the number and its words, so that refusals of one kind can be grouped by their first forty
 //! characters; the place comes last, in plain terms and then as the library gave it.
 
-use crate::places::{self, Subject, Terms};
+use crate::ceiling;
+use crate::places::{self, Terms};
+use crate::subject::Subject;
 use runglaet::Answer;
 
 #[rustfmt::skip] // a line a refusal
@@ -40,10 +42,15 @@ pub const REFUSALS: &[(u32, &str, &str, Terms)] = &[
     (29, "a variable is missing from the solver's text, or is there more than once", "a variable", places::variable_given),
     (30, "an agent's goal cannot be reached from its start by any path", "a byte of the instance", places::unreachable),
     (31, "the movement rule must be 1 or 2", "always 0", places::rule),
+    (32, "the cost ceiling must be a whole number from 0 to 128", "always 0", ceiling::given),
+    (33, "the plan costs more than the ceiling allows", "the plan's cost", ceiling::exceeded),
 ];
 
 /// The refusal of a verdict, which may say that there is no plan.
 pub const VERDICT: u32 = 28;
+
+/// The refusal of a plan that costs more than the ceiling.
+pub const TOO_COSTLY: u32 = 33;
 
 pub fn describe(answer: Answer, subject: Subject) -> String {
     let Answer { number, second } = answer;
@@ -62,6 +69,7 @@ pub fn describe(answer: Answer, subject: Subject) -> String {
 #[cfg(test)]
 mod tests {
     use super::*;
+    use crate::ceiling::Ceiling;
     use crate::description;
     use crate::horizon::Horizon;
     use crate::map::Map;
@@ -252,6 +260,38 @@ mod tests {
         }
     }
 
+    /// Each call with a ceiling, for the pair at horizon 1: of ceiling 0 five variables, 11 clauses and 34 words.
+    #[rustfmt::skip] // a line a refusal
+    #[test]
+    fn ceilings() {
+        let map = description::map("vertices 2\nedge 0 1\nagent 0 1").unwrap();
+        let horizon = Horizon::read("1");
+        let (i, values) = (&map.bytes[..], [1, -2, -3, 4, 5]);
+        let not_written = |c| {
+            let size = runglaet::ceiling_size(i, 1, 1, c);
+            assert_eq!((size.number, size.second, size.clauses), (32, 0, 0));
+            runglaet::write_ceiling(i, 1, 1, c, &mut [])
+        };
+        for (c, answer, expected) in [
+            ("129", not_written(129), "refused 32: the cost ceiling must be a whole number from 0 to 128: \"129\" was given (place 0)"),
+            ("129", runglaet::decode_ceiling(i, 1, 1, 129, &[], &mut []), "refused 32: the cost ceiling must be a whole number from 0 to 128: \"129\" was given (place 0)"),
+            ("x", runglaet::encode_ceiling(i, 1, 1, u64::MAX, &[], &mut []), "refused 32: the cost ceiling must be a whole number from 0 to 128: \"x\" was given (place 0)"),
+            ("129", runglaet::read_ceiling(i, 1, 1, 129, b"x", &mut []), "refused 32: the cost ceiling must be a whole number from 0 to 128: \"129\" was given (place 0)"),
+            ("0", runglaet::write_ceiling(i, 1, 1, 0, &mut [0; 33]), "refused 12: the memory lent for the formula or the clause is too small: 34 words of 32 bits are needed (place 34)"),
+            ("0", runglaet::decode_ceiling(i, 1, 1, 0, &values[..4], &mut [0; 2]), "refused 14: the valuation must have one entry for each variable: 4 entries given, 1 agent on 2 vertices at times 0 to 1 with cost ceiling 0 need 5 (place 4)"),
+            ("0", runglaet::decode_ceiling(i, 1, 1, 0, &values, &mut [0; 1]), "refused 15: the memory lent for the decoded plan is too small: 2 bytes needed (place 2)"),
+            ("0", runglaet::decode_ceiling(i, 1, 1, 0, &[1, -2, -3, 4, 6], &mut [0; 2]), "refused 23: an entry of the valuation is neither its variable nor its negative: entry 4 must be 5 or -5, for agent 0 (line 3) not yet at rest at time 0 (place 4)"),
+            ("0", runglaet::decode_ceiling(i, 1, 1, 0, &values, &mut [0; 2]), "refused 24: the valuation makes a clause false, which does not mean that there is no plan: clause 10 of the ceiling's limit (the cost is at most the ceiling), for 1 or more of variable 5 (place 10)"),
+            ("0", runglaet::encode_ceiling(i, 1, 1, 0, &[0, 1], &mut [0; 4]), "refused 16: the memory lent for the valuation is too small: 5 entries of 32 bits needed (place 5)"),
+            ("0", runglaet::encode_ceiling(i, 1, 1, 0, &[0, 1], &mut [0; 5]), "refused 33: the plan costs more than the ceiling allows: it costs 1, and the ceiling is 0 (place 1)"),
+            ("0", runglaet::read_ceiling(i, 1, 1, 0, b"", &mut [0; 4]), "refused 16: the memory lent for the valuation is too small: 5 entries of 32 bits needed (place 5)"),
+        ] {
+            let ceiling = Some(Ceiling::read(c));
+            let subject = Subject::of(&map, &horizon, Rule::default()).with_ceiling(ceiling);
+            assert_eq!(describe(answer, subject), expected);
+        }
+    }
+
     /// Two agents on two vertices: 8 variables at horizon 1, an agent's in one stretch. Without a horizon a number does
     /// not tell them apart.
     #[test]
@@ -304,6 +344,8 @@ mod tests {
             (29, 3, "refused 29: a variable is missing from the solver's text, or is there more than once: the place is a variable (place 3)"),
             (30, 9, "refused 30: an agent's goal cannot be reached from its start by any path: the place is a byte of the instance (place 9)"),
             (31, 0, "refused 31: the movement rule must be 1 or 2: the place is always 0 (place 0)"),
+            (32, 0, "refused 32: the cost ceiling must be a whole number from 0 to 128: the place is always 0 (place 0)"),
+            (33, 7, "refused 33: the plan costs more than the ceiling allows: it costs 7 (place 7)"),
             (36, 5, "refused 36: this tool has no words for refusals of this number (place 5)"),
         ] {
             assert_eq!(describe(Answer { number, second }, Subject::default()), expected);

@@ -4,7 +4,8 @@ use crate::errors::{Error, Kind};
 use crate::horizon::Horizon;
 use crate::map::{self, Map};
 use crate::rule::Rule;
-use crate::{about, about_plan, plan_of, refused, refused_aside, rows, said, size, Outcome, DONE};
+use crate::subject::Subject;
+use crate::{plan_of, refused, refused_aside, rows, said, size, Outcome, DONE};
 
 pub fn hold(instance: &str, horizon: &str, until: &str, rule: Rule, plan: &[&str]) -> Outcome {
     let until = Horizon::read(until);
@@ -32,7 +33,7 @@ pub fn exchange(instance: &str) -> Outcome {
     // The size call at horizon 0 asks of the instance alone.
     let (horizon, rule) = (Horizon::read("0"), Rule::default());
     if let Err(answer) = size::formula(&map, &horizon, rule) {
-        return refused_aside(answer, about(&map, &horizon, rule));
+        return refused_aside(answer, Subject::of(&map, &horizon, rule));
     }
     Ok((exchanged(map, instance)?.bytes, DONE))
 }
@@ -47,7 +48,10 @@ fn turned(
 ) -> Outcome {
     let passes = |map: &Map, horizon: &Horizon, plan: &[u8]| {
         let answer = runglaet::check_plan(&map.bytes, horizon.value, rule.value, plan);
-        (answer.number != 0).then(|| refused(answer, about_plan(map, horizon, rule, plan)))
+        (answer.number != 0).then(|| {
+            let subject = Subject::of(map, horizon, rule);
+            refused(answer, subject.with_plan(plan))
+        })
     };
     let (map, horizon, plan) = (map::read(instance)?, Horizon::read(horizon), plan_of(plan)?);
     if let Some(refusal) = passes(&map, &horizon, &plan) {

@@ -40,20 +40,6 @@ impl<'a> Rule<'a> {
     }
 }
 
-/// The words of a command without `--rule R`, which may stand anywhere in it, and the rule where it is there. Nothing where
-/// it is there twice, or nothing stands behind it.
-pub fn taken<'a>(words: &[&'a str]) -> Option<(Vec<&'a str>, Option<Rule<'a>>)> {
-    let mut parts = words.split(|&word| word == "--rule");
-    let before = parts.next()?;
-    match (parts.next(), parts.next()) {
-        (None, _) => Some((before.to_vec(), None)),
-        (Some([word, behind @ ..]), None) => {
-            Some(([before, behind].concat(), Some(Rule::read(word))))
-        }
-        _ => None,
-    }
-}
-
 #[cfg(test)]
 mod tests {
     use super::*;
@@ -74,29 +60,6 @@ mod tests {
             "18446744073709551616",
         ] {
             assert_eq!(Rule::read(word).value, 0, "{word}");
-        }
-    }
-
-    #[test]
-    fn the_option() {
-        let two = Some(Rule::read("2"));
-        for (words, expected) in [
-            (&[][..], Some((vec![], None))),
-            (&["check", "p", "1"], Some((vec!["check", "p", "1"], None))),
-            (
-                &["check", "--rule", "2", "p", "1"],
-                Some((vec!["check", "p", "1"], two)),
-            ),
-            (
-                &["check", "p", "1", "--rule", "2"],
-                Some((vec!["check", "p", "1"], two)),
-            ),
-            (&["--rule", "2"], Some((vec![], two))),
-            (&["check", "p", "1", "--rule"], None),
-            (&["check", "--rule", "2", "--rule", "2"], None),
-            (&["check", "--rule", "--rule", "2"], None),
-        ] {
-            assert_eq!(taken(words), expected, "{words:?}");
         }
     }
 

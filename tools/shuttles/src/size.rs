@@ -1,5 +1,7 @@
-//! The size of the formula, alone and with family H. No formula is written for it.
+//! The size of the formula, alone and with family H, or with a cost ceiling. No formula is written for it.
 
+use crate::ceiling::{self, Ceiling};
+use crate::counting;
 use crate::horizon::Horizon;
 use crate::map::Map;
 use crate::places::count;
@@ -8,8 +10,17 @@ use runglaet::{Answer, Size};
 
 /// The size of the formula alone, or its refusal.
 pub fn formula(map: &Map, horizon: &Horizon, rule: Rule) -> Result<Size, Answer> {
-    let size = runglaet::formula_size(&map.bytes, horizon.value, rule.value);
-    accepted(size)
+    bounded(map, horizon, rule, None)
+}
+
+/// The same with a ceiling, where one is given.
+pub fn bounded(
+    map: &Map,
+    horizon: &Horizon,
+    rule: Rule,
+    ceiling: Option<Ceiling>,
+) -> Result<Size, Answer> {
+    accepted(ceiling::size(map, horizon, rule, ceiling))
 }
 
 /// The size of the formula with family H, or its refusal.
@@ -26,15 +37,26 @@ fn accepted(size: Size) -> Result<Size, Answer> {
     }
 }
 
-/// A line for each of the two.
-pub fn told(map: &Map, horizon: &Horizon, rule: Rule) -> Result<String, Answer> {
-    let variables = count(map.variables(horizon), "variable", "variables");
-    let line = |name: &str, size: Size| {
+/// A line for each of the two; with a ceiling one, since family H has none.
+pub fn told(
+    map: &Map,
+    horizon: &Horizon,
+    rule: Rule,
+    ceiling: Option<Ceiling>,
+) -> Result<String, Answer> {
+    let size = bounded(map, horizon, rule, ceiling)?;
+    let variables = counting::variables(map, horizon, ceiling);
+    let variables = count(variables, "variable", "variables");
+    let line = |name: String, size: Size| {
         let (clauses, words, rule) = (size.clauses, size.second, rule.told());
         format!("{name}{rule}: {variables}, {clauses} clauses, {words} words\n")
     };
-    let alone = line("formula", formula(map, horizon, rule)?);
-    Ok(alone + &line("with family H", pruned(map, horizon, rule)?))
+    let alone = line(format!("formula{}", ceiling::of_formula(ceiling)), size);
+    if ceiling.is_some() {
+        return Ok(alone);
+    }
+    let pruned = pruned(map, horizon, rule)?;
+    Ok(alone + &line("with family H".to_string(), pruned))
 }
 
 #[cfg(test)]
@@ -82,7 +104,7 @@ mod tests {
         ] {
             let (map, horizon) = (description::map(text).unwrap(), Horizon::read(m));
             let expected = format!("formula: {alone}\nwith family H: {with_h}\n");
-            assert_eq!(told(&map, &horizon, Rule::default()), Ok(expected));
+            assert_eq!(told(&map, &horizon, Rule::default(), None), Ok(expected));
         }
     }
 
@@ -107,7 +129,7 @@ mod tests {
         ] {
             let (map, horizon) = (description::map(text).unwrap(), Horizon::read(m));
             let expected = format!("formula under rule 2: {alone}\nwith family H under rule 2: {with_h}\n");
-            assert_eq!(told(&map, &horizon, Rule::read("2")), Ok(expected));
+            assert_eq!(told(&map, &horizon, Rule::read("2"), None), Ok(expected));
         }
     }
 
@@ -129,7 +151,7 @@ mod tests {
             let (rule, refusal) = (Rule::read(rule), Answer { number, second });
             assert_eq!(formula(&map, &horizon, rule), Err(refusal));
             assert_eq!(pruned(&map, &horizon, rule), Err(refusal));
-            assert_eq!(told(&map, &horizon, rule), Err(refusal));
+            assert_eq!(told(&map, &horizon, rule, None), Err(refusal));
         }
     }
 }

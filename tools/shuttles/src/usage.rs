@@ -25,6 +25,8 @@ A command that takes M also takes --rule R, the movement rule, which is 1 where 
 enters only a vertex on which none stood as the step began. Under rule 2 it may follow another, into a vertex that this
 one leaves in the same step, but no two agents exchange vertices. What is said of rule 2 names it. The formula program
 keeps to rule 1.
+`size`, `formula`, `decode`, `encode` and `refusal` also take --ceiling C, from 0 to 128: only plans that cost at most C
+count. The formula has variables and clauses for it behind the others; family H has no ceiling. What is said names C.
 The cost of a plan is the sum of its agents' times until rest: from then on the agent stays where it is. Waiting on the
 way counts.
 An agent without a destination, `agent START -` in a description, may end anywhere. A plan is shown with a line that
@@ -37,5 +39,6 @@ OUTPUT is the text of the SAT competitions, as cadical and picosat print it. Min
 form first, and so is what cryptominisat prints where a v line ends with a space or it gave up; a note on standard error
 says so.
 
-Exit status: 0 done; 1 refused by the library; 2 anything else that went wrong; 3 no plan of makespan M.
+Exit status: 0 done; 1 refused by the library; 2 anything else that went wrong; 3 no plan of makespan M,
+or with a ceiling none that costs at most C.
 ";

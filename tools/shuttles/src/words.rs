@@ -1,12 +1,13 @@
 //! All that the tool says of faults, held against each other: people group the lines by their first forty characters.
 
+use crate::ceiling::Ceiling;
 use crate::description;
 use crate::errors::Kind;
 use crate::horizon::Horizon;
-use crate::places::Subject;
 use crate::refusals::{describe, REFUSALS};
 use crate::rule::Rule;
 use crate::solver_form;
+use crate::subject::Subject;
 use runglaet::Answer;
 use std::collections::{HashMap, HashSet};
 
@@ -76,8 +77,15 @@ fn the_first_forty_characters_tell_the_kind_and_nothing_else() {
         rule: Rule::read("2"),
         ..sizes
     };
+    let bounded = contents.with_ceiling(Some(Ceiling::read("3")));
     let mut lines = errors();
-    lines.extend(refusals(&[Subject::default(), sizes, contents, free]));
+    lines.extend(refusals(&[
+        Subject::default(),
+        sizes,
+        contents,
+        free,
+        bounded,
+    ]));
     lines.extend(notes());
     let mut kinds = HashMap::new();
     for (kind, line) in &lines {

@@ -48,10 +48,13 @@ same-length-2 c = c .before .before .before .before .read-entries .ensures .1 .0
 returns-2 : tie.Need-returns-2
 returns-2 c =
     let l = c .before .before .before .before .before .before .before .variable-count .ensures .0 in
-    let h : variableCount (c .before .before .before .before .before .before .before .before .before .args .s) ≤ c .before .before .before .before .read-entries .result = omega (arith, c .before .if1 .left) in
-    (fault-behind (c .before .before .before .before .before .before .before .before .before .args .entries .now) (variableCount (c .before .before .before .before .before .before .before .before .before .args .s)) (c .before .before .before .before .read-entries .result) (c .stop-from .result) (first (c .before .before .before .before)) h (rw l at (c .stop-from .ensures)),
-     (c .before .before .before .before .read-entries .ensures .1 .0,
-      λ q. subst (λ (x : ℕ). Read (c .before .before .before .before .before .before .before .before .before .args .s) (take x (c .before .before .before .before .before .before .before .before .before .args .entries .now)) (take (planBytes (c .before .before .before .before .before .before .before .before .before .args .s)) (c .before .before .before .before .read-entries .last .0))) (lent-first (c .before .before .before .before .before .before .before)) (c .before .before .before .before .read-entries .ensures .1 .1 h)))
+    let h : variableCount (c .before .before .before .before .before .before .before .before .before .args .s) ≤ c .before .before .before .before .read-entries .result = omega (arith, c .before .if1 .left) in (
+      fault-behind (c .before .before .before .before .before .before .before .before .before .args .entries .now) (variableCount (c .before .before .before .before .before .before .before .before .before .args .s)) (c .before .before .before .before .read-entries .result) (c .stop-from .result) (first (c .before .before .before .before)) h (rw l at (c .stop-from .ensures)),
+      (
+        c .before .before .before .before .read-entries .ensures .1 .0,
+        λ q. subst (λ (x : ℕ). Read (c .before .before .before .before .before .before .before .before .before .args .s) (take x (c .before .before .before .before .before .before .before .before .before .args .entries .now)) (take (planBytes (c .before .before .before .before .before .before .before .before .before .args .s)) (c .before .before .before .before .read-entries .last .0))) (lent-first (c .before .before .before .before .before .before .before)) (c .before .before .before .before .read-entries .ensures .1 .1 h),
+      ),
+    )
 
 pub entry-fault-spec : {M : Type 1} → statement M
 entry-fault-spec =

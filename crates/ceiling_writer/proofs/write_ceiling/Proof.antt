@@ -23,54 +23,54 @@ use borrow.Author.Needs.{needs}
 use Rattle.ceiling_writer.proofs.write_ceiling.Statement.{statement}
 use Rattle.ceiling_writer.proofs.write_ceiling.Tie as tie
 
-known : (c : tie.Else1) → Accepted (‹args› .b .now) (‹check-ceiling› .result .checked)
-known c = passed (‹args› .b .now) (‹args› .m) (‹args› .rule) (‹args› .c) (‹check-ceiling› .result .answer) (‹check-ceiling› .result .checked) (‹check-ceiling› .ensures .0) (‹check-ceiling› .ensures .1) (‹if1› .left)
+known : (c : tie.Else1) → Accepted (c .before .before .before .before .before .before .args .b .now) (c .before .before .before .before .check-ceiling .result .checked)
+known c = passed (c .before .before .before .before .before .before .args .b .now) (c .before .before .before .before .before .before .args .m) (c .before .before .before .before .before .before .args .rule) (c .before .before .before .before .before .before .args .c) (c .before .before .before .before .check-ceiling .result .answer) (c .before .before .before .before .check-ceiling .result .checked) (c .before .before .before .before .check-ceiling .ensures .0) (c .before .before .before .before .check-ceiling .ensures .1) (c .if1 .left)
 
-small : (c : tie.Else1) → ‹args› .c ≤ 128
-small c = low (‹args› .b .now) (‹args› .m) (‹args› .rule) (‹args› .c) (‹check-ceiling› .result .answer) (‹check-ceiling› .result .checked) (‹check-ceiling› .ensures .0) (‹check-ceiling› .ensures .1) (‹if1› .left)
+small : (c : tie.Else1) → c .before .before .before .before .before .before .args .c ≤ 128
+small c = low (c .before .before .before .before .before .before .args .b .now) (c .before .before .before .before .before .before .args .m) (c .before .before .before .before .before .before .args .rule) (c .before .before .before .before .before .before .args .c) (c .before .before .before .before .check-ceiling .result .answer) (c .before .before .before .before .check-ceiling .result .checked) (c .before .before .before .before .check-ceiling .ensures .0) (c .before .before .before .before .check-ceiling .ensures .1) (c .if1 .left)
 
 -- the words of the formula, as the code has them
-parts : (c : tie.Else1) → words (underCeiling (‹args› .c) (instanceOf (‹args› .b .now) (‹check-ceiling› .result .checked))) ≡ each line (for 7 (family (held (‹check-ceiling› .result .checked))) ++ addedClauses (‹check-ceiling› .result .checked .sizes) (‹args› .c))
+parts : (c : tie.Else1) → words (underCeiling (c .before .before .before .before .before .before .args .c) (instanceOf (c .before .before .before .before .before .before .args .b .now) (c .before .before .before .before .check-ceiling .result .checked))) ≡ each line (for 7 (family (held (c .before .before .before .before .check-ceiling .result .checked))) ++ addedClauses (c .before .before .before .before .check-ceiling .result .checked .sizes) (c .before .before .before .before .before .before .args .c))
 unfolding words
 parts c =
     ap (each line)
-    (ap₂ (λ (k l : List Clause). k ++ l) (families-held (‹args› .b .now) (‹check-ceiling› .result .checked) (known (‹@Else1›)))
-    (ap (λ (s : Sizes). addedClauses s (‹args› .c)) (sym (sizes-same _ _ (known (‹@Else1›))))))
+    (ap₂ (λ (k l : List Clause). k ++ l) (families-held (c .before .before .before .before .before .before .args .b .now) (c .before .before .before .before .check-ceiling .result .checked) (known c))
+    (ap (λ (s : Sizes). addedClauses s (c .before .before .before .before .before .before .args .c)) (sym (sizes-same _ _ (known c)))))
 
 returns : tie.Need-returns
 unfolding ceilingWriteAnswer ceilingWriteSlice ceilingAnswer
 returns c =
-    write-refuses (underCeiling (‹args› .c)) (ceilingQuestions (‹args› .b .now) (‹args› .m) (‹args› .rule) (‹args› .c)) (numbered-ceiling (‹args› .b .now) (‹args› .m) (‹args› .rule) (‹args› .c)) (instance (‹args› .b .now) (‹args› .m) (‹args› .rule)) (instanceOf (‹args› .b .now) (‹check-ceiling› .result .checked)) (‹check-ceiling› .result .answer) (‹check-ceiling› .ensures .0)
-    (horizon (‹args› .b .now) (‹args› .m) (‹args› .rule) (‹args› .c) (‹check-ceiling› .result .answer) (‹check-ceiling› .result .checked) (‹check-ceiling› .ensures .0) (‹check-ceiling› .ensures .1)) (‹args› .f .now) (‹if1› .taken)
+    write-refuses (underCeiling (c .before .before .before .before .before .before .args .c)) (ceilingQuestions (c .before .before .before .before .before .before .args .b .now) (c .before .before .before .before .before .before .args .m) (c .before .before .before .before .before .before .args .rule) (c .before .before .before .before .before .before .args .c)) (numbered-ceiling (c .before .before .before .before .before .before .args .b .now) (c .before .before .before .before .before .before .args .m) (c .before .before .before .before .before .before .args .rule) (c .before .before .before .before .before .before .args .c)) (instance (c .before .before .before .before .before .before .args .b .now) (c .before .before .before .before .before .before .args .m) (c .before .before .before .before .before .before .args .rule)) (instanceOf (c .before .before .before .before .before .before .args .b .now) (c .before .before .before .before .check-ceiling .result .checked)) (c .before .before .before .before .check-ceiling .result .answer) (c .before .before .before .before .check-ceiling .ensures .0)
+    (horizon (c .before .before .before .before .before .before .args .b .now) (c .before .before .before .before .before .before .args .m) (c .before .before .before .before .before .before .args .rule) (c .before .before .before .before .before .before .args .c) (c .before .before .before .before .check-ceiling .result .answer) (c .before .before .before .before .check-ceiling .result .checked) (c .before .before .before .before .check-ceiling .ensures .0) (c .before .before .before .before .check-ceiling .ensures .1)) (c .before .before .before .before .before .before .args .f .now) (c .if1 .taken)
 
 words-requires : tie.Need-words-requires
-words-requires c κs = (limits-known _ _ (known (‹@Else1›)), small (‹@Else1›))
+words-requires c κs = (limits-known _ _ (known (c .before)), small (c .before))
 
 returns-2 : tie.Need-returns-2
 unfolding ceilingWriteAnswer ceilingWriteSlice ceilingAnswer
 returns-2 c =
-    write-stops (underCeiling (‹args› .c)) (ceilingQuestions (‹args› .b .now) (‹args› .m) (‹args› .rule) (‹args› .c)) (numbered-ceiling (‹args› .b .now) (‹args› .m) (‹args› .rule) (‹args› .c)) (instance (‹args› .b .now) (‹args› .m) (‹args› .rule)) (instanceOf (‹args› .b .now) (‹check-ceiling› .result .checked)) (‹check-ceiling› .result .answer) (‹check-ceiling› .ensures .0)
-    (horizon (‹args› .b .now) (‹args› .m) (‹args› .rule) (‹args› .c) (‹check-ceiling› .result .answer) (‹check-ceiling› .result .checked) (‹check-ceiling› .ensures .0) (‹check-ceiling› .ensures .1)) (‹args› .f .now) (‹if1› .left) (‹words› .result)
-    (words-held _ _ (known (‹@Else1›)) (‹args› .c) ∙ sym (‹words› .ensures)) (‹ask-room› .result) (‹ask-room› .ensures) (‹if2› .taken)
+    write-stops (underCeiling (c .before .before .before .before .before .before .before .before .before .before .before .args .c)) (ceilingQuestions (c .before .before .before .before .before .before .before .before .before .before .before .args .b .now) (c .before .before .before .before .before .before .before .before .before .before .before .args .m) (c .before .before .before .before .before .before .before .before .before .before .before .args .rule) (c .before .before .before .before .before .before .before .before .before .before .before .args .c)) (numbered-ceiling (c .before .before .before .before .before .before .before .before .before .before .before .args .b .now) (c .before .before .before .before .before .before .before .before .before .before .before .args .m) (c .before .before .before .before .before .before .before .before .before .before .before .args .rule) (c .before .before .before .before .before .before .before .before .before .before .before .args .c)) (instance (c .before .before .before .before .before .before .before .before .before .before .before .args .b .now) (c .before .before .before .before .before .before .before .before .before .before .before .args .m) (c .before .before .before .before .before .before .before .before .before .before .before .args .rule)) (instanceOf (c .before .before .before .before .before .before .before .before .before .before .before .args .b .now) (c .before .before .before .before .before .before .before .before .before .check-ceiling .result .checked)) (c .before .before .before .before .before .before .before .before .before .check-ceiling .result .answer) (c .before .before .before .before .before .before .before .before .before .check-ceiling .ensures .0)
+    (horizon (c .before .before .before .before .before .before .before .before .before .before .before .args .b .now) (c .before .before .before .before .before .before .before .before .before .before .before .args .m) (c .before .before .before .before .before .before .before .before .before .before .before .args .rule) (c .before .before .before .before .before .before .before .before .before .before .before .args .c) (c .before .before .before .before .before .before .before .before .before .check-ceiling .result .answer) (c .before .before .before .before .before .before .before .before .before .check-ceiling .result .checked) (c .before .before .before .before .before .before .before .before .before .check-ceiling .ensures .0) (c .before .before .before .before .before .before .before .before .before .check-ceiling .ensures .1)) (c .before .before .before .before .before .before .before .before .before .before .before .args .f .now) (c .before .before .before .before .before .if1 .left) (c .before .before .before .words .result)
+    (words-held _ _ (known (c .before .before .before .before .before)) (c .before .before .before .before .before .before .before .before .before .before .before .args .c) ∙ sym (c .before .before .before .words .ensures)) (c .before .before .ask-room .result) (c .before .before .ask-room .ensures) (c .if2 .taken)
 
 write-all-requires : tie.Need-write-all-requires
 write-all-requires c κs =
-    let w = known (‹@Else1›) in (
+    let w = known (c .before .before .before .before .before .before) in (
       ready _ _ w,
       (
-        small (‹@Else1›),
-        rw (← (parts (‹@Else1›)))
-            (omega (arith, words-held _ _ w (‹args› .c), ‹words› .ensures, fits-12 (‹words› .result) (length (‹args› .f .now)) (‹ask-room› .result) (‹ask-room› .ensures) (‹if2› .left))),
+        small (c .before .before .before .before .before .before),
+        rw (← (parts (c .before .before .before .before .before .before)))
+            (omega (arith, words-held _ _ w (c .before .before .before .before .before .before .before .before .before .before .before .before .args .c), c .before .before .before .before .words .ensures, fits-12 (c .before .before .before .before .words .result) (length (c .before .before .before .before .before .before .before .before .before .before .before .before .args .f .now)) (c .before .before .before .ask-room .result) (c .before .before .before .ask-room .ensures) (c .before .if2 .left))),
       ),
     )
 
 returns-3 : tie.Need-returns-3
 unfolding ceilingWriteAnswer ceilingWriteSlice ceilingAnswer
 returns-3 c =
-    write-fills (underCeiling (‹args› .c)) (ceilingQuestions (‹args› .b .now) (‹args› .m) (‹args› .rule) (‹args› .c)) (numbered-ceiling (‹args› .b .now) (‹args› .m) (‹args› .rule) (‹args› .c)) (instance (‹args› .b .now) (‹args› .m) (‹args› .rule)) (instanceOf (‹args› .b .now) (‹check-ceiling› .result .checked)) (‹check-ceiling› .result .answer) (‹check-ceiling› .ensures .0)
-    (horizon (‹args› .b .now) (‹args› .m) (‹args› .rule) (‹args› .c) (‹check-ceiling› .result .answer) (‹check-ceiling› .result .checked) (‹check-ceiling› .ensures .0) (‹check-ceiling› .ensures .1)) (‹args› .f .now) (‹if1› .left) (‹words› .result)
-    (words-held _ _ (known (‹@Else1›)) (‹args› .c) ∙ sym (‹words› .ensures)) (‹ask-room› .result) (‹ask-room› .ensures) (‹if2› .left) _
-    (‹write-all› .ensures ∙ ap (λ (l : List ℤ). filled l (‹args› .f .now)) (sym (parts (‹@Else1›))))
+    write-fills (underCeiling (c .before .before .before .before .before .before .before .before .before .before .before .before .before .before .args .c)) (ceilingQuestions (c .before .before .before .before .before .before .before .before .before .before .before .before .before .before .args .b .now) (c .before .before .before .before .before .before .before .before .before .before .before .before .before .before .args .m) (c .before .before .before .before .before .before .before .before .before .before .before .before .before .before .args .rule) (c .before .before .before .before .before .before .before .before .before .before .before .before .before .before .args .c)) (numbered-ceiling (c .before .before .before .before .before .before .before .before .before .before .before .before .before .before .args .b .now) (c .before .before .before .before .before .before .before .before .before .before .before .before .before .before .args .m) (c .before .before .before .before .before .before .before .before .before .before .before .before .before .before .args .rule) (c .before .before .before .before .before .before .before .before .before .before .before .before .before .before .args .c)) (instance (c .before .before .before .before .before .before .before .before .before .before .before .before .before .before .args .b .now) (c .before .before .before .before .before .before .before .before .before .before .before .before .before .before .args .m) (c .before .before .before .before .before .before .before .before .before .before .before .before .before .before .args .rule)) (instanceOf (c .before .before .before .before .before .before .before .before .before .before .before .before .before .before .args .b .now) (c .before .before .before .before .before .before .before .before .before .before .before .before .check-ceiling .result .checked)) (c .before .before .before .before .before .before .before .before .before .before .before .before .check-ceiling .result .answer) (c .before .before .before .before .before .before .before .before .before .before .before .before .check-ceiling .ensures .0)
+    (horizon (c .before .before .before .before .before .before .before .before .before .before .before .before .before .before .args .b .now) (c .before .before .before .before .before .before .before .before .before .before .before .before .before .before .args .m) (c .before .before .before .before .before .before .before .before .before .before .before .before .before .before .args .rule) (c .before .before .before .before .before .before .before .before .before .before .before .before .before .before .args .c) (c .before .before .before .before .before .before .before .before .before .before .before .before .check-ceiling .result .answer) (c .before .before .before .before .before .before .before .before .before .before .before .before .check-ceiling .result .checked) (c .before .before .before .before .before .before .before .before .before .before .before .before .check-ceiling .ensures .0) (c .before .before .before .before .before .before .before .before .before .before .before .before .check-ceiling .ensures .1)) (c .before .before .before .before .before .before .before .before .before .before .before .before .before .before .args .f .now) (c .before .before .before .before .before .before .before .before .if1 .left) (c .before .before .before .before .before .before .words .result)
+    (words-held _ _ (known (c .before .before .before .before .before .before .before .before)) (c .before .before .before .before .before .before .before .before .before .before .before .before .before .before .args .c) ∙ sym (c .before .before .before .before .before .before .words .ensures)) (c .before .before .before .before .before .ask-room .result) (c .before .before .before .before .before .ask-room .ensures) (c .before .before .before .if2 .left) _
+    (c .before .write-all .ensures ∙ ap (λ (l : List ℤ). filled l (c .before .before .before .before .before .before .before .before .before .before .before .before .before .before .args .f .now)) (sym (parts (c .before .before .before .before .before .before .before .before))))
 
 pub write-ceiling-spec : {M : Type 1} → statement M
 write-ceiling-spec =

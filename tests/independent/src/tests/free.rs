@@ -4,7 +4,7 @@ use super::numbering::CLAUSES;
 use super::{compare_words, counts, says, uncounted, FORMULAS, UNWRITTEN, WROTE};
 use crate::calls::say;
 use crate::free::{worked, Told};
-use crate::questions::{Handed, ASKED, CLAUSE, DECODER, FLOOR, PRUNED, PRUNED_SIZE};
+use crate::questions::{Handed, CEILING_SIZE, CLAUSE, DECODER, FLOOR, PRUNED, PRUNED_SIZE};
 use crate::sample::{instance_bytes, path_edges, refused_twice};
 use crate::*;
 
@@ -248,7 +248,7 @@ fn add(told: &mut Told, call: usize, handed: &Handed) {
 fn add_all(told: &mut Told, instance: &[u8], horizon: u64, rule: u64, plan: &[u8], clause: u64) {
     let [n, k] = [0, 1].map(|size| usize::from(instance[size]));
     let entries = plain::valuation(n, k.max(1), plan);
-    for call in 0..ASKED.len() {
+    for call in 0..CEILING_SIZE {
         let handed = Handed {
             instance,
             horizon: if call == FLOOR { 0 } else { horizon },
@@ -259,6 +259,7 @@ fn add_all(told: &mut Told, instance: &[u8], horizon: u64, rule: u64, plan: &[u8
             text: b"s UNKNOWN",
             lent: 2_000,
             pruned: matches!(call, PRUNED | PRUNED_SIZE),
+            ceiling: None,
         };
         add(told, call, &handed);
     }

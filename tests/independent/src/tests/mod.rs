@@ -1,4 +1,7 @@
 mod arrangements;
+mod ceiling;
+mod ceiling_meaning;
+mod ceiling_wrong;
 mod costs;
 mod cross;
 mod examples;

@@ -4,7 +4,8 @@ use super::{closed_counts, counts, says, uncounted, FORMULAS, WROTE};
 use crate::calls::say;
 use crate::output::{some_text, some_valuation};
 use crate::parts::{enter_occupied, malform, Parts};
-use crate::questions::{first_no, Handed, ASKED, NUMBERS};
+use crate::questions::{first_no, has_ceiling, Handed, ASKED, NUMBERS};
+use crate::questions::{CEILING_DECODER, CEILING_WRITER};
 use crate::questions::{CLAUSE, DECODER, FLOOR, PRUNED, PRUNED_SIZE, SIZE, WRITER};
 use crate::sample::{all_edges, instance_bytes, largest_instance, Generator};
 use crate::*;
@@ -516,6 +517,7 @@ fn calls_answer_the_first_no() {
         let (mut instance, mut plan) = random.walk(n, k, percent, m, rule);
         let mut horizon = m as u64;
         let mut entries = plain::valuation(n, k, &plan);
+        let walked = plan.clone();
         if random.chance(20) {
             // Goals that may be out of reach.
             let goals = random.goals(n, k);
@@ -558,11 +560,32 @@ fn calls_answer_the_first_no() {
             entries.push(1);
         }
         let variables = some_valuation(&mut random, n * k * (m + 1));
-        let text = some_text(&mut random, &variables);
+        let base_text = some_text(&mut random, &variables);
+        let ceiling = match random.below(8) {
+            0 => [128, 129, 1 << 32, u64::MAX][random.below(4)],
+            _ => random.below(m * k + 2) as u64,
+        };
+        // What the plan was before it was damaged.
+        let base_entries = entries;
+        let mut added = plain_ceiling::valuation(n, k, ceiling, &walked);
+        let ceiling_text = some_text(&mut random, &added);
+        added[..base_entries.len().min(variables.len())]
+            .copy_from_slice(&base_entries[..base_entries.len().min(variables.len())]);
+        if random.chance(20) {
+            let i = random.below(added.len());
+            added[i] = -added[i];
+        }
+        if random.chance(10) {
+            added.pop();
+        }
         for (call, numbers) in ASKED.into_iter().enumerate() {
+            let (entries, text) = match has_ceiling(call) {
+                true => (&added, &ceiling_text),
+                false => (&base_entries, &base_text),
+            };
             let lent = match (random.below(4), call) {
                 (0, _) => random.below(6),
-                (_, DECODER) => 12,
+                (_, DECODER | CEILING_DECODER) => 12,
                 _ => 2_000,
             };
             let pruned = matches!(call, PRUNED | PRUNED_SIZE);
@@ -572,15 +595,16 @@ fn calls_answer_the_first_no() {
                 rule,
                 clause: (call == CLAUSE).then_some(number),
                 plan: &plan,
-                entries: &entries,
-                text: &text,
+                entries,
+                text,
                 lent,
                 pruned,
+                ceiling: has_ceiling(call).then_some(ceiling),
             };
             let answer = say(call, &instance, &handed, vec![7; lent], vec![7; lent]).answer;
             match (first_no(numbers, &handed), call) {
                 (Some((number, place)), _) => assert_eq!(answer, says(number, place).into()),
-                (None, WRITER | PRUNED) => assert_eq!(answer, WROTE.into()),
+                (None, WRITER | PRUNED | CEILING_WRITER) => assert_eq!(answer, WROTE.into()),
                 (None, SIZE | PRUNED_SIZE) => {
                     assert_eq!(answer, closed_counts(&instance, horizon, rule, pruned));
                 }

@@ -8,7 +8,7 @@ use super::{compare_words, counts, says, RULES, UNWRITTEN, WROTE};
 use crate::calls::say;
 use crate::closing::exchange;
 use crate::parts::{enter_occupied, Parts};
-use crate::questions::{Handed, ASKED, CLAUSE, FLOOR, NUMBERS, PRUNED, PRUNED_SIZE};
+use crate::questions::{Handed, CEILING_SIZE, CLAUSE, FLOOR, NUMBERS, PRUNED, PRUNED_SIZE};
 use crate::rules::worked;
 use crate::sample::{all_edges, instance_bytes, largest_instance, path_edges};
 use crate::sample::{refused_twice, Generator, WRONG_RULES};
@@ -298,7 +298,7 @@ fn add_all(
 ) {
     let [n, k] = [0, 1].map(|size| instance.get(size).map_or(1, |&x| usize::from(x)));
     let entries = plain::valuation(n, k.max(1), plan);
-    for call in 0..ASKED.len() {
+    for call in 0..CEILING_SIZE {
         let handed = Handed {
             instance,
             horizon: if call == FLOOR { 0 } else { horizon },
@@ -310,6 +310,7 @@ fn add_all(
             // Too short where the rule is none, so that more than the rule is wrong.
             lent: if RULES.contains(&rule) { 2_000 } else { 1 },
             pruned: matches!(call, PRUNED | PRUNED_SIZE),
+            ceiling: None,
         };
         let said = |rule: u64| {
             let under = Handed { rule, ..handed };

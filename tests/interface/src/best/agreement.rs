@@ -4,7 +4,7 @@ use independent::closing::exchange;
 use independent::costs::Told;
 use independent::floors;
 use independent::output::{padded, some_text, worked};
-use independent::questions::{asked_under, ASKED, NUMBERS};
+use independent::questions::{asked_under, CEILING_SIZE, NUMBERS};
 use independent::sample::Generator;
 use independent::sizes;
 use independent::text::print_formula;
@@ -17,18 +17,18 @@ use std::io::Write;
 use std::path::Path;
 use std::process::{Command, Stdio};
 
-struct Case {
+pub struct Case {
     /// The instance before it was damaged.
-    parts: Parts,
-    m: usize,
+    pub parts: Parts,
+    pub m: usize,
     /// Passes for those, or two agents exchange in it.
-    plan: Vec<u8>,
-    instance: Vec<u8>,
-    horizon: u64,
-    rule: u64,
+    pub plan: Vec<u8>,
+    pub instance: Vec<u8>,
+    pub horizon: u64,
+    pub rule: u64,
 }
 
-fn draw(g: &mut Generator) -> Case {
+pub fn draw(g: &mut Generator) -> Case {
     let most = [4, 8, 16, 64][g.below(4)];
     let n = 1 + g.below(most);
     let most = [2, 4, 16][g.below(3)];
@@ -81,11 +81,11 @@ pub fn same<T: Clone + PartialEq, A: Debug + PartialEq>(
     answer
 }
 
-/// Compares the ten calls in so many random cases; gives the number of comparisons.
+/// Compares the ten calls without a ceiling in so many random cases; gives the number of comparisons.
 pub fn compare_calls(cases: usize) -> usize {
     let mut g = Generator::new(2026);
     // Under rule 1, under rule 2, and under any other.
-    let mut all_hits = [[[0; NUMBERS]; ASKED.len()]; 3];
+    let mut all_hits = [[[0; NUMBERS]; CEILING_SIZE]; 3];
     let mut all_falsified = [[0; 7]; 2];
     let mut told = Told::default();
     let mut told_floors = floors::Told::default();

@@ -52,7 +52,7 @@ fn size(bytes: &[u8], horizon: u64, rule: u64, count_h: impl FnOnce(&Instance) -
 }
 
 /// Fills the parts of the seven families.
-type Fill = fn(&Instance, [&mut [i32]; 7]);
+pub type Fill = fn(&Instance, [&mut [i32]; 7]);
 
 pub fn write_formula(instance: &[u8], horizon: u64, rule: u64, words: &mut [i32]) -> Answer {
     written(instance, horizon, rule, |instance| {
@@ -133,7 +133,7 @@ fn write_with_h(instance: &Instance, words: &mut [i32], fill: Fill) -> Result<()
 
 /// Word counts of the families A to G.
 #[inline(always)]
-fn lengths(instance: &Instance) -> [usize; 7] {
+pub fn lengths(instance: &Instance) -> [usize; 7] {
     let (n, k, m) = (instance.n, instance.k, instance.m);
     let [a, b, _, d, e, f, g] = instance.clause_counts();
     [
@@ -151,7 +151,7 @@ fn lengths(instance: &Instance) -> [usize; 7] {
 }
 
 #[inline(always)]
-fn parts(words: &mut [i32], lengths: [usize; 7]) -> [&mut [i32]; 7] {
+pub fn parts(words: &mut [i32], lengths: [usize; 7]) -> [&mut [i32]; 7] {
     let mut rest = words;
     lengths.map(|length| {
         let (part, after) = std::mem::take(&mut rest).split_at_mut(length);
@@ -161,7 +161,7 @@ fn parts(words: &mut [i32], lengths: [usize; 7]) -> [&mut [i32]; 7] {
 }
 
 /// The families, each block but the first as the one before with its variables moved.
-fn fill(instance: &Instance, parts: [&mut [i32]; 7]) {
+pub fn fill(instance: &Instance, parts: [&mut [i32]; 7]) {
     let (n, k, m) = (instance.n, instance.k, instance.m);
     let [a, b, c, d, e, f, g] = parts;
     write_ends(instance, a, b);

@@ -2,6 +2,9 @@
 //! are held against.
 
 pub mod agreement;
+mod ceiling;
+pub mod ceiling_agreement;
+pub mod ceiling_model;
 mod clause;
 mod distances;
 mod exchanges;
@@ -10,8 +13,12 @@ mod instance;
 mod plan;
 mod reader;
 mod straight;
+mod tree;
 mod valuation;
 
+pub use ceiling::{ceiling_size, decode_ceiling, decode_ceiling_sorted, encode_ceiling};
+pub use ceiling::{read_ceiling, read_ceiling_straight};
+pub use ceiling::{write_ceiling, write_ceiling_straight};
 pub use clause::clause;
 pub use distances::{floor, floor_by_queue, floor_from_starts};
 pub use formula::{formula_size, formula_size_with_words, pruned_size, pruned_size_by_table};

@@ -10,9 +10,14 @@ pub fn check_plan(instance: &[u8], horizon: u64, rule: u64, plan: &[u8]) -> Answ
         Instance::read(instance, horizon, rule).and_then(|instance| {
             check_length(&instance, plan)?;
             check_rows(&instance, plan)?;
-            Ok(COSTS[instance.k - 1](plan))
+            Ok(cost_of(&instance, plan))
         }),
     )
+}
+
+/// The cost of a plan of the right length.
+pub fn cost_of(instance: &Instance, plan: &[u8]) -> usize {
+    COSTS[instance.k - 1](plan)
 }
 
 /// The instance check with the words of neighbours, then question 13 alone.

@@ -13,8 +13,9 @@ pub fn read_valuation(
     entries: &mut [i32],
 ) -> Answer {
     answer(
-        Instance::read(instance, horizon, rule)
-            .and_then(|instance| read(&instance, text, entries, tokens_by_words)),
+        Instance::read(instance, horizon, rule).and_then(|instance| {
+            read(instance.rows() * instance.n, text, entries, tokens_by_words)
+        }),
     )
 }
 
@@ -27,8 +28,9 @@ pub fn read_valuation_straight(
     entries: &mut [i32],
 ) -> Answer {
     answer(
-        Instance::read(instance, horizon, rule)
-            .and_then(|instance| read(&instance, text, entries, tokens_by_bytes)),
+        Instance::read(instance, horizon, rule).and_then(|instance| {
+            read(instance.rows() * instance.n, text, entries, tokens_by_bytes)
+        }),
     )
 }
 
@@ -39,23 +41,23 @@ const POSITIVE: u8 = 1;
 const NEGATIVE: u8 = 2;
 
 /// What follows the tokens of a v line.
-struct After<'a> {
+pub struct After<'a> {
     text: &'a [u8],
     /// The last token was 0.
     ended: bool,
 }
 
 /// Marks the variables of the tokens that a text begins with, up to the end of their line; none for a wrong line.
-type Tokens = for<'a> fn(&mut [u8], &'a [u8]) -> Option<After<'a>>;
+pub type Tokens = for<'a> fn(&mut [u8], &'a [u8]) -> Option<After<'a>>;
 
+/// Question 16 and those after it, for so many variables.
 #[inline(always)]
-fn read(
-    instance: &Instance,
+pub fn read(
+    count: usize,
     text: &[u8],
     entries: &mut [i32],
     tokens: Tokens,
 ) -> Result<usize, Answer> {
-    let count = instance.rows() * instance.n;
     if entries.len() < count {
         return refuse(16, count);
     }
@@ -130,7 +132,7 @@ fn mark(given: &mut [u8], variable: usize, minus: bool) -> Option<()> {
 }
 
 #[inline(never)]
-fn tokens_by_bytes<'a>(given: &mut [u8], text: &'a [u8]) -> Option<After<'a>> {
+pub fn tokens_by_bytes<'a>(given: &mut [u8], text: &'a [u8]) -> Option<After<'a>> {
     let mut bytes = text.iter();
     loop {
         let mut first = *bytes.next()?;
@@ -177,7 +179,7 @@ fn tokens_by_bytes<'a>(given: &mut [u8], text: &'a [u8]) -> Option<After<'a>> {
 }
 
 #[inline(never)]
-fn tokens_by_words<'a>(given: &mut [u8], text: &'a [u8]) -> Option<After<'a>> {
+pub fn tokens_by_words<'a>(given: &mut [u8], text: &'a [u8]) -> Option<After<'a>> {
     let mut rest = text;
     loop {
         // A sign, five digits at most and what ends them.
@@ -234,7 +236,7 @@ fn take<const DIGITS: usize>(
     minus: bool,
     rest: &mut &[u8],
 ) -> Option<u8> {
-    // No instance has 40,000 variables. So 16 bits are enough.
+    // No formula has 40,000 variables, with a ceiling or without. So 16 bits are enough.
     if DIGITS == 5 && word as u8 > b'3' {
         return None;
     }

@@ -38,11 +38,8 @@ fn decoded(instance: &Instance, entries: &[i32], plan: &mut [u8]) -> Result<usiz
     let mut places = [0; 33 * 16];
     let places = &mut places[..rows];
     let single = read_places(instance, entries, places);
-    let wrong = |(&entry, variable): (&i32, i32)| entry != variable && entry != -variable;
     if !single {
-        if let Some(i) = entries.iter().zip(1..).position(wrong) {
-            return refuse(23, i);
-        }
+        check_entries(entries)?;
     }
     if let Some(number) = first_false(instance, entries, single, places) {
         return refuse(24, number);
@@ -51,9 +48,18 @@ fn decoded(instance: &Instance, entries: &[i32], plan: &mut [u8]) -> Result<usiz
     Ok(rows)
 }
 
+/// Question 23.
+pub fn check_entries(entries: &[i32]) -> Result<(), Answer> {
+    let wrong = |(&entry, variable): (&i32, i32)| entry != variable && entry != -variable;
+    match entries.iter().zip(1..).position(wrong) {
+        Some(i) => refuse(23, i),
+        None => Ok(()),
+    }
+}
+
 /// The vertex of each time and agent, in one pass over the entries; false unless each has one variable and else
 /// negatives.
-fn read_places(instance: &Instance, entries: &[i32], places: &mut [u8]) -> bool {
+pub fn read_places(instance: &Instance, entries: &[i32], places: &mut [u8]) -> bool {
     let (n, k) = (instance.n, instance.k);
     let mut single = true;
     let mut first = 1;
@@ -79,7 +85,12 @@ fn read_places(instance: &Instance, entries: &[i32], places: &mut [u8]) -> bool 
 
 /// The lowest clause without a true literal, under a valuation. Where each time and agent has a single vertex, these
 /// are the places, and C and D hold.
-fn first_false(instance: &Instance, entries: &[i32], single: bool, places: &[u8]) -> Option<usize> {
+pub fn first_false(
+    instance: &Instance,
+    entries: &[i32],
+    single: bool,
+    places: &[u8],
+) -> Option<usize> {
     let absent =
         |t: usize, (a, v): (usize, u8)| entries[instance.before(t, a) + usize::from(v)] < 0;
     let mut starts = instance.starts.iter().copied().enumerate();
@@ -204,6 +215,12 @@ fn encoded(instance: &Instance, plan: &[u8], entries: &mut [i32]) -> Result<usiz
         return refuse(16, count);
     }
     check_rows(instance, plan)?;
+    write_rows(instance, plan, entries);
+    Ok(count)
+}
+
+/// The variables of a plan that passes, each X(t,a,v) or its negative.
+pub fn write_rows(instance: &Instance, plan: &[u8], entries: &mut [i32]) {
     let (n, k) = (instance.n, instance.k);
     let mut first = 1;
     let mut rows = entries.chunks_exact_mut(n);
@@ -220,5 +237,4 @@ fn encoded(instance: &Instance, plan: &[u8], entries: &mut [i32]) -> Result<usiz
             first += n as i32;
         }
     }
-    Ok(count)
 }

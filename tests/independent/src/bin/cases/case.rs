@@ -1,17 +1,17 @@
 //! A case, its bytes and its line, and what is told by it.
 //!
 //! In the input a case is its kind, 1 byte; the horizon, the rule and the clause
-//! number, 8 bytes each; the instance's length, 2 bytes; the payload's length and that
-//! of the lent slice, 4 bytes each; the instance; the payload. Numbers have their low
-//! byte first. The line is number, second, clauses and the hash of what was lent, or
+//! number or the ceiling, 8 bytes each; the instance's length, 2 bytes; the payload's
+//! length and that of the lent slice, 4 bytes each; the instance; the payload. Numbers
+//! have their low byte first. The line is number, second, clauses and the hash of what was lent, or
 //! "skip" where the program's arrays are too short.
 
 use independent::calls::{say, Said};
-use independent::questions::{Handed, Item, ASKED, NUMBERS};
+use independent::questions::{has_ceiling, Handed, Item, ASKED, NUMBERS};
 use independent::sample::Generator;
 use independent::{
-    costs, floors, formula_size, free, pruned_size, sizes, wrong_reversing, wrong_rules, Answer,
-    Size,
+    ceiling_size, costs, floors, formula_size, free, pruned_size, read_ceiling, sizes,
+    wrong_ceiling, wrong_reversing, wrong_rules, Answer, Size,
 };
 use std::collections::BTreeSet;
 use std::fmt::Write;
@@ -26,6 +26,11 @@ pub const FLOOR: u8 = 7;
 pub const PRUNED: u8 = 8;
 pub const SIZE: u8 = 9;
 pub const PRUNED_SIZE: u8 = 10;
+pub const CEILING_SIZE: u8 = 11;
+pub const CEILING_WRITER: u8 = 12;
+pub const CEILING_DECODER: u8 = 13;
+pub const CEILING_ENCODER: u8 = 14;
+pub const CEILING_READER: u8 = 15;
 
 /// What the program's arrays hold.
 pub const WORDS: usize = 65_536;
@@ -101,6 +106,14 @@ impl Given {
     pub fn clauses(&self) -> u64 {
         formula_size(&self.instance, self.m, self.rule).clauses
     }
+    /// Those of the formula with this ceiling.
+    pub fn all_variables(&self, c: u64) -> usize {
+        let refused = read_ceiling(&self.instance, self.m, self.rule, c, b"", &mut []);
+        refused.second as usize
+    }
+    pub fn all_words(&self, c: u64) -> usize {
+        ceiling_size(&self.instance, self.m, self.rule, c).second as usize
+    }
     pub fn starts(&self) -> &[u8] {
         let from = self.instance.len() - 2 * self.k();
         &self.instance[from..from + self.k()]
@@ -137,18 +150,19 @@ pub fn handed<'a>(
         horizon: if kind == FLOOR { 0 } else { given.m },
         rule: if kind == FLOOR { 0 } else { given.rule },
         clause: (kind == CLAUSE).then_some(number),
-        plan: payload_of(&[PLAN, ENCODER]),
+        plan: payload_of(&[PLAN, ENCODER, CEILING_ENCODER]),
         entries,
-        text: payload_of(&[READER]),
+        text: payload_of(&[READER, CEILING_READER]),
         lent,
         pruned: matches!(kind, PRUNED | PRUNED_SIZE),
+        ceiling: has_ceiling(call(kind)).then_some(number),
     }
 }
 
-/// The entries in the payload; none but for the decoder.
+/// The entries in the payload; none but for the decoders.
 pub fn handed_entries(kind: u8, payload: &[u8]) -> Vec<i32> {
     match kind {
-        DECODER => entries_of(payload),
+        DECODER | CEILING_DECODER => entries_of(payload),
         _ => Vec::new(),
     }
 }
@@ -165,7 +179,7 @@ pub fn counted(kind: u8, rule: u64) -> usize {
 /// What the call says of this instance, with slices that hold the usual bytes.
 fn said(kind: u8, instance: &[u8], handed: &Handed) -> Said {
     let (words, bytes) = match kind {
-        DECODER => (0, handed.lent),
+        DECODER | CEILING_DECODER => (0, handed.lent),
         _ => (handed.lent, 0),
     };
     let plan = (0..bytes).map(before).collect();
@@ -194,6 +208,9 @@ pub struct Cases {
     pub told_rules: Option<wrong_rules::Told>,
     /// What the plan check tells from programs that hold, reverse or exchange wrongly.
     pub told_reversing: wrong_reversing::Told,
+    /// What answers tell from those of programs that are wrong about the ceiling; for the
+    /// stored set alone.
+    pub told_ceiling: Option<wrong_ceiling::Told>,
 }
 
 pub fn item(size: Size) -> Item {
@@ -224,9 +241,9 @@ impl Cases {
         self.input.extend(&given.instance);
         self.input.extend(payload);
         let room = match kind {
-            WRITER | CLAUSE | PRUNED => lent <= WORDS,
-            PLAN | FLOOR | SIZE | PRUNED_SIZE => true,
-            DECODER => lent <= PLAN_BYTES && payload.len() / 4 <= ENTRIES,
+            WRITER | CLAUSE | PRUNED | CEILING_WRITER => lent <= WORDS,
+            PLAN | FLOOR | SIZE | PRUNED_SIZE | CEILING_SIZE => true,
+            DECODER | CEILING_DECODER => lent <= PLAN_BYTES && payload.len() / 4 <= ENTRIES,
             _ => lent <= ENTRIES,
         };
         if !room {
@@ -236,7 +253,7 @@ impl Cases {
         let said = said(kind, &given.instance, &handed);
         // An empty slice has 1.
         let hashed = match kind {
-            DECODER => hash(said.plan.iter().map(|&x| u64::from(x))),
+            DECODER | CEILING_DECODER => hash(said.plan.iter().map(|&x| u64::from(x))),
             _ => hash_words(&said.words),
         };
         let (no, second, clauses) = (said.answer.number, said.answer.second, said.answer.clauses);
@@ -277,6 +294,17 @@ impl Cases {
             let again = |rule: u64| {
                 let under = Handed { rule, ..*handed };
                 self::said(kind, handed.instance, &under)
+            };
+            told.add(call(kind), handed, said, again);
+        }
+        if let Some(told) = &mut self.told_ceiling {
+            let again = |rule: u64, ceiling: u64| {
+                let other = Handed {
+                    rule,
+                    ceiling: Some(ceiling),
+                    ..*handed
+                };
+                self::said(kind, handed.instance, &other)
             };
             told.add(call(kind), handed, said, again);
         }

@@ -3,7 +3,7 @@
 use crate::case::{asked, call, Cases, FLOOR};
 use crate::small::{instances, small_instances};
 use independent::questions::{asked_under, question, ASKED};
-use independent::{free, wrong_rules};
+use independent::{free, wrong_ceiling, wrong_rules};
 use std::process;
 
 /// The stored set: all of the above, thinned so that it stays small.
@@ -101,14 +101,20 @@ pub fn gate(cases: &mut Cases) {
     for _ in 0..4 {
         cases.turned(16);
     }
+    cases.ceilings_twice();
+    cases.worked_ceilings();
+    cases.ceiling_edges();
+    for _ in 0..7 {
+        cases.ceiled(5);
+    }
 }
 
 /// Fails where a kind never gives an answer that it can give under a rule, where the
 /// items of two numbers of neighbouring questions or of one question never fail at
 /// once, where no accepted plan tells a wrong count from the cost, or no answer a
 /// wrong floor, family H, size or writer from the right one, or no answer of a call
-/// one that is wrong about free agents or about the rule, or no plan a program that
-/// holds, reverses or exchanges wrongly.
+/// one that is wrong about free agents, about the rule or about the ceiling, or no plan
+/// a program that holds, reverses or exchanges wrongly.
 pub fn require_all(cases: &Cases) {
     let mut missing = Vec::new();
     for kind in 1..=ASKED.len() as u8 {
@@ -151,7 +157,14 @@ pub fn require_all(cases: &Cases) {
     let rules = cases.told_rules.iter().flat_map(wrong_rules::Told::missing);
     let reversing = cases.told_reversing.missing();
     let reversing = reversing.into_iter().map(String::from);
-    for name in names.chain(free).chain(rules).chain(reversing) {
+    let ceiling = cases.told_ceiling.iter();
+    let ceiling = ceiling.flat_map(wrong_ceiling::Told::missing);
+    for name in names
+        .chain(free)
+        .chain(rules)
+        .chain(reversing)
+        .chain(ceiling)
+    {
         missing.push(format!("no answer tells from the right one: {name}"));
     }
     if !missing.is_empty() {

@@ -2,15 +2,19 @@
 //!
 //! `cases gate DIR` writes DIR/stdin and DIR/stdout, the stored set.
 //! `cases random SEED COUNT DIR` does the same for longer runs, and so do
-//! `small`, `clauses`, `plans`, `valuations`, `texts`, `floors` and `sizes`, which
-//! take all of some small set. Each prints a line "kind number times" for each
+//! `small`, `clauses`, `plans`, `valuations`, `texts`, `floors`, `sizes` and `ceilings`,
+//! which take all of some small set. Each prints a line "kind number times" for each
 //! answer that occurs.
 
 #![forbid(unsafe_code)]
 
 mod case;
+mod ceilings;
+mod ceilings_all;
+mod ceilings_twice;
 mod gate;
 mod maps;
+mod plans_twice;
 mod reversing;
 mod rules;
 mod small;
@@ -23,7 +27,7 @@ use crate::gate::{gate, require_all};
 use crate::small::{instances, small_instances};
 use independent::questions::{ASKED, NUMBERS};
 use independent::sample::{grid_edges, instance_bytes, Generator};
-use independent::{costs, floors, free, sizes, wrong_reversing, wrong_rules};
+use independent::{costs, floors, free, sizes, wrong_ceiling, wrong_reversing, wrong_rules};
 use std::collections::BTreeSet;
 use std::{env, fs, process};
 
@@ -48,6 +52,7 @@ fn main() {
         told_free: (mode == "gate").then(free::Told::default),
         told_rules: (mode == "gate").then(wrong_rules::Told::default),
         told_reversing: wrong_reversing::Told::default(),
+        told_ceiling: (mode == "gate").then(wrong_ceiling::Told::default),
     };
     match mode {
         "gate" => {
@@ -81,6 +86,13 @@ fn main() {
             cases.worked_reversing();
             for i in 0..number(2) {
                 cases.turned(if i % 4 == 0 { 64 } else { 9 });
+            }
+            cases.worked_ceilings();
+            cases.ceiling_edges();
+            cases.largest_ceiling();
+            for i in 0..number(2) {
+                cases.ceiled(if i % 4 == 0 { 12 } else { 5 });
+                cases.ceiling_malformed();
             }
         }
         "small" => {
@@ -179,10 +191,16 @@ fn main() {
                 }
             }
         }
+        "ceilings" => {
+            cases.worked_ceilings();
+            cases.ceiling_edges();
+            cases.all_ceilings();
+            cases.all_ceiling_valuations();
+        }
         _ => {
             eprintln!(
-                "cases gate DIR, or \
-                 cases random|small|clauses|plans|valuations|texts|floors|sizes SEED COUNT DIR"
+                "cases gate DIR, or cases \
+                 random|small|clauses|plans|valuations|texts|floors|sizes|ceilings SEED COUNT DIR"
             );
             process::exit(2);
         }

@@ -11,7 +11,7 @@ use independent::NO_GOAL;
 impl Cases {
     /// Such a case under rule 1; under rule 2 where the items are the same there; and
     /// under a rule that is none, which is asked between 10 and the later items.
-    fn two(
+    pub fn two(
         &mut self,
         kind: u8,
         given: &Given,
@@ -202,76 +202,7 @@ impl Cases {
 
         self.two(ENCODER, &pair(1), 0, &[0, 1, 0], 3, [(13, 3), (16, 4)]);
         self.two(ENCODER, &pair(1), 0, &[0, 2], 3, [(16, 4), (17, 1)]);
-        let path = |starts: &[u8], goals: &[u8], m: u64| {
-            given(4, &[(0, 1), (1, 2), (2, 3)], starts, goals, m)
-        };
-        let star = given(4, &[(0, 1), (0, 2), (0, 3)], &[1, 2, 3], &[0, 1, 2], 1);
-        let ring = given(3, &[(0, 1), (0, 2), (1, 2)], &[0, 1, 2], &[1, 2, 0], 1);
-        let plans: [(Given, &[u8], [Item; 2]); 22] = [
-            (pair(33), &[0, 1, 0], [(10, 0), (13, 3)]),
-            (pair(1), &[0, 1, 9], [(13, 3), (17, 2)]),
-            (pair(1), &[1, 2], [(17, 1), (18, 0)]),
-            (path(&[0], &[3], 1), &[1, 3], [(18, 0), (19, 1)]),
-            // The occupant jumps, stays, enters an occupied vertex itself, or shares one.
-            (path(&[0, 1], &[1, 3], 1), &[0, 1, 1, 3], [(19, 3), (26, 2)]),
-            (path(&[0, 1], &[1, 2], 1), &[0, 1, 1, 1], [(20, 2), (21, 3)]),
-            (
-                path(&[0, 1, 2], &[1, 2, 3], 1),
-                &[0, 1, 2, 1, 2, 2],
-                [(26, 3), (20, 4)],
-            ),
-            (
-                path(&[0, 1, 3], &[1, 2, 3], 1),
-                &[0, 1, 3, 1, 2, 2],
-                [(26, 3), (21, 5)],
-            ),
-            (path(&[0, 2], &[1, 2], 1), &[0, 2, 1, 1], [(21, 3), (22, 3)]),
-            // 21 in step 0, 19 in step 1.
-            (
-                path(&[0, 2], &[3, 1], 2),
-                &[0, 2, 1, 1, 3, 1],
-                [(21, 3), (19, 4)],
-            ),
-            // Two items of one question, in one step or in two.
-            (path(&[0], &[1], 2), &[0, 4, 255], [(17, 1), (17, 2)]),
-            (
-                path(&[0, 1, 2], &[0, 2, 1], 0),
-                &[0, 2, 1],
-                [(18, 1), (18, 2)],
-            ),
-            (path(&[0, 1], &[2, 3], 1), &[0, 1, 2, 3], [(19, 2), (19, 3)]),
-            (path(&[0], &[0], 2), &[0, 2, 0], [(19, 1), (19, 2)]),
-            (path(&[0, 1], &[1, 0], 1), &[0, 1, 1, 0], [(25, 2), (25, 3)]),
-            (ring, &[0, 1, 2, 1, 2, 0], [(26, 3), (26, 4)]),
-            (star, &[1, 2, 3, 0, 0, 0], [(21, 4), (21, 5)]),
-            (path(&[0, 1], &[1, 2], 1), &[0, 1, 0, 1], [(22, 2), (22, 3)]),
-            // Free agents: two that are not on their starts; one that jumps; one that is in the way; one between two that
-            // are not at their goals.
-            (
-                path(&[0, 3], &[NO_GOAL, NO_GOAL], 0),
-                &[1, 2],
-                [(18, 0), (18, 1)],
-            ),
-            (
-                path(&[0, 3], &[NO_GOAL, 3], 1),
-                &[0, 3, 2, 1],
-                [(19, 2), (19, 3)],
-            ),
-            (
-                path(&[0, 1], &[0, NO_GOAL], 1),
-                &[0, 1, 1, 1],
-                [(20, 2), (22, 2)],
-            ),
-            (
-                path(&[0, 1, 3], &[1, NO_GOAL, 2], 1),
-                &[0, 1, 3, 0, 1, 3],
-                [(22, 3), (22, 5)],
-            ),
-        ];
-        for (given, plan, items) in plans {
-            self.two_of_plan(&given, plan, items);
-        }
-        self.occupied_and_more();
+        self.plans_twice(&[PLAN, ENCODER]);
 
         let texts: [(Given, &[u8], usize, [Item; 2]); 19] = [
             (pair(33), b"", 67, [(10, 0), (16, 68)]),
@@ -353,46 +284,6 @@ impl Cases {
         ];
         for (starts, goals, items) in floors {
             self.two(FLOOR, &apart(starts, goals), 0, &[], 0, items);
-        }
-    }
-
-    /// The same case for both calls that take a plan.
-    fn two_of_plan(&mut self, given: &Given, plan: &[u8], items: [Item; 2]) {
-        self.two(PLAN, given, 0, plan, 0, items);
-        self.two(ENCODER, given, 0, plan, given.variables(), items);
-    }
-
-    /// An agent enters an occupied vertex in each of the three ways, and another
-    /// item fails. The paths are 0-1-2, 3-4-5 and 6-7-8.
-    fn occupied_and_more(&mut self) {
-        let edges = [(0, 1), (1, 2), (3, 4), (4, 5), (6, 7), (7, 8)];
-        let given = |starts: &[u8], m: u64| Given {
-            instance: instance_bytes(9, &edges, starts, starts),
-            m,
-            rule: 1,
-        };
-        // Where the occupant of 1 goes while an agent comes from 0.
-        let ways = [(20, 1), (25, 0), (26, 2)];
-        for (number, to) in ways {
-            // 19 of a higher agent, in this step and in the next.
-            let three = [0, 1, 6];
-            let plan = [0, 1, 6, 1, to, 8];
-            self.two_of_plan(&given(&three, 1), &plan, [(19, 5), (number, 3)]);
-            let plan = [0, 1, 6, 1, to, 6, 1, to, 8];
-            self.two_of_plan(&given(&three, 2), &plan, [(number, 3), (19, 8)]);
-            // 21 of a lower agent.
-            let four = given(&[6, 8, 0, 1], 1);
-            let plan = [6, 8, 0, 1, 7, 7, 1, to];
-            self.two_of_plan(&four, &plan, [(number, 6), (21, 5)]);
-            for (other, there) in ways {
-                // A higher agent enters 4 from 3, in this step and in the next.
-                let four = [0, 1, 3, 4];
-                let there = 3 + there;
-                let plan = [0, 1, 3, 4, 1, to, 4, there];
-                self.two_of_plan(&given(&four, 1), &plan, [(number, 4), (other, 6)]);
-                let plan = [0, 1, 3, 4, 1, to, 3, 4, 1, to, 4, there];
-                self.two_of_plan(&given(&four, 2), &plan, [(number, 4), (other, 10)]);
-            }
         }
     }
 }

@@ -272,6 +272,7 @@ impl Cases {
             text: &[],
             lent: 0,
             pruned: false,
+            ceiling: None,
         };
         let step = |place: u64| place / k as u64;
         let beside = |&place: &u64| step(place) == step(answer.second);

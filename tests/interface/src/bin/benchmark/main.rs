@@ -11,6 +11,7 @@
 mod before;
 #[path = "../../best/mod.rs"]
 mod best;
+mod ceilings;
 mod clock;
 #[path = "../../earlier.rs"]
 mod earlier;
@@ -22,6 +23,8 @@ mod plans;
 mod reader;
 
 use crate::best::agreement::{compare_calls, compare_program};
+use crate::best::ceiling_agreement::compare_ceilings;
+use crate::ceilings::ceilings;
 use crate::clock::Table;
 use crate::forms::{FORMULA_SIZES, PRUNED_SIZES};
 use crate::formulas::{clause, pruned_writer, size, writer};
@@ -54,10 +57,12 @@ fn main() {
         before::agree(now, before);
     }
     let compared = compare_calls(CASES);
+    let bounded = compare_ceilings(CASES);
     compare_program(&programs[1], PROGRAM_CASES);
     println!(
         "The best Rust forms answered as the independent program did in {compared} calls and \
-         {PROGRAM_CASES} texts.\n"
+         {PROGRAM_CASES} texts.\n\
+         With a ceiling they answered as a slow model did in {bounded} calls.\n"
     );
 
     let mut table = Table::default();
@@ -117,6 +122,7 @@ fn main() {
         size(&mut table, call, input, forms, Some(1.5), notes);
         clause(&mut table, input);
     }
+    ceilings(&mut table);
     match table.missed {
         0 => println!("\nall targets met"),
         missed => println!("\ntargets missed: {missed}"),

@@ -2,12 +2,15 @@
 //!
 //! compare [SEED [COUNT [FIRST]]]: texts, plans, maps and sizes with known answers, every pair of a block, two faults of a
 //! valuation at once, instances with free agents beside the same ones with goals, one movement rule beside the other, plans
-//! held and reversed, every small instance, the largest one and COUNT random cases; with FIRST only COUNT random cases from
-//! that one on.
+//! held and reversed, ceilings on the cost, every small instance, the largest one and COUNT random cases; with FIRST only
+//! COUNT random cases from that one on.
 
 #![forbid(unsafe_code)]
 
 mod calls;
+mod ceiling;
+mod ceiling_calls;
+mod ceiling_small;
 mod free;
 mod known;
 mod largest;
@@ -23,13 +26,15 @@ mod ways;
 
 use crate::random::mix;
 use crate::run::Run;
+use independent::questions::{CEILING_DECODER, CEILING_ENCODER, CEILING_READER};
+use independent::questions::{CEILING_SIZE, CEILING_WRITER};
 use independent::questions::{CLAUSE, DECODER, ENCODER, FLOOR, PLAN as CHECK, PRUNED};
 use independent::questions::{PRUNED_SIZE, READER, SIZE, WRITER};
 use independent::sample::Generator;
 use std::time::Instant;
 
-/// The calls, by their places in `ASKED`.
-const NAMES: [&str; 10] = [
+/// The calls, by their places in `ASKED`; c is for ceiling.
+const NAMES: [&str; 15] = [
     "writer",
     "clause",
     "check",
@@ -40,11 +45,17 @@ const NAMES: [&str; 10] = [
     "pruned",
     "size",
     "pruned size",
+    "c size",
+    "c writer",
+    "c decoder",
+    "c encoder",
+    "c reader",
 ];
 
-/// The parts whose answers must tell programs that are wrong about free agents, and about the rule.
+/// The parts whose answers must tell programs that are wrong about free agents, about the rule, and about the ceiling.
 const FREE: &str = "free";
 const RULES: &str = "rules";
+const CEILING: &str = "ceiling";
 
 fn main() {
     let argument = |place: usize| -> Option<u64> {
@@ -101,6 +112,19 @@ fn main() {
             turned.damaged,
             clock.elapsed()
         );
+        let ceiled = run.ceilings(&mut Generator::new(mix(seed, u64::MAX - 5)));
+        println!(
+            "ceilings: {} formulas, {} plans within, {} dearer, {} decoded, largest formula {} words, {} clauses, {} \
+             variables ({:.1?})",
+            ceiled.formulas,
+            ceiled.within,
+            ceiled.dearer,
+            ceiled.decoded,
+            ceiled.largest[0],
+            ceiled.largest[1],
+            ceiled.largest[2],
+            clock.elapsed()
+        );
         run.small();
         println!("small instances: {} ({:.1?})", run.case, clock.elapsed());
         for rule in [1, 2] {
@@ -115,6 +139,6 @@ fn main() {
         println!("FAILED: a number or a family was never hit, or a wrong program never told");
         std::process::exit(1);
     }
-    let calls: u64 = run.hits.iter().flatten().flatten().sum();
+    let calls: u64 = run.hits.0.iter().flatten().flatten().sum();
     println!("no difference in {calls} calls");
 }

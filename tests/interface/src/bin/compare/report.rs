@@ -1,8 +1,10 @@
 //! What came, as tables.
 
+use crate::ceiling::WRONG_CEILINGS;
+use crate::ceiling_calls::SORTS;
 use crate::run::{gives, Run};
 use crate::{FLOOR, NAMES};
-use independent::questions::NUMBERS;
+use independent::questions::{has_ceiling, NUMBERS};
 use independent::sample::WRONG_RULES;
 use std::collections::BTreeMap;
 
@@ -12,19 +14,20 @@ impl Run {
     pub fn report(&self) -> bool {
         let [first, second] = [1, 2].map(|rule| self.report_rule(rule));
         let refused = self.report_refused();
+        let ceilings = self.report_ceilings();
         let families = self.report_families();
         let told = self.report_told();
         println!(
             "\nround trips: {}; refusals 24 looked up in the words: {}",
             self.round_trips, self.looked_up
         );
-        first && second && refused && families && told && self.looked_up > 0
+        first && second && refused && ceilings && families && told && self.looked_up > 0
     }
 
     /// The numbers that each call gave under this rule.
     fn report_rule(&self, rule: u64) -> bool {
         let mut complete = true;
-        let hits = &self.hits[rule as usize - 1];
+        let hits = &self.hits.0[rule as usize - 1];
         print!("{:>8}", format!("rule {rule}"));
         NAMES.iter().for_each(|name| print!("{name:>12}"));
         println!();
@@ -81,6 +84,39 @@ impl Run {
         complete
     }
 
+    /// Refusals 32, of the ceilings that every call must refuse and of others, and what 24 named with a ceiling.
+    fn report_ceilings(&self) -> bool {
+        let mut complete = true;
+        print!("\n{:>22}", "32 for the ceiling");
+        let calls = (0..NAMES.len()).filter(|&call| has_ceiling(call));
+        calls.clone().for_each(|call| print!("{:>12}", NAMES[call]));
+        println!();
+        for ceiling in WRONG_CEILINGS {
+            print!("{ceiling:>22}");
+            for call in calls.clone() {
+                let times = self.refused_ceilings.get(&(ceiling, call));
+                complete &= times.is_some();
+                let times = times.map_or("NEVER".to_string(), u64::to_string);
+                print!("{times:>12}");
+            }
+            println!();
+        }
+        let others = self.refused_ceilings.iter();
+        let others = others.filter(|((ceiling, _), _)| !WRONG_CEILINGS.contains(ceiling));
+        let times: u64 = others.map(|(_, times)| times).sum();
+        println!("others: {times}");
+        println!(
+            "\n{:>22} {:>15} {:>15}",
+            "24 with a ceiling", "rule 1", "rule 2"
+        );
+        for (sort, name) in SORTS.iter().enumerate() {
+            let [one, two] = [0, 1].map(|rule| self.falsified_ceiling[rule][sort]);
+            println!("{name:>22} {one:>15} {two:>15}");
+            complete &= one > 0 && two > 0;
+        }
+        complete
+    }
+
     fn report_families(&self) -> bool {
         let mut complete = true;
         println!(
@@ -124,7 +160,9 @@ impl Run {
         println!("\n{:>8}  tell a program wrong about free agents", "answers");
         complete &= report_calls(self.told_free.times());
         println!("\n{:>8}  tell a program wrong about the rule", "answers");
-        complete & report_calls(self.told_rules.times())
+        complete &= report_calls(self.told_rules.times());
+        println!("\n{:>8}  tell a program wrong about the ceiling", "answers");
+        complete & report_calls(self.told_ceiling.times())
     }
 }
 

@@ -1,20 +1,30 @@
 //! Makes each call of both programs, and keeps what came.
 
+use crate::ceiling_calls::SORTS;
 use crate::said::{Asked, Input, Pattern, Said, AFTER};
-use crate::{CLAUSE, DECODER, ENCODER, FREE, NAMES, PRUNED, PRUNED_SIZE, READER, RULES, WRITER};
+use crate::{CEILING, CLAUSE, DECODER, ENCODER, FREE, NAMES, PRUNED, PRUNED_SIZE, READER, RULES};
+use crate::{CEILING_DECODER, CEILING_ENCODER, CEILING_READER, CEILING_WRITER, WRITER};
 use independent::calls;
 use independent::costs;
 use independent::floors;
 use independent::free;
 use independent::questions::{asked_under, Handed, FLOOR, NUMBERS};
 use independent::sizes;
+use independent::wrong_ceiling;
 use independent::wrong_reversing;
 use independent::wrong_rules;
 use std::collections::BTreeMap;
 use std::hint::black_box;
 
-/// Calls that gave each number.
-type Hits = [[u64; NUMBERS]; NAMES.len()];
+/// Calls that gave each number: under rule 1, under rule 2, and under any other; the floor's, which gets none, are with
+/// the first.
+pub struct Hits(pub [[[u64; NUMBERS]; NAMES.len()]; 3]);
+
+impl Default for Hits {
+    fn default() -> Hits {
+        Hits([[[0; NUMBERS]; NAMES.len()]; 3])
+    }
+}
 
 /// Can the call give this number under this rule? 0 is accepted.
 pub fn gives(call: usize, rule: u64, number: usize) -> bool {
@@ -31,13 +41,16 @@ pub struct Run {
     pub case: u64,
     /// Items kept before each lent slice in this case.
     pub before: usize,
-    /// Under rule 1, under rule 2, and under any other; the floor's, which gets none, are with the first.
-    pub hits: [Hits; 3],
+    pub hits: Hits,
     /// Refusals 31 by the rule, which is neither, and the call.
     pub refused_rules: BTreeMap<(u64, usize), u64>,
+    /// Refusals 32 by the ceiling and the call.
+    pub refused_ceilings: BTreeMap<(u64, usize), u64>,
     /// Under each rule, by family: clauses given, and clauses that refusal 24 named.
     pub given: [[u64; 7]; 2],
     pub falsified: [[u64; 7]; 2],
+    /// The same of refusal 24 with a ceiling: the base, and each sort of added clauses.
+    pub falsified_ceiling: [[u64; SORTS.len()]; 2],
     /// What the accepted plans tell from their costs.
     pub told: costs::Told,
     /// What floors and families H tell from wrong ones.
@@ -50,6 +63,8 @@ pub struct Run {
     pub told_rules: wrong_rules::Told,
     /// What the plan check tells from programs that hold, reverse or exchange wrongly.
     pub told_reversing: wrong_reversing::Told,
+    /// What answers tell from those of programs that are wrong about the ceiling.
+    pub told_ceiling: wrong_ceiling::Told,
     /// Accepted plans and valuations that came back as they were.
     pub round_trips: u64,
     /// Refusals 24 that were looked up in the written words.
@@ -76,8 +91,8 @@ impl Run {
         }
         println!("instance {:?}", asked.instance);
         println!(
-            "horizon {}, rule {}, clause {:?}",
-            asked.horizon, asked.rule, asked.clause
+            "horizon {}, rule {}, ceiling {:?}, clause {:?}",
+            asked.horizon, asked.rule, asked.ceiling, asked.clause
         );
         println!("plan {:?}", asked.plan);
         println!("entries {:?}", asked.entries);
@@ -128,8 +143,9 @@ impl Run {
         }
         let filled = match asked.call {
             _ if answer.number != 0 => 0,
-            WRITER | PRUNED => asked.words,
+            WRITER | PRUNED | CEILING_WRITER => asked.words,
             CLAUSE | DECODER | ENCODER | READER => answer.second as usize,
+            CEILING_DECODER | CEILING_ENCODER | CEILING_READER => answer.second as usize,
             _ => 0,
         };
         if filled > length {
@@ -149,7 +165,7 @@ impl Run {
         self.count(asked, answer);
         left.truncate(lent.end);
         let left = left.split_off(lent.start);
-        if matches!(self.part, FREE | RULES) {
+        if matches!(self.part, FREE | RULES | CEILING) {
             self.tell(asked, answer, &left);
         }
         (answer, left)
@@ -168,16 +184,21 @@ impl Run {
             2 => 1,
             _ => 2,
         };
-        self.hits[rule][asked.call][number] += 1;
+        self.hits.0[rule][asked.call][number] += 1;
         if number == 31 {
             let times = self.refused_rules.entry((asked.rule, asked.call));
             *times.or_default() += 1;
         }
+        if let (32, Some(ceiling)) = (number, asked.ceiling) {
+            let times = self.refused_ceilings.entry((ceiling, asked.call));
+            *times.or_default() += 1;
+        }
     }
 
-    /// What an answer and the slice left tell from programs that are wrong about free agents, or about the rule.
+    /// What an answer and the slice left tell from programs that are wrong about free agents, about the rule, or about the
+    /// ceiling.
     fn tell<T: Pattern>(&mut self, asked: &Asked, answer: Said, left: &[T]) {
-        let handed = |rule: u64| Handed {
+        let handed = |rule: u64, ceiling: Option<u64>| Handed {
             instance: asked.instance,
             horizon: asked.horizon,
             rule,
@@ -187,11 +208,12 @@ impl Run {
             text: asked.text.unwrap_or(&[]),
             lent: left.len(),
             pruned: matches!(asked.call, PRUNED | PRUNED_SIZE),
+            ceiling,
         };
         let before: Vec<T> = (self.before..).map(T::pattern).take(left.len()).collect();
-        let again = |instance: &[u8], rule: u64| {
+        let again = |instance: &[u8], rule: u64, ceiling: Option<u64>| {
             let (words, plan) = T::lent(&before);
-            calls::say(asked.call, instance, &handed(rule), words, plan)
+            calls::say(asked.call, instance, &handed(rule, ceiling), words, plan)
         };
         let (words, plan) = T::lent(left);
         let said = calls::Said {
@@ -199,13 +221,21 @@ impl Run {
             words,
             plan,
         };
-        let (call, rule) = (asked.call, asked.rule);
-        if self.part == FREE {
-            let again = |instance: &[u8]| again(instance, rule);
-            self.told_free.add(call, &handed(rule), &said, again);
-        } else {
-            let again = |rule: u64| again(asked.instance, rule);
-            self.told_rules.add(call, &handed(rule), &said, again);
+        let (call, rule, ceiling) = (asked.call, asked.rule, asked.ceiling);
+        let handed = handed(rule, ceiling);
+        match self.part {
+            FREE => {
+                let again = |instance: &[u8]| again(instance, rule, ceiling);
+                self.told_free.add(call, &handed, &said, again);
+            }
+            RULES => {
+                let again = |rule: u64| again(asked.instance, rule, ceiling);
+                self.told_rules.add(call, &handed, &said, again);
+            }
+            _ => {
+                let again = |rule: u64, c: u64| again(asked.instance, rule, Some(c));
+                self.told_ceiling.add(call, &handed, &said, again);
+            }
         }
     }
 }

@@ -119,6 +119,7 @@ pub struct Asked<'a> {
     pub horizon: u64,
     pub rule: u64,
     pub clause: Option<u64>,
+    pub ceiling: Option<u64>,
     pub plan: Option<&'a [u8]>,
     pub entries: Option<&'a [i32]>,
     pub text: Option<&'a [u8]>,

@@ -130,7 +130,7 @@ impl Run {
 }
 
 /// All rows of `k` vertices below `n`, k 1 or 2.
-fn rows(n: usize, k: usize) -> Vec<Vec<u8>> {
+pub fn rows(n: usize, k: usize) -> Vec<Vec<u8>> {
     let n = n as u8;
     if k == 1 {
         (0..n).map(|v| vec![v]).collect()
@@ -142,7 +142,7 @@ fn rows(n: usize, k: usize) -> Vec<Vec<u8>> {
 }
 
 /// All goals of `k` agents, 1 or 2: vertices below `n` that differ, and none.
-fn goal_rows(n: usize, k: usize) -> Vec<Vec<u8>> {
+pub fn goal_rows(n: usize, k: usize) -> Vec<Vec<u8>> {
     let goal = |v: u8| if usize::from(v) < n { v } else { NO_GOAL };
     let all = rows(n + 1, k).into_iter();
     let goals = all.map(|row| row.into_iter().map(goal).collect());
@@ -150,6 +150,6 @@ fn goal_rows(n: usize, k: usize) -> Vec<Vec<u8>> {
 }
 
 /// Are these vertices, of 1 or 2 agents, all different? Those without one are.
-fn differ(row: &[u8]) -> bool {
+pub fn differ(row: &[u8]) -> bool {
     row.len() == 1 || is_free(row[0]) || row[0] != row[1]
 }

@@ -1,0 +1,89 @@
+-- `added_writer::write_added` meets its contract: each call writes its part behind those before it. Assumes nothing.
+use mathlib.Core.Path.{sym}
+use mathlib.Core.List.{List}
+use Prim.Native.Nat.{ℕ, _+_, _-_}
+use native.Mathlib.Omega.{arith}
+use borrow.Author.Needs.{needs}
+use borrow.Rule.Slice.PartMut.{putMid}
+use lib.IntN.{ℤ}
+use lib.ListN.{length, length-take, length-drop}
+use Rattle.lists.proofs.Slices.{filled-nil, filling-room, filling-on, filling-next}
+use Rattle.tree_writer.proofs.Laws.{Parts, none-written, all-written}
+use Rattle.added_writer.proofs.Laws.{addedParts, added-whole, added-none}
+use Rattle.added_writer.proofs.write_added.Statement.{statement}
+use Rattle.added_writer.proofs.write_added.Tie as tie
+
+-- before part i is written the slice has the parts below it, and they end at `at`
+abbrev Before : tie.Start → ℕ → ℕ → List ℤ → Type 0
+Before s i at f = Parts (addedParts (s .args .s) (s .args .c)) (s .args .f .now) i at f
+
+before0 : (s : tie.Start) → Before s 0 0 (s .args .f .now)
+before0 s = none-written (addedParts (s .args .s) (s .args .c)) (added-whole (s .args .s) (s .args .c)) (s .pre .1 .1)
+
+before1 : (c : tie.After-write-movers) → Before (c .before .before .before .before) 1 (c .write-movers .result) (c .write-movers .last .0)
+before1 c = filling-on (before0 (c .before .before .before .before)) (omega arith) (c .write-movers .ensures)
+
+before2 : (c : tie.After-write-waiters) → Before (c .before .before .before .before .before .before .before) 2 (c .before .before .before .write-movers .result + c .write-waiters .result) (putMid (c .before .before .before .write-movers .result) (length (c .before .before .before .write-movers .last .0) - c .before .before .before .write-movers .result) (c .before .before .before .write-movers .last .0) (c .write-waiters .last .0))
+before2 c = filling-next (before1 (c .before .before .before)) (omega arith) (c .write-waiters .ensures)
+
+returns : tie.Need-returns
+returns c = rw (added-none (c .before .before .args .s) (c .before .before .args .c) (c .if1 .taken)) (sym (filled-nil _))
+
+write-movers-requires : tie.Need-write-movers-requires
+write-movers-requires c κs = let r = filling-room (before0 (c .before .before .before)) (omega arith) in (c .before .before .before .pre .0, omega arith)
+
+mul-write-waiters : tie.Need-mul-write-waiters
+mul-write-waiters c = let w = before1 (c .before) in search needs
+
+sub-write-waiters : tie.Need-sub-write-waiters
+sub-write-waiters c = let w = before1 (c .before) in search needs
+
+part-write-waiters-start : tie.Need-part-write-waiters-start
+part-write-waiters-start c = let w = before1 (c .before) in search needs
+
+write-waiters-requires : tie.Need-write-waiters-requires
+write-waiters-requires c κs =
+    let r = filling-room (before1 (c .before .before)) (omega arith) in
+    simp (length-take, length-drop) (c .before .before .before .before .before .before .pre .0, (omega (arith, c .before .before .before .before .if1 .left), omega arith))
+
+add-waited : tie.Need-add-waited
+add-waited c = let w = before2 (c .before) in search needs
+
+mul-write-counters : tie.Need-mul-write-counters
+mul-write-counters c = let w = before2 (c .before) in search needs
+
+sub-write-counters : tie.Need-sub-write-counters
+sub-write-counters c = let w = before2 (c .before) in search needs
+
+part-write-counters-start : tie.Need-part-write-counters-start
+part-write-counters-start c = let w = before2 (c .before) in search needs
+
+write-counters-requires : tie.Need-write-counters-requires
+write-counters-requires c κs =
+    let r = filling-room (before2 (c .before .before)) (omega arith) in
+    simp (length-take, length-drop) (c .before .before .before .before .before .before .before .before .before .pre .0, ((c .before .before .before .before .before .before .before .before .before .pre .1 .0, omega (arith, c .before .before .before .before .before .before .before .if1 .left)), omega arith))
+
+returns-2 : tie.Need-returns-2
+returns-2 c =
+    all-written (addedParts (c .before .before .before .before .before .before .before .before .before .before .before .args .s) (c .before .before .before .before .before .before .before .before .before .before .before .args .c)) (added-whole (c .before .before .before .before .before .before .before .before .before .before .before .args .s) (c .before .before .before .before .before .before .before .before .before .before .before .args .c))
+    (filling-next (before2 (c .before .before .before .before)) (omega arith) (c .before .write-counters .ensures)) .1
+
+pub write-added-spec : {M : Type 1} → statement M
+write-added-spec =
+    tie.close
+    (tie.spec
+    returns
+    write-movers-requires
+    mul-write-waiters
+    sub-write-waiters
+    part-write-waiters-start
+    (λ c. search needs)
+    write-waiters-requires
+    add-waited
+    mul-write-counters
+    sub-write-counters
+    part-write-counters-start
+    (λ c. search needs)
+    write-counters-requires
+    (λ c. search needs)
+    returns-2)
