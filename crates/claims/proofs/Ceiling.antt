@@ -52,6 +52,7 @@ use Rattle.calls.proofs.Valuation.{true-iff, satisfies-mem, numbered-valuation,
 use Rattle.calls.proofs.Ceiling.{numbered-ceiling, clear-ceiling, ceiling-iff, check-refuses, check-high}
 use Rattle.claims.specs.Correspondence.{Accepts}
 use Rattle.claims.specs.Ceiling.{Counts, Ceiling, Refused, Claim, bytes, handedBack, written, Within}
+use Rattle.claims.proofs.CeilingWorked.{worked}
 use Rattle.claims.proofs.Correspondence.{fits, inside-at, names}
 use Rattle.claims.proofs.Refusals.{numbered-ceiling-decode, numbered-ceiling-encode, numbered-ceiling-read}
 
@@ -283,4 +284,5 @@ ceiling-claim =
       high = refused;
       nothing = nothing-added;
       largest = largest-ceiling;
+      worked = worked;
     }

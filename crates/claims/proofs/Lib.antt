@@ -14,3 +14,4 @@ pub mod Free
 pub mod Rule
 pub mod Reversing
 pub mod Ceiling
+pub mod CeilingWorked

@@ -3,24 +3,25 @@
 -- they say of the others.
 use mathlib.Core.Path.{_≡_}
 use mathlib.Core.Logic.{_↔_, _≢_}
-use mathlib.Core.List.{List}
+use mathlib.Core.List.{List, [], _∷_}
 use mathlib.Core.Bool.{Bool}
 use Prim.Native.Nat.{ℕ, _+_, _*_, _≤_, _<_}
 use lib.ListN.{length, take}
 use lib.IntN.{ℤ}
-use Rattle.answers.specs.Answers.{refuse}
+use Rattle.answers.specs.Answers.{accept, refuse}
 use Rattle.instance.specs.Instance.{Instance, instance}
 use Rattle.instance.specs.Questions.{instanceAnswer}
 use Rattle.formula.specs.Formula.{Formula, formula, words}
 use Rattle.formula.specs.Counts.{largestSizes}
 use Rattle.plan.specs.Plan.{planBytes, planRow, restTime, cost}
 use Rattle.valuation.specs.Satisfying.{True, Valuation, Satisfies, Names}
-use Rattle.ceiling.specs.Tree.{Tree, input, node, inputs, outputs, variables, before, on, count}
-use Rattle.ceiling.specs.Ceiling.{busyNumber, root, ceilingVariables, ceilingCount, ceilingWords, underCeiling}
-use Rattle.ceiling.specs.Encoded.{busyAt}
+use Rattle.ceiling.specs.Tree.{Tree, input, node, inputs, outputs, variables, before, on, off, count}
+use Rattle.ceiling.specs.Ceiling.{busyNumber, root, addedClauses, ceilingVariables, ceilingCount, ceilingWords, underCeiling}
+use Rattle.ceiling.specs.Encoded.{busyAt, ceilingValuation}
 use Rattle.calls.specs.Calls.{checkAnswer}
 use Rattle.calls.specs.Ceiling.{ceilingAnswer, ceilingSizeAnswer, ceilingWriteAnswer, ceilingDecodeAnswer, ceilingDecodeSlice, ceilingEncodeAnswer, ceilingEncodeSlice, ceilingReadAnswer}
 use Rattle.claims.specs.Correspondence.{Accepts}
+use Rattle.claims.specs.Examples.{pair, pathTwo}
 
 -- Under the entries, where b says which inputs are true: output i of each node is true exactly where at least i of its inputs are. The
 -- tree's inputs stand after x, its own variables after y.
@@ -106,6 +107,36 @@ pub record Refused (b : List ℕ) (m rule c : ℕ) : Type 0 where
   pub encoder : (p : List ℕ) (room : ℕ) → ceilingEncodeAnswer b m rule c p room ≡ refuse 32 0
   pub reader : (text : List ℕ) (room : ℕ) → ceilingReadAnswer b m rule c text room ≡ refuse 32 0
 
+-- Worked out by hand: what is added for the pair at horizon 1 with ceiling 0, where its one B is its own output; for the pair at horizon 3
+-- with ceiling 1, where the left half of the three B is one; for two agents on the path at horizon 2 with ceiling 1. And the path's plan,
+-- which costs 3, with the ceilings 3 and 2.
+abbrev pub onPath : List ℕ
+onPath = 0 ∷ 1 ∷ 0 ∷ 2 ∷ 1 ∷ 2 ∷ []
+
+pub record Worked : Type 0 where
+  pub single : addedClauses (instance pair 1 1 .sizes) 0 ≡ (off 1 ∷ on 3 ∷ on 5 ∷ []) ∷ (off 2 ∷ on 4 ∷ on 5 ∷ []) ∷ (off 5 ∷ []) ∷ []
+  pub halves : addedClauses (instance pair 3 1 .sizes) 1
+      ≡ (off 1 ∷ on 3 ∷ on 9 ∷ []) ∷ (off 2 ∷ on 4 ∷ on 9 ∷ []) ∷ (off 3 ∷ on 5 ∷ on 10 ∷ []) ∷ (off 4 ∷ on 6 ∷ on 10 ∷ []) ∷
+      (off 5 ∷ on 7 ∷ on 11 ∷ []) ∷ (off 6 ∷ on 8 ∷ on 11 ∷ []) ∷ (off 10 ∷ on 9 ∷ []) ∷ (off 11 ∷ on 10 ∷ []) ∷
+      (off 11 ∷ on 12 ∷ []) ∷ (off 10 ∷ on 12 ∷ []) ∷ (off 10 ∷ off 11 ∷ on 13 ∷ []) ∷ (off 12 ∷ on 14 ∷ []) ∷ (off 13 ∷ on 15 ∷ []) ∷
+      (off 9 ∷ on 14 ∷ []) ∷ (off 9 ∷ off 12 ∷ on 15 ∷ []) ∷ (off 9 ∷ off 13 ∷ on 15 ∷ []) ∷ (off 15 ∷ []) ∷ []
+  pub agents : addedClauses (instance (pathTwo 0 1 1 2) 2 1 .sizes) 1
+      ≡ (off 1 ∷ on 4 ∷ on 19 ∷ []) ∷ (off 2 ∷ on 5 ∷ on 19 ∷ []) ∷ (off 3 ∷ on 6 ∷ on 19 ∷ []) ∷ (off 10 ∷ on 13 ∷ on 20 ∷ []) ∷
+      (off 11 ∷ on 14 ∷ on 20 ∷ []) ∷ (off 12 ∷ on 15 ∷ on 20 ∷ []) ∷ (off 4 ∷ on 7 ∷ on 21 ∷ []) ∷ (off 5 ∷ on 8 ∷ on 21 ∷ []) ∷
+      (off 6 ∷ on 9 ∷ on 21 ∷ []) ∷ (off 13 ∷ on 16 ∷ on 22 ∷ []) ∷ (off 14 ∷ on 17 ∷ on 22 ∷ []) ∷ (off 15 ∷ on 18 ∷ on 22 ∷ []) ∷
+      (off 21 ∷ on 19 ∷ []) ∷ (off 22 ∷ on 20 ∷ []) ∷ (off 20 ∷ on 23 ∷ []) ∷ (off 19 ∷ on 23 ∷ []) ∷ (off 19 ∷ off 20 ∷ on 24 ∷ []) ∷
+      (off 22 ∷ on 25 ∷ []) ∷ (off 21 ∷ on 25 ∷ []) ∷ (off 21 ∷ off 22 ∷ on 26 ∷ []) ∷ (off 25 ∷ on 27 ∷ []) ∷ (off 26 ∷ on 28 ∷ []) ∷
+      (off 23 ∷ on 27 ∷ []) ∷ (off 23 ∷ off 25 ∷ on 28 ∷ []) ∷ (off 23 ∷ off 26 ∷ on 28 ∷ []) ∷ (off 24 ∷ on 28 ∷ []) ∷
+      (off 24 ∷ off 25 ∷ on 28 ∷ []) ∷ (off 24 ∷ off 26 ∷ on 28 ∷ []) ∷ (off 28 ∷ []) ∷ []
+  pub sizes : (ceilingSizeAnswer pair 3 1 1 ≡ record { number = 0; second = 111; clauses = 33 })
+      × (ceilingSizeAnswer (pathTwo 0 1 1 2) 2 1 1 ≡ record { number = 0; second = 305; clauses = 90 })
+      × (ceilingSizeAnswer (pathTwo 0 1 1 2) 2 2 1 ≡ record { number = 0; second = 309; clauses = 86 })
+  pub encodes : (ceilingEncodeAnswer (pathTwo 0 1 1 2) 2 1 3 onPath 30 ≡ accept 30)
+      × (ceilingValuation (instance (pathTwo 0 1 1 2) 2 1 .sizes) onPath 3
+      ≡ on 1 ∷ off 2 ∷ off 3 ∷ on 4 ∷ off 5 ∷ off 6 ∷ off 7 ∷ on 8 ∷ off 9 ∷ off 10 ∷ on 11 ∷ off 12 ∷ off 13 ∷ off 14 ∷ on 15 ∷ off 16 ∷ off 17 ∷ on 18 ∷ on 19 ∷ on 20 ∷ on 21 ∷ off 22 ∷ on 23 ∷ on 24 ∷ on 25 ∷ off 26 ∷ on 27 ∷ on 28 ∷ on 29 ∷ off 30 ∷ [])
+  pub dear : ceilingEncodeAnswer (pathTwo 0 1 1 2) 2 1 2 onPath 29 ≡ refuse 33 3
+  pub short : ceilingEncodeAnswer (pathTwo 0 1 1 2) 2 1 2 onPath 28 ≡ refuse 16 29
+
 pub record Claim : Type 0 where
   -- for every accepted instance, horizon and rule, and every ceiling from 0 to 128
   pub ceiling : (b : List ℕ) (m rule c : ℕ) → Accepts (instanceAnswer b m rule) → c ≤ 128 → Ceiling b m rule c
@@ -117,3 +148,4 @@ pub record Claim : Type 0 where
   pub nothing : (b : List ℕ) (rule c : ℕ) → underCeiling c (instance b 0 rule) ≡ formula (instance b 0 rule)
   -- the largest, under rule 2
   pub largest : (ceilingVariables (largestSizes 2) 128 ≡ 38_275) × (ceilingCount (largestSizes 2) 128 ≡ 16_953_636) × (ceilingWords (largestSizes 2) 128 ≡ 84_038_444)
+  pub worked : Worked
