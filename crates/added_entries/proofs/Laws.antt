@@ -17,7 +17,6 @@ use Rattle.lists.specs.Slice.{filled, Wrote}
 use Rattle.lists.proofs.Tests.{T-ext, ltb-iff}
 use Rattle.lists.proofs.Loops.{for-ext}
 use Rattle.lists.proofs.Blocks.{for1-length, for1-getD}
-use Rattle.lists.proofs.Sums.{sum-ext}
 use Rattle.lists.proofs.Slices.{Filling, filling-from, filling-next, filling-on, filling-set, filling-done}
 use Rattle.instance.specs.declared.Sizes.{Sizes}
 use Rattle.instance.specs.Limits.{Limits}
@@ -28,7 +27,7 @@ use Rattle.plan.proofs.Rest.{busy-iff}
 use Rattle.ceiling.specs.Tree.{Tree, input, node, treeOver, inputs, outputs, variables, before, treeEntries, count, entryOf}
 use Rattle.ceiling.specs.Ceiling.{addedVariables}
 use Rattle.ceiling.specs.Encoded.{busyAt, busyEntries, counterEntries}
-use Rattle.ceiling.proofs.Tree.{tree-one, tree-two, tree-inputs, count-split, count-le}
+use Rattle.ceiling.proofs.Tree.{tree-one, tree-two, tree-inputs, count-split, count-le, count-same}
 use Rattle.ceiling.proofs.Entries.{tree-entries-length}
 use Rattle.ceiling.proofs.Ceiling.{busy-flat}
 use Rattle.counting.specs.Over.{variablesOver}
@@ -105,9 +104,6 @@ module _ (rest : List ℕ) (k : ℕ) where
 
 -- ---- the entries depend on the truth of the inputs alone, wherever these stand
 module _ (b d : ℕ → Bool) (c : ℕ) where
-  count-same : (n x w : ℕ) → ((j : ℕ) → j < n → b (x + suc j) ≡ d (w + suc j)) → count b x n ≡ count d w n
-  count-same n x w h = sum-ext n _ _ (λ j l. ap (λ (t : Bool). cond t 1 0) (h j l))
-
   entries-same : (t : Tree) (x w y : ℕ) → ((j : ℕ) → j < inputs t → b (x + suc j) ≡ d (w + suc j)) → treeEntries b c t x y ≡ treeEntries d c t w y
   unfolding treeEntries inputs before
   entries-same input x w y h = refl
@@ -120,7 +116,7 @@ module _ (b d : ℕ → Bool) (c : ℕ) where
       let e : x + inputs l + suc j ≡ x + suc (inputs l + j) = omega arith in
       let f : w + inputs l + suc j ≡ w + suc (inputs l + j) = omega arith in
       rw (e, f) (h (inputs l + j) (omega arith)))))
-      (ap (λ (n : ℕ). for (outputs c (node l r)) λ j. entryOf (leb (suc j) n) (before c (node l r) x y + suc j) ∷ []) (count-same (inputs l + inputs r) x w h))
+      (ap (λ (n : ℕ). for (outputs c (node l r)) λ j. entryOf (leb (suc j) n) (before c (node l r) x y + suc j) ∷ []) (count-same b d (inputs l + inputs r) x w h))
 
 -- ---- a plan's entries by the array
 module _ (s : Sizes) (p rest : List ℕ) (w : rest ≡ filled (restTimes s p) (replicate 16 0)) (some : 1 ≤ s .k) where

@@ -1,5 +1,5 @@
 // Question 24 with a ceiling: the first clause without a true literal among those that the ceiling adds, in their order. The plan is
-// known, so of an agent and a step only one mover can fail: that of the vertex that the agent leaves.
+// known, so of an agent and a step only one moving can fail: that of the vertex that the agent leaves.
 mod tree;
 
 use instance::Sizes;
@@ -22,7 +22,7 @@ ghost use Rattle.valuation.specs.Satisfying.{Valuation};
 ghost use Rattle.valuation.specs.Places.{Places};
 ghost use Rattle.satisfaction.specs.Rows.{Fault};
 ghost use Rattle.ceiling.specs.Tree.{on, off};
-ghost use Rattle.ceiling.specs.Ceiling.{movers, waiters, counters, limit, addedClauses, addedCount, ceilingVariables};
+ghost use Rattle.ceiling.specs.Ceiling.{moves, chain, counters, limit, addedClauses, addedCount, ceilingVariables};
 ghost use Rattle.counting.specs.Over.{variablesOver, beforeOutputs};
 ghost use Rattle.added_satisfaction.specs.Search.{Assigned};
 
@@ -39,13 +39,13 @@ fn keeps_or(entries: &[i32], p: &[u8], k: usize, i: usize, z: usize) -> bool
     is_true(entries, z)
 }
 
-// The movers: the first agent and step with the vertex left and B false, and of its movers that of the vertex.
-fn movers_fault(s: Sizes, entries: &[i32], p: &[u8]) -> Part
+// The moves: the first agent and step with the vertex left and B false, and of its moves that of the vertex.
+fn moves_fault(s: Sizes, entries: &[i32], p: &[u8]) -> Part
     requires { ⌜ Limits s ⌝ }
     requires { ⌜ Assigned (now entries) × (variableCount s + s .m * s .k ≤ length (now entries)) ⌝ }
     requires { ⌜ (length (now p) ≡ planBytes s) × Places s (true? (now entries)) (planRow s (now p)) ⌝ }
-    ensures { λ r. ⌜ (length (movers s) ≡ r .size) × (r .size ≤ 32768) ⌝ }
-    ensures { λ r. ⌜ Fault (now (entries .entry)) (movers s) (r .fault) ⌝ }
+    ensures { λ r. ⌜ (length (moves s) ≡ r .size) × (r .size ≤ 32768) ⌝ }
+    ensures { λ r. ⌜ Fault (now (entries .entry)) (moves s) (r .fault) ⌝ }
 {
     let n = s.n;
     let k = s.k;
@@ -63,12 +63,12 @@ fn movers_fault(s: Sizes, entries: &[i32], p: &[u8]) -> Part
     Part { size, fault: size }
 }
 
-// The waiters: the first B that is false where the agent's next is true.
-fn waiters_fault(s: Sizes, entries: &[i32]) -> Part
+// The chain: the first B that is false where the agent's next is true.
+fn chain_fault(s: Sizes, entries: &[i32]) -> Part
     requires { ⌜ Limits s × (1 ≤ s .m) ⌝ }
     requires { ⌜ Assigned (now entries) × (variableCount s + s .m * s .k ≤ length (now entries)) ⌝ }
-    ensures { λ r. ⌜ (length (waiters s) ≡ r .size) × (r .size ≤ 512) ⌝ }
-    ensures { λ r. ⌜ Fault (now (entries .entry)) (waiters s) (r .fault) ⌝ }
+    ensures { λ r. ⌜ (length (chain s) ≡ r .size) × (r .size ≤ 512) ⌝ }
+    ensures { λ r. ⌜ Fault (now (entries .entry)) (chain s) (r .fault) ⌝ }
 {
     let k = s.k;
     let size = (s.m - 1) * k;
@@ -122,13 +122,13 @@ pub fn added_fault(s: Sizes, c: usize, entries: &[i32], p: &[u8]) -> usize
     if s.m == 0 {
         return 0;
     }
-    let movers = movers_fault(s, entries, p);
-    if movers.fault < movers.size {
-        return movers.fault;
+    let moves = moves_fault(s, entries, p);
+    if moves.fault < moves.size {
+        return moves.fault;
     }
-    let waiters = waiters_fault(s, entries);
-    if waiters.fault < waiters.size {
-        return movers.size + waiters.fault;
+    let chain = chain_fault(s, entries);
+    if chain.fault < chain.size {
+        return moves.size + chain.fault;
     }
-    movers.size + waiters.size + counted_fault(s, c, entries)
+    moves.size + chain.size + counted_fault(s, c, entries)
 }

@@ -13,22 +13,22 @@ use Rattle.instance.specs.declared.Sizes.{Sizes}
 use Rattle.formula.specs.Variables.{variableCount}
 use Rattle.formula.specs.Formula.{Clause}
 use Rattle.ceiling.specs.Tree.{on, off}
-use Rattle.ceiling.specs.Ceiling.{waiter, movers, waiters, counters, limit, addedClauses}
+use Rattle.ceiling.specs.Ceiling.{link, moves, chain, counters, limit, addedClauses}
 use Rattle.counting.specs.Over.{variablesOver, clausesOver, beforeOutputs}
 use Rattle.counting.proofs.Laws.{outputs-last, one-clauses}
 use Rattle.tree_writer.proofs.Laws.{partAt}
 
--- the waiter of the B that is i after the first: that of the next time stands k behind
+-- the link of the B that is i after the first: that of the next time stands k behind
 abbrev pub waiting : ℕ → ℕ → ℕ → List Clause
 waiting k first i = (off (first + i + k) ∷ on (first + i) ∷ []) ∷ []
 
 module _ (s : Sizes) where
   open Sizes s using (k, m)
 
-  pub waiters-run : {first : ℕ} → first ≡ variableCount s + 1 → waiters s ≡ for ((m - 1) * k) (waiting k first)
-  unfolding waiters
-  waiters-run {first} e =
-      for-flat (m - 1) k (λ t a. waiter s t a ∷ [])
+  pub chain-run : {first : ℕ} → first ≡ variableCount s + 1 → chain s ≡ for ((m - 1) * k) (waiting k first)
+  unfolding chain
+  chain-run {first} e =
+      for-flat (m - 1) k (λ t a. link s t a ∷ [])
       ∙ for-ext ((m - 1) * k) _ (waiting k first) (λ i l.
       let d = div-add-mod' i k in
       let later : variableCount s + suc (suc (i / k) * k + i % k) ≡ first + i + k = omega (arith, suc-mul (i / k) k) in
@@ -55,15 +55,15 @@ module _ (s : Sizes) where
 
     -- ---- all that is added, in the parts that are written one behind another
     abbrev pub addedParts : List (List Clause)
-    addedParts = movers s ∷ waiters s ∷ (counters s c ++ limit s c) ∷ []
+    addedParts = moves s ∷ chain s ∷ (counters s c ++ limit s c) ∷ []
 
     pub added-whole : for 3 (partAt addedParts) ≡ addedClauses s c
     unfolding addedClauses
-    added-whole = sym (append-assoc (movers s ++ waiters s) (counters s c) (limit s c))
+    added-whole = sym (append-assoc (moves s ++ chain s) (counters s c) (limit s c))
 
     -- with the horizon 0 there are none
     pub added-none : m ≡ 0 → addedClauses s c ≡ []
-    unfolding addedClauses movers waiters counters clausesOver
+    unfolding addedClauses moves chain counters clausesOver
     added-none e =
         let z : m * k ≡ 0 = ap (λ (x : ℕ). x * k) e ∙ zero-mul k in
         rw (limit-none (omega arith), one-clauses c (m * k) (variableCount s) (variableCount s + m * k) (omega arith), e)

@@ -1,4 +1,4 @@
-// The words of what a ceiling adds to the formula: movers, waiters, the counting tree and its limit. B(t,a) says that agent a is not
+// The words of what a ceiling adds to the formula: moves, chain, the counting tree and its limit. B(t,a) says that agent a is not
 // yet at rest at time t. And the words of the whole formula with a ceiling.
 use instance::Checked;
 use instance::Sizes;
@@ -17,9 +17,9 @@ ghost use Rattle.instance.specs.Ready.{Ready};
 ghost use Rattle.formula.specs.Variables.{variableCount, highest};
 ghost use Rattle.formula.specs.Formula.{line};
 ghost use Rattle.formula.specs.Blocks.{held, family};
-ghost use Rattle.ceiling.specs.Ceiling.{busyNumber, movers, waiters, counters, limit, addedClauses};
+ghost use Rattle.ceiling.specs.Ceiling.{busyNumber, moves, chain, counters, limit, addedClauses};
 ghost use Rattle.counting.specs.Over.{variablesOver};
-ghost use Rattle.added_writer.specs.Movers.{agentMovers, stepMovers};
+ghost use Rattle.added_writer.specs.Moves.{agentMoves, stepMoves};
 
 // The variable B(t,a).
 fn busy(s: Sizes, t: Step, a: Agent) -> Variable
@@ -30,12 +30,12 @@ fn busy(s: Sizes, t: Step, a: Agent) -> Variable
     Variable(counts::variable_count(s) + t.0 * s.k + a.0 + 1)
 }
 
-// The movers of time t and agent a.
+// The moves of time t and agent a.
 fn write_block(f: &mut [i32], s: Sizes, t: Step, a: Agent) -> usize
     requires { ⌜ Limits s ⌝ }
     requires { ⌜ (t .0 < s .m) × (a .0 < s .k) ⌝ }
-    requires { ⌜ length (each line (agentMovers s (t .0) (a .0))) ≤ length (now f) ⌝ }
-    ensures { λ r. ⌜ Wrote (each line (agentMovers s (t .0) (a .0))) (now (f .entry)) (now (f .exit)) r ⌝ }
+    requires { ⌜ length (each line (agentMoves s (t .0) (a .0))) ≤ length (now f) ⌝ }
+    ensures { λ r. ⌜ Wrote (each line (agentMoves s (t .0) (a .0))) (now (f .entry)) (now (f .exit)) r ⌝ }
 {
     let n = s.n;
     let next = Step(t.0 + 1);
@@ -52,12 +52,12 @@ fn write_block(f: &mut [i32], s: Sizes, t: Step, a: Agent) -> usize
     at
 }
 
-// The movers of time t.
+// The moves of time t.
 fn write_step(f: &mut [i32], s: Sizes, t: Step) -> usize
     requires { ⌜ Limits s ⌝ }
     requires { ⌜ t .0 < s .m ⌝ }
-    requires { ⌜ length (each line (stepMovers s (t .0))) ≤ length (now f) ⌝ }
-    ensures { λ r. ⌜ Wrote (each line (stepMovers s (t .0))) (now (f .entry)) (now (f .exit)) r ⌝ }
+    requires { ⌜ length (each line (stepMoves s (t .0))) ≤ length (now f) ⌝ }
+    ensures { λ r. ⌜ Wrote (each line (stepMoves s (t .0))) (now (f .entry)) (now (f .exit)) r ⌝ }
 {
     let k = s.k;
     let mut at: usize = 0;
@@ -67,11 +67,11 @@ fn write_step(f: &mut [i32], s: Sizes, t: Step) -> usize
     at
 }
 
-// The movers.
-fn write_movers(f: &mut [i32], s: Sizes) -> usize
+// The moves.
+fn write_moves(f: &mut [i32], s: Sizes) -> usize
     requires { ⌜ Limits s ⌝ }
-    requires { ⌜ length (each line (movers s)) ≤ length (now f) ⌝ }
-    ensures { λ r. ⌜ Wrote (each line (movers s)) (now (f .entry)) (now (f .exit)) r ⌝ }
+    requires { ⌜ length (each line (moves s)) ≤ length (now f) ⌝ }
+    ensures { λ r. ⌜ Wrote (each line (moves s)) (now (f .entry)) (now (f .exit)) r ⌝ }
 {
     let m = s.m;
     let mut at: usize = 0;
@@ -81,12 +81,12 @@ fn write_movers(f: &mut [i32], s: Sizes) -> usize
     at
 }
 
-// The waiters, in the order of their numbers: a B of the next time stands k behind.
-fn write_waiters(f: &mut [i32], s: Sizes) -> usize
+// The chain, in the order of its clauses: a B of the next time stands k behind.
+fn write_chain(f: &mut [i32], s: Sizes) -> usize
     requires { ⌜ Limits s ⌝ }
     requires { ⌜ 0 < s .m ⌝ }
-    requires { ⌜ length (each line (waiters s)) ≤ length (now f) ⌝ }
-    ensures { λ r. ⌜ Wrote (each line (waiters s)) (now (f .entry)) (now (f .exit)) r ⌝ }
+    requires { ⌜ length (each line (chain s)) ≤ length (now f) ⌝ }
+    ensures { λ r. ⌜ Wrote (each line (chain s)) (now (f .entry)) (now (f .exit)) r ⌝ }
 {
     let k = s.k;
     let first = counts::variable_count(s) + 1;
@@ -141,9 +141,9 @@ pub fn write_added(f: &mut [i32], s: Sizes, c: usize)
     if s.m == 0 {
         return;
     }
-    let moved = write_movers(f, s);
-    let waited = moved + write_waiters(&mut f[moved..], s);
-    write_counters(&mut f[waited..], s, c);
+    let moved = write_moves(f, s);
+    let chained = moved + write_chain(&mut f[moved..], s);
+    write_counters(&mut f[chained..], s, c);
 }
 
 // The seven families of a checked instance, then what a ceiling adds, to a slice with room for all.

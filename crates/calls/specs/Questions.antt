@@ -1,4 +1,4 @@
--- The questions asked after 1 to 10 and 31: under each number, what is asked and the place that a no names.
+-- The questions asked after 1 to 10 and 31, and of the ceiling just after 31: under each number, what is asked and the place that a no names.
 use mathlib.Core.List.{List, [], _∷_}
 use mathlib.Core.Bool.{cond}
 use Prim.Native.Nat.{ℕ, suc, _+_}
@@ -28,7 +28,7 @@ question12 needed room = ask (leb needed room) (refuse 12 needed)
 abbrev pub question13 : Instance → List ℕ → Question
 question13 I p = ask (eqb (length p) (planBytes (I .sizes))) (refuse 13 (length p))
 
--- Has the valuation exactly N entries, one for each variable of the formula?
+-- Has the valuation exactly one entry for each variable of the formula?
 abbrev pub question14 : Formula → List ℤ → Question
 question14 f entries = ask (eqb (length entries) (f .variables)) (refuse 14 (length entries))
 
@@ -36,7 +36,7 @@ question14 f entries = ask (eqb (length entries) (f .variables)) (refuse 14 (len
 abbrev pub question15 : Instance → ℕ → Question
 question15 I room = ask (leb (planBytes (I .sizes)) room) (refuse 15 (planBytes (I .sizes)))
 
--- Has the slice for a valuation N entries or more?
+-- Has the slice for a valuation an entry or more for each of N variables?
 abbrev pub question16 : ℕ → ℕ → Question
 question16 N room = ask (leb N room) (refuse 16 N)
 

@@ -1,17 +1,17 @@
 -- The formula with a ceiling is satisfied exactly by the plans that pass at a cost of at most c: what the added clauses say of B and of
 -- the outputs, and what the valuation of a plan says.
 use mathlib.Core.Path.{_≡_, refl, sym, _∙_, ap, subst}
-use mathlib.Core.Logic.{_↔_, _≢_, _⊎_, inl, inr, ⊎-elim, by-cases, Iff·trans}
+use mathlib.Core.Logic.{_↔_, by-cases, Iff·trans}
 use mathlib.Core.List.{List, [], _∷_, _++_}
 use mathlib.Core.Bool.{Bool, true, false, not, cond}
-use Prim.Native.Nat.{ℕ, zero, suc, _+_, _*_, _-_, _/_, _%_, _≤_, _<_}
-use native.Mathlib.Nat.{le-refl, zero-lt-suc, add-zero, add-suc, zero-mul, suc-mul, div-add-mod', zero-add}
-use native.Mathlib.Decide.{ℕ-discrete, decLt, decLe}
+use Prim.Native.Nat.{ℕ, zero, suc, _+_, _*_, _-_, _/_, _≤_, _<_}
+use native.Mathlib.Nat.{le-refl, add-zero, add-suc, zero-mul, suc-mul, div-add-mod'}
+use native.Mathlib.Decide.{ℕ-discrete, decLt}
 use native.Mathlib.Numerals.{sub-one}
 use native.Mathlib.Omega.{arith}
-use lib.ListN.{length, getD, length-append}
-use lib.Dec.{T, ltb, leb, eqb}
-use lib.IntN.{ℤ, pos, negℤ}
+use lib.ListN.{length, length-append}
+use lib.Dec.{T, eqb}
+use lib.IntN.{ℤ}
 use Rattle.lists.specs.Loop.{for, any, all, sum}
 use Rattle.lists.proofs.Tests.{ltb-iff, leb-iff, eqb-iff, not-iff, or-imp}
 use Rattle.lists.proofs.Loops.{for-ext, for-all, when-all, one-all, all-append, any-one, any-two}
@@ -30,11 +30,11 @@ use Rattle.valuation.specs.Satisfying.{Valuation}
 use Rattle.valuation.specs.Places.{Places}
 use Rattle.valuation.proofs.Families.{Sat, satisfies-iff}
 use Rattle.valuation.proofs.Entries.{named-size, written-at, written-size, written-valuation}
-use Rattle.ceiling.specs.Tree.{Tree, inputs, outputs, variables, before, treeClauses, treeEntries, treeOver, count, entryOf, on, off}
-use Rattle.ceiling.specs.Ceiling.{busyNumber, root, movers, waiters, counters, limit, addedClauses, addedVariables, ceilingVariables, underCeiling}
+use Rattle.ceiling.specs.Tree.{inputs, outputs, variables, before, treeClauses, treeEntries, count, entryOf, on, off}
+use Rattle.ceiling.specs.Ceiling.{busyNumber, root, moves, chain, counters, limit, addedClauses, addedVariables, overNumber, ceilingVariables, underCeiling}
 use Rattle.ceiling.specs.Encoded.{busy, busyAt, busyEntries, counterEntries, ceilingValuation}
 use Rattle.ceiling.proofs.Base.{named-base}
-use Rattle.ceiling.proofs.Tree.{tree-one, tree-inputs, Says, Means, at-most, means-outputs, means-sat, count-le}
+use Rattle.ceiling.proofs.Tree.{tree-one, tree-two, tree-inputs, Says, Means, at-most, means-outputs, means-sat, count-le}
 use Rattle.ceiling.proofs.Entries.{clash, Part, part-whole, part-append, says-entry, says-for, tree-entries-length, entries-mean, Numbered, numbered-append, numbered-for, numbered-tree}
 
 -- ---- sums in blocks
@@ -90,10 +90,10 @@ module _ (s : Sizes) (h : Literal → Bool) (p : List ℕ) (w : Places s h (plan
   abbrev P : ℕ → Row
   P = planRow s p
 
-  module _ (clash : (z : ℕ) → T (h (on z)) → T (h (off z)) → ⊥) (mv : Sat h (movers s)) (wt : Sat h (waiters s)) where
+  module _ (clash : (z : ℕ) → T (h (on z)) → T (h (off z)) → ⊥) (mv : Sat h (moves s)) (wt : Sat h (chain s)) where
     -- an agent that is not yet at rest has its B true: by the last steps first
     busy-true : (d t a : ℕ) → t + d ≡ m → a < k → T (busy s p t a) → T (h (on (busyNumber s t a)))
-    unfolding movers waiters
+    unfolding moves chain
     busy-true zero t a e l b =
         let q : t ≡ m = omega arith in
         absurd (not-iff (rests m P a m) .0 (subst (λ (u : ℕ). T (busy s p u a)) q b) (last-rests m P a))
@@ -120,16 +120,16 @@ module _ (s : Sizes) (h : Literal → Bool) (p : List ℕ) (w : Places s h (plan
 
   -- where B says that the agent is not yet at rest, these clauses hold
   module _ (says : (t a : ℕ) → t < m → a < k → Says h (busyNumber s t a) (busy s p t a)) where
-    pub movers-hold : Sat h (movers s)
-    unfolding movers
-    movers-hold =
+    pub moves-hold : Sat h (moves s)
+    unfolding moves
+    moves-hold =
         simp (for-all, one-all, any-three) (λ t l a r v q f g.
         says t a l r .0 (not-iff (rests m P a t) .1 (λ z.
         f (w .elsewhere t a v (omega arith) r q .1 (λ e. g (w .here (suc t) a v (omega arith) r q .1 (e ∙ rests-step m P a t l .0 z .0)))))))
 
-    pub waiters-hold : Sat h (waiters s)
-    unfolding waiters
-    waiters-hold =
+    pub chain-hold : Sat h (chain s)
+    unfolding chain
+    chain-hold =
         simp (for-all, one-all, any-two) (λ t l a r f.
         says t a (omega arith) r .0 (not-iff (rests m P a t) .1 (λ z.
         f (says (suc t) a (omega arith) r .1 (λ y. not-iff (rests m P a (suc t)) .0 y (rests-step m P a t (omega arith) .0 z .1))))))
@@ -137,7 +137,7 @@ module _ (s : Sizes) (h : Literal → Bool) (p : List ℕ) (w : Places s h (plan
 module _ (s : Sizes) (c : ℕ) (h : Literal → Bool) where
   open Sizes s using (k, m)
 
-  pub added-iff : Sat h (addedClauses s c) ↔ (((Sat h (movers s) × Sat h (waiters s)) × Sat h (counters s c)) × Sat h (limit s c))
+  pub added-iff : Sat h (addedClauses s c) ↔ (((Sat h (moves s) × Sat h (chain s)) × Sat h (counters s c)) × Sat h (limit s c))
   unfolding addedClauses
   added-iff = simp all-append ((λ t. t), (λ t. t))
 
@@ -266,7 +266,7 @@ module _ (s : Sizes) (p : List ℕ) where
         let e : 0 + length (planValuation s p ++ busyEntries s p) ≡ N + m * k = omega (arith, written-size s p, busy-length, length-append (planValuation s p) (busyEntries s p)) in
         rw e at (part-append es 0 (planValuation s p ++ busyEntries s p) _ (part-whole es) .1)
 
-    says-busy : (i : ℕ) → i < m * k → Says (true? es) (N + suc i) (busyAt s p (N + suc i))
+    pub says-busy : (i : ℕ) → i < m * k → Says (true? es) (N + suc i) (busyAt s p (N + suc i))
     says-busy i l = rw sub-one at (says-for es N (m * k) (λ j. busyAt s p (N + suc j)) part-busy (suc i) (omega arith) (omega arith))
 
     -- what they say
@@ -304,7 +304,7 @@ module _ (s : Sizes) (p : List ℕ) where
         let w = ceiling-written inside′ in
         added-iff s c (true? es) .1 (
           (
-            (movers-hold s (true? es) p w says-B, waiters-hold s (true? es) p w says-B),
+            (moves-hold s (true? es) p w says-B, chain-hold s (true? es) p w says-B),
             by-cases (decLt 0 (m * k))
                 (λ o. means-sat c (true? es) (busyAt s p) (root s) N (N + m * k) (ceiling-means o))
                 (λ o. rw (tree-one (m * k) (omega arith)) tt),
@@ -314,3 +314,12 @@ module _ (s : Sizes) (p : List ℕ) where
               means-outputs c (true? es) (busyAt s p) (root s) N (N + m * k) (ceiling-means (omega arith)) (suc c) (omega arith) (omega arith)
               .1 (λ t. let z = rw e at (leb-iff (suc c) (count (busyAt s p) N (inputs (root s))) .0 t) in omega (arith, count-cost))),
         )
+
+-- ---- root output c + 1 is the last variable, where it is forbidden
+pub over-last : (s : Sizes) (c : ℕ) → c < s .m * s .k → overNumber s c ≡ ceilingVariables s c
+unfolding ceilingVariables addedVariables before variables outputs inputs
+over-last s c l =
+    let x : ℕ = s .m * s .k in
+    by-cases (decLt x 2)
+    (λ h. rw (tree-one x h) (omega arith))
+    (λ h. rw (tree-two x (omega arith), tree-inputs (x / 2) (omega arith), tree-inputs (x - x / 2) (omega arith)) (omega arith))

@@ -2,19 +2,20 @@
 -- least i inputs are true, its clauses hold.
 use mathlib.Core.Path.{_≡_, refl, sym, _∙_, ap, ap₂, subst}
 use mathlib.Core.Logic.{_↔_, _⊎_, inl, inr, ⊎-elim, by-cases}
-use mathlib.Core.List.{List, [], _∷_, _++_}
+use mathlib.Core.List.{[], _∷_, _++_}
 use mathlib.Core.Bool.{Bool, true, false, cond}
 use Prim.Native.Nat.{ℕ, zero, suc, _+_, _-_, _*_, _/_, _^_, _≤_, _<_, min}
 use native.Mathlib.Nat.{le-refl, add-zero, add-suc, mul-add, suc-mul, pow-suc}
 use native.Mathlib.Decide.{decLt, decLe}
 use native.Mathlib.Omega.{arith}
 use lib.Dec.{T, ltb, leb}
-use Rattle.lists.specs.Loop.{for, when, any, all, sum}
+use Rattle.lists.specs.Loop.{when, any}
 use Rattle.lists.proofs.Tests.{ltb-iff, leb-iff}
 use Rattle.lists.proofs.Loops.{for-all, when-all, one-all, any-append, any-one, when-any, all-append}
+use Rattle.lists.proofs.Sums.{sum-ext}
 use Rattle.formula.specs.Variables.{Literal}
 use Rattle.valuation.proofs.Families.{Sat}
-use Rattle.ceiling.specs.Tree.{Tree, input, node, halved, treeOver, inputs, outputs, variables, before, join, joins, treeClauses, treeEntries, count, entryOf, on, off}
+use Rattle.ceiling.specs.Tree.{Tree, input, node, halved, treeOver, inputs, outputs, variables, before, join, joins, treeClauses, count, on, off}
 
 -- ---- the shape: any number that is at least the length will do
 halved-enough : (d e l : ℕ) → l ≤ d → l ≤ e → halved d l ≡ halved e l
@@ -83,6 +84,10 @@ one-no false f = refl
 pub count-le : (b : ℕ → Bool) (x n : ℕ) → count b x n ≤ n
 count-le b x zero = omega arith
 count-le b x (suc n) = omega (arith, count-le b x n, one-of (b (x + suc n)) .1)
+
+-- it goes by the truth of the inputs alone, wherever they stand
+pub count-same : (b d : ℕ → Bool) (n x w : ℕ) → ((j : ℕ) → j < n → b (x + suc j) ≡ d (w + suc j)) → count b x n ≡ count d w n
+count-same b d n x w h = sum-ext n _ _ (λ j l. ap (λ (t : Bool). cond t 1 0) (h j l))
 
 pub count-split : (b : ℕ → Bool) (x n m : ℕ) → count b x (n + m) ≡ count b x n + count b (x + n) m
 count-split b x n zero = rw add-zero (omega arith)

@@ -23,18 +23,18 @@ module _ (s : Sizes) where
   root = treeOver (m * k)
 
   -- agent a leaves v in step t, so it is not yet at rest
-  abbrev pub mover : ℕ → ℕ → ℕ → Clause
-  mover t a v = ¬X s t a v ∷ X s (suc t) a v ∷ on (busyNumber t a) ∷ []
+  abbrev pub moving : ℕ → ℕ → ℕ → Clause
+  moving t a v = ¬X s t a v ∷ X s (suc t) a v ∷ on (busyNumber t a) ∷ []
 
-  unfoldable pub movers : List Clause
-  movers = for m λ t. for k λ a. for n λ v. mover t a v ∷ []
+  unfoldable pub moves : List Clause
+  moves = for m λ t. for k λ a. for n λ v. moving t a v ∷ []
 
   -- agent a is not yet at rest at t + 1, so it is not at t
-  abbrev pub waiter : ℕ → ℕ → Clause
-  waiter t a = off (busyNumber (suc t) a) ∷ on (busyNumber t a) ∷ []
+  abbrev pub link : ℕ → ℕ → Clause
+  link t a = off (busyNumber (suc t) a) ∷ on (busyNumber t a) ∷ []
 
-  unfoldable pub waiters : List Clause
-  waiters = for (m - 1) λ t. for k λ a. waiter t a ∷ []
+  unfoldable pub chain : List Clause
+  chain = for (m - 1) λ t. for k λ a. link t a ∷ []
 
   module _ (c : ℕ) where
     -- the tree's clauses: its inputs are the B, and its own variables stand behind them
@@ -50,7 +50,7 @@ module _ (s : Sizes) where
     limit = when (ltb c (m * k)) ((off overNumber ∷ []) ∷ [])
 
     unfoldable pub addedClauses : List Clause
-    addedClauses = movers ++ waiters ++ counters ++ limit
+    addedClauses = moves ++ chain ++ counters ++ limit
 
     -- how many variables, clauses and words are added; zeros included
     unfoldable pub addedVariables : ℕ

@@ -1,4 +1,4 @@
--- The counting tree: its shape, and by the shape its outputs, the numbers of its variables, its clauses, and what they come to.
+-- The counting tree (a totalizer): its shape, and by the shape its outputs, the numbers of its variables, its clauses, and what they come to.
 use mathlib.Core.List.{List, [], _∷_, _++_}
 use mathlib.Core.Bool.{Bool, cond}
 use Prim.Native.Nat.{ℕ, zero, suc, _+_, _*_, _-_, _/_, min}
@@ -20,7 +20,7 @@ halved (suc d) zero = input
 halved (suc d) (suc zero) = input
 halved (suc d) (suc (suc l)) = node (halved d (suc (suc l) / 2)) (halved d (suc (suc l) - suc (suc l) / 2))
 
--- the tree over a list of this length
+-- the tree over a list of this length; over none it is a single input too, and adds nothing
 unfoldable pub treeOver : ℕ → Tree
 treeOver length = halved length length
 

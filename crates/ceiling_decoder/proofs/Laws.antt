@@ -1,32 +1,30 @@
 -- The first entries and those behind them as one question, the base formula's clauses and the added ones as one list, and the plan read.
 use mathlib.Core.Path.{_≡_, refl, sym, _∙_, ap, subst}
 use mathlib.Core.Logic.{by-cases}
-use mathlib.Core.List.{List, _++_}
+use mathlib.Core.List.{List}
 use Prim.Native.Nat.{ℕ, _+_, _≤_, _<_}
 use native.Mathlib.Decide.{decLt}
 use native.Mathlib.Omega.{arith}
 use lib.ListN.{length, take}
 use lib.Seq.{getD-take}
 use lib.Dec.{T}
-use lib.IntN.{ℤ, pos, negℤ}
+use lib.IntN.{ℤ, pos}
 use Rattle.lists.specs.Loop.{any}
 use Rattle.lists.proofs.Loops.{all-append}
 use Rattle.answers.specs.Fault.{FirstFault}
 use Rattle.instance.specs.declared.Sizes.{Sizes}
 use Rattle.instance.specs.Instance.{Instance, Edges, Endpoints}
-use Rattle.instance.specs.Limits.{Limits}
 use Rattle.formula.specs.Variables.{variableCount}
 use Rattle.formula.specs.Formula.{clauses}
 use Rattle.plan.specs.Plan.{planRow}
-use Rattle.valuation.specs.Valuation.{sameNumber, entry, rightEntry, true?, satisfied?, named, namedPlan}
+use Rattle.valuation.specs.Valuation.{rightEntry, true?, named, namedPlan}
 use Rattle.valuation.specs.Satisfying.{Valuation}
 use Rattle.valuation.specs.Places.{Places}
-use Rattle.valuation.proofs.Families.{Sat, sat-CD, places-cong}
-use Rattle.valuation.proofs.Entries.{named-at}
+use Rattle.valuation.proofs.Families.{Sat}
 use Rattle.calls.proofs.Valuation.{right-iff}
 use Rattle.satisfaction.specs.Rows.{Fault, Stop, Read}
 use Rattle.satisfaction.proofs.Laws.{fault-passed, fault-left, fault-right}
-use Rattle.ceiling.specs.Ceiling.{addedClauses, addedVariables, ceilingVariables, underCeiling}
+use Rattle.ceiling.specs.Ceiling.{addedClauses, ceilingVariables, underCeiling}
 use Rattle.ceiling.proofs.Base.{base-plan, base-places, base-sat, base-fault}
 use Rattle.decoder.proofs.Laws.{planned, placed-read}
 

@@ -16,7 +16,7 @@ ghost use Rattle.plan.specs.Plan.{planBytes};
 ghost use Rattle.valuation.specs.Valuation.{rightEntry, namedPlan};
 ghost use Rattle.valuation.specs.Satisfying.{Valuation};
 ghost use Rattle.satisfaction.specs.Rows.{Fault, Read};
-ghost use Rattle.ceiling.specs.Ceiling.{ceilingVariables, ceilingCount, underCeiling};
+ghost use Rattle.ceiling.specs.Ceiling.{ceilingVariables, underCeiling};
 ghost use Rattle.ceiling_decoder.specs.Shown.{Shown};
 ghost use Rattle.calls.specs.Calls.{decodeRest};
 ghost use Rattle.calls.specs.Ceiling.{ceilingDecodeAnswer, ceilingDecodeSlice};

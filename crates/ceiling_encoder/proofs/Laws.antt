@@ -1,7 +1,7 @@
 -- 33 behind the encoder's other questions, where r is their answer; and the entries as two parts of the slice.
 use mathlib.Core.Path.{_≡_, sym, _∙_, ap}
 use mathlib.Core.Logic.{_≢_}
-use mathlib.Core.List.{List, [], _∷_, _++_, append-assoc}
+use mathlib.Core.List.{List, [], _∷_, _++_}
 use Prim.Native.Nat.{ℕ, _≤_, _<_}
 use native.Mathlib.Omega.{arith}
 use lib.Dec.{T, leb}
@@ -9,7 +9,7 @@ use Rattle.lists.specs.Loop.{all}
 use Rattle.lists.proofs.Tests.{leb-iff}
 use Rattle.answers.specs.declared.Answer.{Answer}
 use Rattle.answers.specs.Answers.{Question, refuse, decide, clear}
-use Rattle.answers.proofs.Laws.{numbered, numbered-second, decide-iff, decide-count, decide-after, decide-refused, ask-yes, ask-no, ask-all}
+use Rattle.answers.proofs.Laws.{numbered-second, decide-iff, decide-count, decide-after, decide-refused, ask-yes, ask-no, ask-all}
 use Rattle.instance.specs.Instance.{Instance}
 use Rattle.plan.specs.Plan.{cost}
 use Rattle.calls.specs.Questions.{question13, question16, question33}

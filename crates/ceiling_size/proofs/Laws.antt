@@ -2,7 +2,7 @@
 use mathlib.Core.Path.{_≡_, refl, sym, _∙_, ap}
 use mathlib.Core.Logic.{_≢_, by-cases}
 use mathlib.Core.List.{List}
-use Prim.Native.Nat.{ℕ, zero, suc, _+_, _*_, _-_, _≤_, _<_}
+use Prim.Native.Nat.{ℕ, zero, suc, _*_, _-_, _≤_}
 use native.Mathlib.Nat.{suc-mul, zero-mul, mul-le-mul}
 use native.Mathlib.Decide.{decLt}
 use native.Mathlib.Omega.{arith}
@@ -20,7 +20,7 @@ use Rattle.instance.specs.Accepted.{Accepted, instanceOf}
 use Rattle.instance.proofs.Accepted.{sizes-same, graph, counted-known}
 use Rattle.formula.specs.Formula.{words}
 use Rattle.formula.proofs.Limits.{agent-steps}
-use Rattle.ceiling.specs.Tree.{treeOver, variables, clausesIn, wordsIn}
+use Rattle.ceiling.specs.Tree.{variables, clausesIn, wordsIn}
 use Rattle.ceiling.specs.Ceiling.{addedVariables, addedCount, addedWords, ceilingCount, ceilingWords, underCeiling}
 use Rattle.ceiling.proofs.Tree.{tree-one, one-of}
 use Rattle.ceiling.proofs.Counts.{ceiling-count, ceiling-words}

@@ -1,57 +1,59 @@
 -- The claim of the calls with a ceiling, proved for every accepted instance and every c from 0 to 128: by the laws of the added clauses, and by
 -- what the base formula says of the plan named.
 use mathlib.Core.Path.{_≡_, refl, sym, _∙_, ap, ap₂, subst}
-use mathlib.Core.Logic.{_↔_, _≢_, Iff·trans, Iff·symm}
-use mathlib.Core.List.{List, [], _∷_, _++_, append-nil}
+use mathlib.Core.Logic.{_↔_, _≢_, by-cases, Iff·trans, Iff·symm}
+use mathlib.Core.List.{List, [], _∷_, _++_, append-nil, append-assoc}
 use mathlib.Core.Bool.{Bool}
-use Prim.Native.Nat.{ℕ, zero, suc, _+_, _*_, _-_, _≤_, _<_}
+use Prim.Native.Nat.{ℕ, suc, _+_, _*_, _-_, _≤_, _<_}
 use native.Mathlib.Nat.{zero-mul}
 use native.Mathlib.Numerals.{add-one}
+use native.Mathlib.Decide.{decLt}
 use native.Mathlib.Omega.{arith}
 use borrow.Author.Tests.{le-ltb}
-use lib.ListN.{length}
-use lib.Dec.{T, leb}
+use lib.ListN.{length, length-append, drop}
+use lib.Seq.{drop-at}
+use lib.Dec.{T, ltb, leb, eqb}
 use lib.IntN.{ℤ}
-use Rattle.lists.specs.Loop.{all, any}
-use Rattle.lists.proofs.Tests.{and-iff, leb-iff}
-use Rattle.lists.proofs.Loops.{all-append}
-use Rattle.lists.proofs.Blocks.{place-lt}
+use Rattle.lists.specs.Loop.{all, any, each}
+use Rattle.lists.proofs.Tests.{T-ext, and-iff, ltb-iff, leb-iff, eqb-iff}
+use Rattle.lists.proofs.Loops.{all-append, each-append}
+use Rattle.lists.proofs.Rising.{when-yes}
 use Rattle.answers.specs.declared.Answer.{Answer}
-use Rattle.answers.specs.declared.Size.{Size}
-use Rattle.answers.specs.Answers.{Question, ask, refuse, accept, decide, withClauses, clear}
+use Rattle.answers.specs.Answers.{Question, refuse, decide, withClauses, clear}
 use Rattle.answers.proofs.Laws.{numbered, clear-iff, clear-second, numbered-second, decide-iff, decide-count, decide-after, decide-refused, count-free, lent-take, ask-no, ask-yes, ask-nil, ask-all}
-use Rattle.instance.specs.declared.Sizes.{Sizes}
-use Rattle.instance.specs.Instance.{Instance, instance, Edges, Endpoints}
+use Rattle.instance.specs.Instance.{Instance, instance, Edges, Endpoints, Counted}
+use Rattle.instance.specs.Limits.{Limits}
 use Rattle.instance.specs.Questions.{instanceQuestions, instanceAnswer}
-use Rattle.instance.proofs.Instance.{numbered-instance, instance-iff, first-refused, endpoints, edges-known, goals-counted, limits}
-use Rattle.formula.specs.Variables.{X, variableCount}
-use Rattle.formula.specs.Formula.{Clause, Formula, clauses, formula, words}
-use Rattle.formula.proofs.Limits.{variables-most, agent-steps}
-use Rattle.plan.specs.Plan.{planRow, restTime, cost, planBytes}
+use Rattle.instance.proofs.Instance.{instance-iff, endpoints, edges-known, goals-counted, limits}
+use Rattle.formula.specs.Variables.{variableCount}
+use Rattle.formula.specs.Formula.{Clause, Formula, clauses, formula, line, words}
+use Rattle.formula.specs.Counts.{mostWords}
+use Rattle.formula.proofs.Limits.{clauses-most, words-most}
+use Rattle.plan.specs.Plan.{planRow, restTime, cost}
 use Rattle.plan.specs.Passing.{Passes}
 use Rattle.plan.proofs.Rest.{busy-iff}
 use Rattle.plan.proofs.Rows.{plan-ext}
 use Rattle.valuation.specs.Valuation.{true?, namedPlan}
-use Rattle.valuation.specs.Satisfying.{True, Valuation, Names}
+use Rattle.valuation.specs.Satisfying.{True, Valuation}
 use Rattle.valuation.specs.Places.{Places}
 use Rattle.valuation.proofs.Families.{Sat, satisfies-iff, places-unique}
 use Rattle.valuation.proofs.Entries.{named-size}
 use Rattle.ceiling.specs.Tree.{Tree, input, node, inputs, outputs, variables, before, treeClauses, count, on, off}
-use Rattle.ceiling.specs.Ceiling.{busyNumber, root, movers, waiters, counters, limit, addedClauses, addedVariables, ceilingVariables, underCeiling}
+use Rattle.ceiling.specs.Ceiling.{busyNumber, root, moves, chain, counters, limit, addedClauses, addedVariables, overNumber, ceilingVariables, ceilingCount, ceilingWords, underCeiling}
 use Rattle.ceiling.specs.Encoded.{busy, busyAt, ceilingValuation}
-use Rattle.ceiling.proofs.Tree.{tree-one, variables-most as tree-most, Means}
+use Rattle.ceiling.proofs.Tree.{tree-one, tree-two, tree-inputs, count-same, Means}
 use Rattle.ceiling.proofs.Entries.{clash}
-use Rattle.ceiling.proofs.Counts.{ceiling-count, ceiling-words, largest-ceiling}
-use Rattle.ceiling.proofs.Ceiling.{says-iff, ceiling-places, ceiling-passes, ceiling-cost, ceiling-valuation, ceiling-written, ceiling-means, says-B, added-hold}
-use Rattle.calls.specs.Questions.{question13, question14, question15, question16, question23, question24, question32, question33}
-use Rattle.calls.specs.Calls.{planQuestions, writeRest, encodeRest, decodeRest, readRest, checkAnswer}
+use Rattle.ceiling.proofs.Counts.{ceiling-count, ceiling-words, variables-top, count-top, words-top, largest-ceiling}
+use Rattle.ceiling.proofs.Ceiling.{says-iff, ceiling-places, ceiling-passes, ceiling-cost, ceiling-valuation, ceiling-written, ceiling-means, says-busy, says-B, added-hold, over-last}
+use Rattle.calls.specs.Questions.{question13, question14, question15, question16, question23, question24, question33}
+use Rattle.calls.specs.Calls.{planQuestions, encodeRest, decodeRest, checkAnswer}
 use Rattle.calls.specs.Ceiling.{ceilingQuestions, ceilingAnswer, ceilingSizeAnswer, ceilingWriteAnswer, ceilingDecodeQuestions, ceilingDecodeAnswer, ceilingDecodeSlice, ceilingEncodeQuestions, ceilingEncodeAnswer, ceilingEncodeSlice, ceilingReadQuestions, ceilingReadAnswer}
+use Rattle.calls.proofs.Size.{size-refused}
 use Rattle.calls.proofs.Plan.{numbered-plan, clear-plan, check-iff}
-use Rattle.calls.proofs.Text.{numbered-text}
 use Rattle.calls.proofs.Valuation.{true-iff, satisfies-mem, numbered-valuation, clear-valuation}
 use Rattle.calls.proofs.Ceiling.{numbered-ceiling, clear-ceiling, ceiling-iff, check-refuses, check-high}
 use Rattle.claims.specs.Correspondence.{Accepts}
-use Rattle.claims.specs.Ceiling.{Counts, Ceiling, Refused, Claim, bytes, handedBack, written, Within}
+use Rattle.claims.specs.Ceiling.{Counts, Ceiling, Refused, Claim, bytes, handedBack, written}
 use Rattle.claims.proofs.CeilingWorked.{worked}
 use Rattle.claims.proofs.Correspondence.{fits, inside-at, names}
 use Rattle.claims.proofs.Refusals.{numbered-ceiling-decode, numbered-ceiling-encode, numbered-ceiling-read}
@@ -79,6 +81,31 @@ counts-mean c es q b (node l r) x y w = (
       (Iff·trans (says-iff (true? es) q (before c (node l r) x y + i) (leb i (count b x (inputs (node l r)))) (w .2 i h k) .0)
       (leb-iff i (count b x (inputs (node l r)))))),
 )
+
+-- they go by the truth of the inputs alone
+counts-same : (es : List ℤ) (b b′ : ℕ → Bool) (c : ℕ) (t : Tree) (x y : ℕ) → ((j : ℕ) → j < inputs t → b (x + suc j) ≡ b′ (x + suc j)) → Counts es b c t x y → Counts es b′ c t x y
+unfolding inputs
+counts-same es b b′ c input x y h w = tt
+counts-same es b b′ c (node l r) x y h w = (
+  counts-same es b b′ c l x y (λ j q. h j (omega arith)) (w .0),
+  counts-same es b b′ c r (x + inputs l) (y + variables c l)
+      (λ j q. let e : x + inputs l + suc j ≡ x + suc (inputs l + j) = omega arith in rw e (h (inputs l + j) (omega arith))) (w .1),
+  (λ i p q. subst (λ (k : ℕ). True es (on (before c (node l r) x y + i)) ↔ (i ≤ k)) (count-same b b′ (inputs l + inputs r) x x h) (w .2 i p q)),
+)
+
+-- the limit is the last clause, and speaks of the last variable
+last-clause : (I : Instance) (c : ℕ) → Counted I → c < I .sizes .m * I .sizes .k
+    → drop (ceilingCount (I .sizes) c - 1) (underCeiling c I .clauses) ≡ (off (underCeiling c I .variables) ∷ []) ∷ []
+unfolding addedClauses limit
+last-clause I c w l =
+    let s = I .sizes in
+    let front : List Clause = clauses I ++ (moves s ++ chain s ++ counters s c) in
+    let end : List Clause = (off (overNumber s c) ∷ []) ∷ [] in
+    let whole : underCeiling c I .clauses ≡ front ++ end =
+    ap (λ (cs : List Clause). clauses I ++ ((moves s ++ chain s ++ counters s c) ++ cs)) (when-yes (ltb c (s .m * s .k)) end (ltb-iff c (s .m * s .k) .1 l))
+    ∙ sym (append-assoc (clauses I) (moves s ++ chain s ++ counters s c) end) in
+    let n : ceilingCount s c - 1 ≡ length front = let q = sym (ceiling-count I c w) ∙ ap length whole ∙ length-append front end in omega arith in
+    ap₂ (λ (i : ℕ) (cs : List Clause). drop i cs) n whole ∙ drop-at front end (length front) refl ∙ ap (λ (z : ℕ). (off z ∷ []) ∷ []) (over-last s c l)
 
 module _ (b : List ℕ) (m rule c : ℕ) (ok : T (all clear (instanceQuestions b m rule))) (small : c ≤ 128) where
   abbrev I : Instance
@@ -184,12 +211,68 @@ module _ (b : List ℕ) (m rule c : ℕ) (ok : T (all clear (instanceQuestions b
         (Iff·trans (says-iff (true? es) (clash _ es (ceiling-valuation (I .sizes) p c)) (busyNumber (I .sizes) t a) (busy (I .sizes) p t a) (says-B (I .sizes) p c t a x y) .0)
         (busy-iff (I .sizes .m) (planRow (I .sizes) p) a t))
 
-  most : L .variables ≤ 38912
-  unfolding ceilingVariables addedVariables
-  most =
-      let lim = limits b m rule ok in
-      let q = agent-steps (I .sizes) lim in
-      omega (arith, variables-most (I .sizes) lim, q, tree-most c 9 (I .sizes .m * I .sizes .k) (omega arith))
+  -- ---- lengths come first
+  entries-14 : (es : List ℤ) (room : ℕ) → length es ≢ L .variables → ceilingDecodeAnswer b m rule c es room ≡ refuse 14 (length es)
+  unfolding ceilingDecodeAnswer
+  entries-14 es room d =
+      decide-after (ceilingQuestions b m rule c) _ _ asked ∙ ask-no (eqb (length es) (L .variables)) _ _ _ (λ t. d (eqb-iff (length es) (L .variables) .0 t))
+
+  room-15 : (es : List ℤ) (room : ℕ) → length es ≡ L .variables → room < bytes b m rule c → ceilingDecodeAnswer b m rule c es room ≡ refuse 15 (bytes b m rule c)
+  unfolding ceilingDecodeAnswer
+  room-15 es room e l =
+      decide-after (ceilingQuestions b m rule c) _ _ asked
+      ∙ ask-yes (eqb (length es) (L .variables)) _ _ _ (eqb-iff (length es) (L .variables) .1 e)
+      ∙ ask-no (leb (bytes b m rule c) room) _ _ _ (λ t. let h = leb-iff (bytes b m rule c) room .0 t in let f : ⊥ = omega arith in f)
+
+  bytes-13 : (p : List ℕ) (room : ℕ) → length p ≢ bytes b m rule c → ceilingEncodeAnswer b m rule c p room ≡ refuse 13 (length p)
+  bytes-13 p room d =
+      encodes p room ∙ ask-no (eqb (length p) (bytes b m rule c)) _ _ _ (λ t. d (eqb-iff (length p) (bytes b m rule c) .0 t))
+
+  room-16 : (p : List ℕ) (room : ℕ) → length p ≡ bytes b m rule c → room < L .variables → ceilingEncodeAnswer b m rule c p room ≡ refuse 16 (L .variables)
+  room-16 p room e l =
+      encodes p room
+      ∙ ask-yes (eqb (length p) (bytes b m rule c)) _ _ _ (eqb-iff (length p) (bytes b m rule c) .1 e)
+      ∙ ask-no (leb (L .variables) room) _ _ _ (λ t. let h = leb-iff (L .variables) room .0 t in let f : ⊥ = omega arith in f)
+
+  text-16 : (text : List ℕ) (room : ℕ) → room < L .variables → ceilingReadAnswer b m rule c text room ≡ refuse 16 (L .variables)
+  unfolding ceilingReadAnswer
+  text-16 text room l =
+      decide-after (ceilingQuestions b m rule c) _ _ asked
+      ∙ ask-no (leb (L .variables) room) _ _ _ (λ t. let h = leb-iff (L .variables) room .0 t in let f : ⊥ = omega arith in f)
+
+  -- ---- where what is added stands
+  after : words L ≡ words (formula I) ++ each line (addedClauses (I .sizes) c)
+  unfolding words
+  after = each-append line (clauses I) (addedClauses (I .sizes) c)
+
+  last : c < I .sizes .m * I .sizes .k → drop (ceilingCount (I .sizes) c - 1) (L .clauses) ≡ (off (L .variables) ∷ []) ∷ []
+  last l = last-clause I c (goals-counted b m rule) l
+
+  lim : Limits (I .sizes)
+  lim = limits b m rule ok
+
+  most : L .variables ≤ 38275
+  most = variables-top (I .sizes) lim c small
+
+  most-clauses : length (L .clauses) ≤ 16953636
+  unfolding ceilingCount
+  most-clauses = rw (ceiling-count I c (goals-counted b m rule)) (omega (arith, clauses-most (I .sizes) lim, count-top (I .sizes) lim c small))
+
+  most-words : length (words L) ≤ mostWords (I .sizes) + 473308
+  unfolding ceilingWords
+  most-words = rw (ceiling-words I c edges (goals-counted b m rule)) (omega (arith, words-most (I .sizes) lim, words-top (I .sizes) lim c small))
+
+  -- each node's outputs count its true inputs
+  written-counts : (p : List ℕ) → Counts (ceilingValuation (I .sizes) p c) (λ x. true? (ceilingValuation (I .sizes) p c) (on x)) c (root (I .sizes)) (variableCount (I .sizes)) (variableCount (I .sizes) + I .sizes .m * I .sizes .k)
+  written-counts p =
+      by-cases (decLt 0 (I .sizes .m * I .sizes .k))
+      (λ o.
+      counts-same (ceilingValuation (I .sizes) p c) (busyAt (I .sizes) p) (λ x. true? (ceilingValuation (I .sizes) p c) (on x)) c (root (I .sizes)) _ _
+      (λ j l.
+      let e = tree-inputs (I .sizes .m * I .sizes .k) o in
+      T-ext _ _ (Iff·symm (says-iff (true? (ceilingValuation (I .sizes) p c)) (clash _ _ (ceiling-valuation (I .sizes) p c)) (variableCount (I .sizes) + suc j) (busyAt (I .sizes) p (variableCount (I .sizes) + suc j)) (says-busy (I .sizes) p c j (omega arith)) .0)))
+      (counts-mean c (ceilingValuation (I .sizes) p c) (clash _ _ (ceiling-valuation (I .sizes) p c)) (busyAt (I .sizes) p) (root (I .sizes)) _ _ (ceiling-means (I .sizes) p c o)))
+      (λ o. rw (tree-one (I .sizes .m * I .sizes .k) (omega arith)) tt)
 
   ceiling-at : Ceiling b m rule c
   unfolding ceilingDecodeAnswer ceilingEncodeAnswer ceilingReadAnswer instance
@@ -217,7 +300,7 @@ module _ (b : List ℕ) (m rule c : ℕ) (ok : T (all clear (instanceQuestions b
                   (a, handed (ceilingValuation (I .sizes) p c) s a ∙ round-trip p w k)),
             );
         busy = λ p z l e. let (w, k) = encode-iff p (length z) l .0 e in rw (wrote p z e) (busy-means p w k);
-        counted = λ p z l e o. rw (wrote p z e) (counts-mean c (ceilingValuation (I .sizes) p c) (clash _ _ (ceiling-valuation (I .sizes) p c)) (busyAt (I .sizes) p) (root (I .sizes)) _ _ (ceiling-means (I .sizes) p c o));
+        counted = λ p z l e. rw (wrote p z e) (written-counts p);
         encodedCount = λ p room e. count-second (ceilingEncodeQuestions b m rule c p room) _ (numbered-ceiling-encode b m rule c p room) e;
         readCount = λ text room e. count-second (ceilingReadQuestions b m rule c text room) _ (numbered-ceiling-read b m rule c text room) e;
         alike = λ p z l d. alike p (length z) l d;
@@ -230,28 +313,34 @@ module _ (b : List ℕ) (m rule c : ℕ) (ok : T (all clear (instanceQuestions b
               let w = check-iff b m rule ok p .0 e in
               (ceilingValuation (I .sizes) p c, ceiling-valuation (I .sizes) p c, satisfies-mem L (ceilingValuation (I .sizes) p c) .0 (sat-all p w l))),
         );
-        clauses = ceiling-count I c (goals-counted b m rule);
-        words = ceiling-words I c edges (goals-counted b m rule);
+        entries14 = entries-14;
+        room15 = room-15;
+        bytes13 = bytes-13;
+        room16 = room-16;
+        text16 = text-16;
+        after = after;
+        last = last;
+        clauseTotal = ceiling-count I c (goals-counted b m rule);
+        wordTotal = ceiling-words I c edges (goals-counted b m rule);
         most = most;
+        mostClauses = most-clauses;
+        mostWords = most-words;
       }
 
--- ---- a ceiling above 128
-module _ (b : List ℕ) (m rule c : ℕ) (o : Accepts (instanceAnswer b m rule)) (l : 128 < c) where
-  first-32 : ceilingAnswer b m rule c ≡ refuse 32 0
-  first-32 = sym (check-high b m rule c (instanceAnswer b m rule) refl o l)
+-- ---- what is refused first
+module _ (b : List ℕ) (m rule c : ℕ) (r : Answer) (e : ceilingAnswer b m rule c ≡ r) (d : r .number ≢ 0) where
+  not-passed : ceilingAnswer b m rule c .number ≢ 0
+  not-passed z = d (sym (ap (λ (a : Answer). a .number) e) ∙ z)
 
-  stops : (qs : List Question) (n : ℕ) → decide (ceilingQuestions b m rule c ++ qs) n ≡ refuse 32 0
+  stops : (qs : List Question) (n : ℕ) → decide (ceilingQuestions b m rule c ++ qs) n ≡ r
   unfolding ceilingAnswer
-  stops qs n =
-      decide-refused (ceilingQuestions b m rule c) qs 0 n (λ z. let y = sym (ap (λ (a : Answer). a .number) first-32) ∙ z in omega arith)
-      ∙ first-32
+  stops qs n = decide-refused (ceilingQuestions b m rule c) qs 0 n not-passed ∙ e
 
-  refused : Refused b m rule c
-  unfolding withClauses ceilingSizeAnswer ceilingWriteAnswer ceilingDecodeAnswer ceilingEncodeAnswer ceilingReadAnswer
+  refused : Refused r b m rule c
+  unfolding ceilingSizeAnswer ceilingWriteAnswer ceilingDecodeAnswer ceilingEncodeAnswer ceilingReadAnswer ceilingAnswer
   refused =
-      let e = subst (λ (qs : List Question). decide qs (length (words (underCeiling c (instance b m rule)))) ≡ refuse 32 0) (append-nil (ceilingQuestions b m rule c)) (stops [] _) in
       record {
-        size = (ap (λ (a : Answer). a .number) e, ap (λ (a : Answer). a .second) e);
+        size = sym (size-refused (ceilingQuestions b m rule c) (numbered-ceiling b m rule c) (underCeiling c (instance b m rule)) not-passed) ∙ ap (λ (a : Answer). withClauses a 0) e;
         writer = λ room. stops _ _;
         decoder = λ es room. stops _ _;
         encoder = λ p room. stops _ _;
@@ -260,7 +349,7 @@ module _ (b : List ℕ) (m rule c : ℕ) (o : Accepts (instanceAnswer b m rule))
 
 -- ---- at m 0
 no-steps : (I : Instance) (c : ℕ) → I .sizes .m ≡ 0 → (addedClauses (I .sizes) c ≡ []) × (ceilingVariables (I .sizes) c ≡ variableCount (I .sizes))
-unfolding addedClauses movers waiters counters limit ceilingVariables addedVariables treeClauses variables
+unfolding addedClauses moves chain counters limit ceilingVariables addedVariables treeClauses variables
 no-steps I c e =
     let z : I .sizes .m * I .sizes .k ≡ 0 = ap (λ (x : ℕ). x * I .sizes .k) e ∙ zero-mul (I .sizes .k) in
     rw (z, e, tree-one 0 (omega arith), le-ltb c 0 (omega arith)) (refl, omega arith)
@@ -280,8 +369,11 @@ ceiling-claim =
     record {
       ceiling = λ b m rule c o l. ceiling-at b m rule c (instance-iff b m rule .0 o) l;
       accepts = ceiling-iff;
-      first = λ b m rule c d. sym (check-refuses b m rule c (instanceAnswer b m rule) refl d);
-      high = refused;
+      first = λ b m rule c d. refused b m rule c (instanceAnswer b m rule) (sym (check-refuses b m rule c (instanceAnswer b m rule) refl d)) d;
+      high = λ b m rule c o l. refused b m rule c (refuse 32 0) (sym (check-high b m rule c (instanceAnswer b m rule) refl o l)) (λ z. let f : ⊥ = omega arith in f);
+      cut = tree-two;
+      single = tree-one 1 (omega arith);
+      width = tree-inputs;
       nothing = nothing-added;
       largest = largest-ceiling;
       worked = worked;

@@ -48,7 +48,7 @@ use Rattle.claims.proofs.Refusals.{numbered-read, numbered-ceiling-read
 record Given (I : Instance) (F : Formula) (read : List ℕ → ℕ → Answer) (slice : List ℕ → List ℤ → List ℤ) (decode : List ℤ → ℕ → Answer) (handedBack : List ℤ → List ℕ → List ℕ) (check : List ℕ → Answer) : Type 0 where
   rest-iff : (text : List ℕ) (z : List ℤ) → Accepts (read text (length z)) ↔ T (all clear (readRest (F .variables) text (length z)))
   lends : (text : List ℕ) (z : List ℤ) → slice text z ≡ lent (read text (length z)) (inOrder (F .variables) (given text)) z
-  small : F .variables ≤ 38912
+  small : F .variables ≤ 38275
   decodes : (es : List ℤ) (s : List ℕ) → planBytes (I .sizes) ≤ length s → Valuation (F .variables) es × Satisfies F es → Accepts (decode es (length s))
   comes : (es : List ℤ) (s : List ℕ) → planBytes (I .sizes) ≤ length s → Accepts (decode es (length s)) → Names (I .sizes) es (handedBack es s) × Accepts (check (handedBack es s))
 

@@ -1,6 +1,6 @@
 -- The tree by the length of its list: one input, two or more; and the bounds of its counts.
 use mathlib.Core.Path.{_≡_, refl}
-use mathlib.Core.List.{List, [], _++_}
+use mathlib.Core.List.{[], _++_}
 use mathlib.Core.Logic.{by-cases}
 use Prim.Native.Nat.{ℕ, suc, _+_, _*_, _-_, _/_, _≤_, _<_, min}
 use native.Mathlib.Numerals.{add-one}
@@ -11,7 +11,7 @@ use borrow.Author.Tests.{lt-ltb, le-ltb}
 use lib.ListN.{length}
 use Rattle.lists.specs.Loop.{each}
 use Rattle.formula.specs.Formula.{line}
-use Rattle.ceiling.specs.Tree.{Tree, input, node, treeOver, inputs, outputs, variables, before, joins, treeClauses, clausesIn, wordsIn}
+use Rattle.ceiling.specs.Tree.{Tree, input, node, treeOver, inputs, outputs, variables, before, treeClauses, clausesIn, wordsIn}
 use Rattle.ceiling.proofs.Tree.{tree-one, tree-two, tree-inputs, variables-most}
 use Rattle.ceiling.proofs.Counts.{clauses-most, count-tree, words-tree}
 use Rattle.counting.specs.Over.{variablesOver, clauseCountOver, wordCountOver, clausesOver, beforeOutputs, ownClauses}

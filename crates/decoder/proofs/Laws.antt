@@ -6,7 +6,7 @@ use Prim.Native.Nat.{ℕ, suc, _≤_, _<_}
 use native.Mathlib.Omega.{arith}
 use lib.ListN.{length}
 use lib.Seq.{ext-getD}
-use lib.Dec.{T, eqb, leb}
+use lib.Dec.{eqb, leb}
 use lib.IntN.{ℤ}
 use Rattle.lists.proofs.Tests.{and-iff, eqb-iff, leb-iff}
 use Rattle.lists.proofs.Blocks.{place-split}

@@ -8,8 +8,8 @@ use lib.ListN.{length}
 use lib.Dec.{eqb, leb}
 use Rattle.lists.proofs.Tests.{and-iff, eqb-iff, leb-iff}
 use Rattle.answers.specs.declared.Answer.{Answer}
-use Rattle.answers.specs.Answers.{Question, refuse, accept, decide, clear}
-use Rattle.answers.proofs.Laws.{numbered, clear-iff, numbered-second, decide-iff, decide-count, count-free, ask-yes, ask-no, ask-nil, ask-all}
+use Rattle.answers.specs.Answers.{Question, refuse, accept, decide}
+use Rattle.answers.proofs.Laws.{numbered, decide-iff, decide-count, count-free, ask-yes, ask-no}
 use Rattle.instance.specs.declared.Sizes.{Sizes}
 use Rattle.instance.specs.Instance.{Instance}
 use Rattle.plan.specs.Plan.{planBytes}

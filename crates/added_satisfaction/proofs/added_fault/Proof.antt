@@ -11,7 +11,7 @@ use Rattle.ceiling.proofs.Counts.{added-count}
 use Rattle.counting.specs.Over.{variablesOver}
 use Rattle.added_satisfaction.specs.Search.{Assigned}
 use Rattle.added_satisfaction.proofs.Trees.{fault-most}
-use Rattle.added_satisfaction.proofs.Added.{assigned, room, added-none, in-movers, in-waiters, in-counted}
+use Rattle.added_satisfaction.proofs.Added.{assigned, room, added-none, in-moves, in-chain, in-counted}
 use Rattle.added_satisfaction.proofs.added_fault.Statement.{statement}
 use Rattle.added_satisfaction.proofs.added_fault.Tie as tie
 
@@ -27,8 +27,8 @@ within s r f = (f, fault-most (s .args .entries .now) _ (addedCount (s .args .s)
 returns : tie.Need-returns
 returns c = let s = c .before .before .before in within s 0 (added-none (s .args .s) (s .args .c) (s .args .entries .now) (c .if1 .taken))
 
-movers-fault-requires : tie.Need-movers-fault-requires
-movers-fault-requires c κs =
+moves-fault-requires : tie.Need-moves-fault-requires
+moves-fault-requires c κs =
     let s = c .before .before .before in
     let (w, e) = known s in
     (s .pre .0, ((w, omega arith), s .pre .1 .1 .1))
@@ -36,11 +36,11 @@ movers-fault-requires c κs =
 returns-2 : tie.Need-returns-2
 returns-2 c =
     let s = c .before .before .before .before .before .before in
-    let mv = c .before .before .movers-fault in
-    within s _ (in-movers (s .args .s) (s .args .c) (s .args .entries .now) (mv .result .size) (mv .result .fault) (mv .ensures .0 .0) (mv .ensures .1) (c .if2 .taken))
+    let mv = c .before .before .moves-fault in
+    within s _ (in-moves (s .args .s) (s .args .c) (s .args .entries .now) (mv .result .size) (mv .result .fault) (mv .ensures .0 .0) (mv .ensures .1) (c .if2 .taken))
 
-waiters-fault-requires : tie.Need-waiters-fault-requires
-waiters-fault-requires c κs =
+chain-fault-requires : tie.Need-chain-fault-requires
+chain-fault-requires c κs =
     let s = c .before .before .before .before .before .before in
     let (w, e) = known s in
     ((s .pre .0, omega arith), (w, omega arith))
@@ -48,9 +48,9 @@ waiters-fault-requires c κs =
 returns-3 : tie.Need-returns-3
 returns-3 c =
     let s = c .before .before .before .before .before .before .before .before .before .before .before in
-    let mv = c .before .before .before .before .before .before .before .movers-fault in
-    let wt = c .before .before .before .before .waiters-fault in
-    within s _ (in-waiters (s .args .s) (s .args .c) (s .args .entries .now) (mv .result .size) (mv .result .fault) (mv .ensures .0 .0) (mv .ensures .1) (c .before .before .before .before .before .if2 .left)
+    let mv = c .before .before .before .before .before .before .before .moves-fault in
+    let wt = c .before .before .before .before .chain-fault in
+    within s _ (in-chain (s .args .s) (s .args .c) (s .args .entries .now) (mv .result .size) (mv .result .fault) (mv .ensures .0 .0) (mv .ensures .1) (c .before .before .before .before .before .if2 .left)
     (wt .result .size) (wt .result .fault) (wt .ensures .0 .0) (wt .ensures .1) (c .before .before .if3 .taken))
 
 counted-fault-requires : tie.Need-counted-fault-requires
@@ -62,8 +62,8 @@ counted-fault-requires c κs =
 returns-4 : tie.Need-returns-4
 returns-4 c =
     let s = c .before .before .before .before .before .before .before .before .before .before .before .before in
-    let mv = c .before .before .before .before .before .before .before .before .movers-fault in
-    let wt = c .before .before .before .before .before .waiters-fault in
+    let mv = c .before .before .before .before .before .before .before .before .moves-fault in
+    let wt = c .before .before .before .before .before .chain-fault in
     within s _ (in-counted (s .args .s) (s .args .c) (s .args .entries .now) (mv .result .size) (mv .result .fault) (mv .ensures .0 .0) (mv .ensures .1) (c .before .before .before .before .before .before .if2 .left)
     (wt .result .size) (wt .result .fault) (wt .ensures .0 .0) (wt .ensures .1) (c .before .before .before .if3 .left) (c .counted-fault .result) (c .counted-fault .ensures .0))
 
@@ -72,9 +72,9 @@ added-fault-spec =
     tie.close
     (tie.spec
     returns
-    movers-fault-requires
+    moves-fault-requires
     returns-2
-    waiters-fault-requires
+    chain-fault-requires
     (λ c. search needs)
     returns-3
     (λ c. search needs)

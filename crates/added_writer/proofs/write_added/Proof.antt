@@ -20,34 +20,34 @@ Before s i at f = Parts (addedParts (s .args .s) (s .args .c)) (s .args .f .now)
 before0 : (s : tie.Start) → Before s 0 0 (s .args .f .now)
 before0 s = none-written (addedParts (s .args .s) (s .args .c)) (added-whole (s .args .s) (s .args .c)) (s .pre .1 .1)
 
-before1 : (c : tie.After-write-movers) → Before (c .before .before .before .before) 1 (c .write-movers .result) (c .write-movers .last .0)
-before1 c = filling-on (before0 (c .before .before .before .before)) (omega arith) (c .write-movers .ensures)
+before1 : (c : tie.After-write-moves) → Before (c .before .before .before .before) 1 (c .write-moves .result) (c .write-moves .last .0)
+before1 c = filling-on (before0 (c .before .before .before .before)) (omega arith) (c .write-moves .ensures)
 
-before2 : (c : tie.After-write-waiters) → Before (c .before .before .before .before .before .before .before) 2 (c .before .before .before .write-movers .result + c .write-waiters .result) (putMid (c .before .before .before .write-movers .result) (length (c .before .before .before .write-movers .last .0) - c .before .before .before .write-movers .result) (c .before .before .before .write-movers .last .0) (c .write-waiters .last .0))
-before2 c = filling-next (before1 (c .before .before .before)) (omega arith) (c .write-waiters .ensures)
+before2 : (c : tie.After-write-chain) → Before (c .before .before .before .before .before .before .before) 2 (c .before .before .before .write-moves .result + c .write-chain .result) (putMid (c .before .before .before .write-moves .result) (length (c .before .before .before .write-moves .last .0) - c .before .before .before .write-moves .result) (c .before .before .before .write-moves .last .0) (c .write-chain .last .0))
+before2 c = filling-next (before1 (c .before .before .before)) (omega arith) (c .write-chain .ensures)
 
 returns : tie.Need-returns
 returns c = rw (added-none (c .before .before .args .s) (c .before .before .args .c) (c .if1 .taken)) (sym (filled-nil _))
 
-write-movers-requires : tie.Need-write-movers-requires
-write-movers-requires c κs = let r = filling-room (before0 (c .before .before .before)) (omega arith) in (c .before .before .before .pre .0, omega arith)
+write-moves-requires : tie.Need-write-moves-requires
+write-moves-requires c κs = let r = filling-room (before0 (c .before .before .before)) (omega arith) in (c .before .before .before .pre .0, omega arith)
 
-mul-write-waiters : tie.Need-mul-write-waiters
-mul-write-waiters c = let w = before1 (c .before) in search needs
+mul-write-chain : tie.Need-mul-write-chain
+mul-write-chain c = let w = before1 (c .before) in search needs
 
-sub-write-waiters : tie.Need-sub-write-waiters
-sub-write-waiters c = let w = before1 (c .before) in search needs
+sub-write-chain : tie.Need-sub-write-chain
+sub-write-chain c = let w = before1 (c .before) in search needs
 
-part-write-waiters-start : tie.Need-part-write-waiters-start
-part-write-waiters-start c = let w = before1 (c .before) in search needs
+part-write-chain-start : tie.Need-part-write-chain-start
+part-write-chain-start c = let w = before1 (c .before) in search needs
 
-write-waiters-requires : tie.Need-write-waiters-requires
-write-waiters-requires c κs =
+write-chain-requires : tie.Need-write-chain-requires
+write-chain-requires c κs =
     let r = filling-room (before1 (c .before .before)) (omega arith) in
     simp (length-take, length-drop) (c .before .before .before .before .before .before .pre .0, (omega (arith, c .before .before .before .before .if1 .left), omega arith))
 
-add-waited : tie.Need-add-waited
-add-waited c = let w = before2 (c .before) in search needs
+add-chained : tie.Need-add-chained
+add-chained c = let w = before2 (c .before) in search needs
 
 mul-write-counters : tie.Need-mul-write-counters
 mul-write-counters c = let w = before2 (c .before) in search needs
@@ -73,13 +73,13 @@ write-added-spec =
     tie.close
     (tie.spec
     returns
-    write-movers-requires
-    mul-write-waiters
-    sub-write-waiters
-    part-write-waiters-start
+    write-moves-requires
+    mul-write-chain
+    sub-write-chain
+    part-write-chain-start
     (λ c. search needs)
-    write-waiters-requires
-    add-waited
+    write-chain-requires
+    add-chained
     mul-write-counters
     sub-write-counters
     part-write-counters-start

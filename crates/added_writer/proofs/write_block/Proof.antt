@@ -10,12 +10,12 @@ use Rattle.lists.specs.Loop.{each}
 use Rattle.lists.proofs.Slices.{Filling, each-filling, filling-room, filling-next, each-filled}
 use Rattle.instance.specs.declared.Sizes.{Sizes}
 use Rattle.formula.specs.Formula.{Clause, line}
-use Rattle.ceiling.specs.Ceiling.{mover}
+use Rattle.ceiling.specs.Ceiling.{moving}
 use Rattle.added_writer.proofs.write_block.Statement.{statement}
 use Rattle.added_writer.proofs.write_block.Tie as tie
 
 abbrev turn : Sizes → ℕ → ℕ → ℕ → List Clause
-turn s t a v = mover s t a v ∷ []
+turn s t a v = moving s t a v ∷ []
 
 abbrev Inv-loop : tie.InvT-loop
 Inv-loop f₀ s t a n next z at₀ v₀ f at v = Filling (λ v. each line (turn s (t .0) (a .0) v)) n f₀ v at f

@@ -6,18 +6,18 @@ use lib.ListN.{length-take, length-drop}
 use Rattle.lists.specs.Loop.{each}
 use Rattle.lists.proofs.Slices.{Filling, each-filling, filling-room, filling-next, each-filled}
 use Rattle.formula.specs.Formula.{line}
-use Rattle.added_writer.specs.Movers.{agentMovers}
+use Rattle.added_writer.specs.Moves.{agentMoves}
 use Rattle.added_writer.proofs.write_step.Statement.{statement}
 use Rattle.added_writer.proofs.write_step.Tie as tie
 
 abbrev Inv-loop : tie.InvT-loop
-Inv-loop f₀ s t k at₀ a₀ f at a = Filling (λ a. each line (agentMovers s (t .0) a)) k f₀ a at f
+Inv-loop f₀ s t k at₀ a₀ f at a = Filling (λ a. each line (agentMoves s (t .0) a)) k f₀ a at f
 
 abbrev μ-loop : tie.MeasureT-loop
 μ-loop f₀ s t k at₀ a₀ f at a = k - a
 
 loop-holds : tie.Need-loop-holds Inv-loop μ-loop
-loop-holds c = each-filling line (agentMovers (c .args .s) (c .args .t .0)) (c .pre .1 .1)
+loop-holds c = each-filling line (agentMoves (c .args .s) (c .args .t .0)) (c .pre .1 .1)
 
 write-block-requires : tie.Need-write-block-requires Inv-loop μ-loop
 write-block-requires c κs = simp (length-take, length-drop) (let r = filling-room (c .before .before .loop .inv) (c .before .loop-test .taken) in search needs)
@@ -29,7 +29,7 @@ add-at : tie.Need-add-at Inv-loop μ-loop
 add-at c = let q = loop-again c .fits in omega arith
 
 returns : tie.Need-returns Inv-loop μ-loop
-returns c = each-filled line (agentMovers (c .before .before .args .s) (c .before .before .args .t .0)) (c .before .loop .inv) (omega arith)
+returns c = each-filled line (agentMoves (c .before .before .args .s) (c .before .before .args .t .0)) (c .before .loop .inv) (omega arith)
 
 pub write-step-spec : {M : Type 1} → statement M
 write-step-spec =

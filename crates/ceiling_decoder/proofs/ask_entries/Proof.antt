@@ -1,12 +1,12 @@
 -- `ceiling_decoder::ask_entries` meets its contract: each question is answered in its order, by the law of that name; what is read is the plan named. Assumes nothing.
 use mathlib.Core.Path.{_≡_, sym, _∙_, ap, subst}
-use Prim.Native.Nat.{ℕ, _+_, _-_, _≤_}
+use Prim.Native.Nat.{ℕ, _+_, _-_}
 use native.Mathlib.Omega.{arith}
 use lib.ListN.{length, take}
 use Rattle.answers.specs.declared.Answer.{Answer}
 use Rattle.answers.specs.Fault.{FirstFault}
 use Rattle.instance.specs.declared.Sizes.{Sizes}
-use Rattle.instance.specs.Instance.{Instance, Edges, Endpoints}
+use Rattle.instance.specs.Instance.{Instance}
 use Rattle.instance.specs.Shows.{Shows}
 use Rattle.instance.proofs.Accepted.{shown-counted}
 use Rattle.formula.specs.Variables.{variableCount}

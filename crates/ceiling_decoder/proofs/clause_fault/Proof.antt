@@ -15,7 +15,7 @@ use Rattle.formula.proofs.Counts.{clause-count}
 use Rattle.formula.proofs.Limits.{clauses-most}
 use Rattle.satisfaction.specs.Rows.{Fault, Read}
 use Rattle.satisfaction.proofs.Families.{whole}
-use Rattle.ceiling.specs.Ceiling.{ceilingVariables, ceilingCount, addedCount, underCeiling}
+use Rattle.ceiling.specs.Ceiling.{ceilingVariables, underCeiling}
 use Rattle.ceiling_size.proofs.Laws.{added-most}
 use Rattle.ceiling_decoder.specs.Shown.{Shown}
 use Rattle.ceiling_decoder.proofs.Laws.{stops-base, passes-base, behind-base, places-read}

@@ -1,5 +1,5 @@
 -- `ceiling_decoder::entry_fault` meets its contract: the first entries and those behind them are asked one after the other. Assumes nothing.
-use mathlib.Core.Path.{_≡_, sym, _∙_, ap, subst}
+use mathlib.Core.Path.{_≡_, sym, _∙_, subst}
 use Prim.Native.Nat.{ℕ, _-_, _≤_}
 use native.Mathlib.Omega.{arith}
 use lib.ListN.{length, take, length-take}
@@ -7,7 +7,7 @@ use Rattle.answers.specs.Fault.{FirstFault}
 use Rattle.formula.specs.Variables.{variableCount}
 use Rattle.plan.specs.Plan.{planBytes}
 use Rattle.valuation.specs.Valuation.{rightEntry}
-use Rattle.satisfaction.specs.Rows.{Read}
+use Rattle.satisfaction.specs.Rows.{Stop, Read}
 use Rattle.ceiling_decoder.proofs.Laws.{fault-first, fault-behind}
 use borrow.Author.Needs.{needs}
 use Rattle.ceiling_decoder.proofs.entry_fault.Statement.{statement}
@@ -49,7 +49,7 @@ returns-2 : tie.Need-returns-2
 returns-2 c =
     let l = c .before .before .before .before .before .before .before .variable-count .ensures .0 in
     let h : variableCount (c .before .before .before .before .before .before .before .before .before .args .s) ≤ c .before .before .before .before .read-entries .result = omega (arith, c .before .if1 .left) in (
-      fault-behind (c .before .before .before .before .before .before .before .before .before .args .entries .now) (variableCount (c .before .before .before .before .before .before .before .before .before .args .s)) (c .before .before .before .before .read-entries .result) (c .stop-from .result) (first (c .before .before .before .before)) h (rw l at (c .stop-from .ensures)),
+      fault-behind (c .before .before .before .before .before .before .before .before .before .args .entries .now) (variableCount (c .before .before .before .before .before .before .before .before .before .args .s)) (c .before .before .before .before .read-entries .result) (c .stop-from .result) (first (c .before .before .before .before)) h (subst (λ (x : ℕ). Stop (rightEntry (c .before .before .before .before .before .before .before .before .before .args .entries .now)) x (length (c .before .before .before .before .before .before .before .before .before .args .entries .now)) (c .stop-from .result)) l (c .stop-from .ensures)),
       (
         c .before .before .before .before .read-entries .ensures .1 .0,
         λ q. subst (λ (x : ℕ). Read (c .before .before .before .before .before .before .before .before .before .args .s) (take x (c .before .before .before .before .before .before .before .before .before .args .entries .now)) (take (planBytes (c .before .before .before .before .before .before .before .before .before .args .s)) (c .before .before .before .before .read-entries .last .0))) (lent-first (c .before .before .before .before .before .before .before)) (c .before .before .before .before .read-entries .ensures .1 .1 h),

@@ -1,5 +1,5 @@
 -- `ceiling_reader::read_ceiling` meets its contract: the check decides, or 16 and 27 to 29 over all variables. Assumes nothing.
-use mathlib.Core.Path.{_≡_, _∙_, ap, ap₂}
+use mathlib.Core.Path.{_∙_, ap, ap₂}
 use mathlib.Core.List.{List}
 use Prim.Native.Nat.{ℕ}
 use native.Mathlib.Omega.{arith}
@@ -38,7 +38,7 @@ known : (c : tie.Else1) → Accepted (c .before .before .before .before .before 
 known c = passed (c .before .before .before .before .before .before .args .b .now) (c .before .before .before .before .before .before .args .m) (c .before .before .before .before .before .before .args .rule) (c .before .before .before .before .before .before .args .c) (c .before .before .before .check-ceiling .result .answer) (c .before .before .before .check-ceiling .result .checked) (c .before .before .before .check-ceiling .ensures .0) (c .before .before .before .check-ceiling .ensures .1) (c .if1 .left)
 
 variables-requires : tie.Need-variables-requires
-variables-requires c κs = (limits-known _ _ (known (c .before .before)), low (c .before .before .before .before .before .before .before .before .args .b .now) (c .before .before .before .before .before .before .before .before .args .m) (c .before .before .before .before .before .before .before .before .args .rule) (c .before .before .before .before .before .before .before .before .args .c) (c .before .before .before .before .before .check-ceiling .result .answer) (c .before .before .before .before .before .check-ceiling .result .checked) (c .before .before .before .before .before .check-ceiling .ensures .0) (c .before .before .before .before .before .check-ceiling .ensures .1) (c .before .before .if1 .left))
+variables-requires c κs = (limits-known _ _ (known (c .before .before)), omega (arith, low (c .before .before .before .before .before .before .before .before .args .b .now) (c .before .before .before .before .before .before .before .before .args .m) (c .before .before .before .before .before .before .before .before .args .rule) (c .before .before .before .before .before .before .before .before .args .c) (c .before .before .before .before .before .check-ceiling .result .answer) (c .before .before .before .before .before .check-ceiling .result .checked) (c .before .before .before .before .before .check-ceiling .ensures .0) (c .before .before .before .before .before .check-ceiling .ensures .1) (c .before .before .if1 .left)))
 
 read-entries-requires : tie.Need-read-entries-requires
 read-entries-requires c κs = c .before .variables .ensures .1

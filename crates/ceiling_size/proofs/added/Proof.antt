@@ -1,6 +1,5 @@
 -- `ceiling_size::added` meets its contract. It follows from the contracts of the functions called and the laws cited. Assumes nothing.
-use mathlib.Core.Path.{_≡_, sym, _∙_, ap}
-use Prim.Native.Nat.{_+_, _*_, _-_, _≤_}
+use Prim.Native.Nat.{_-_}
 use native.Mathlib.Omega.{arith}
 use Rattle.ceiling.specs.Ceiling.{addedVariables, addedCount, addedWords}
 use Rattle.counting.specs.Over.{variablesOver, clauseCountOver, wordCountOver}

@@ -1,5 +1,4 @@
 -- `ceiling_size::check_ceiling` meets its contract: 32 is asked where the instance check accepts. Assumes nothing.
-use mathlib.Core.Logic.{_≢_}
 use native.Mathlib.Omega.{arith}
 use Rattle.calls.proofs.Ceiling.{check-refuses, check-high, check-passes}
 use borrow.Author.Needs.{needs}

@@ -1,7 +1,6 @@
 -- `ceiling_size::variables` meets its contract. Assumes nothing.
 use native.Mathlib.Omega.{arith}
 use Rattle.ceiling.specs.Ceiling.{ceilingVariables}
-use borrow.Author.Needs.{needs}
 use Rattle.ceiling_size.proofs.variables.Statement.{statement}
 use Rattle.ceiling_size.proofs.variables.Tie as tie
 

@@ -2,7 +2,6 @@
 use native.Mathlib.Omega.{arith}
 use Rattle.formula.proofs.Limits.{words-top}
 use Rattle.ceiling.specs.Ceiling.{ceilingWords}
-use borrow.Author.Needs.{needs}
 use Rattle.ceiling_size.proofs.words.Statement.{statement}
 use Rattle.ceiling_size.proofs.words.Tie as tie
 

@@ -8,7 +8,7 @@ use lib.ListN.{length}
 use Rattle.lists.specs.Loop.{for, each}
 use Rattle.lists.specs.Slice.{filled}
 use Rattle.instance.specs.declared.Sizes.{Sizes}
-use Rattle.instance.specs.Instance.{Instance, instance}
+use Rattle.instance.specs.Instance.{instance}
 use Rattle.instance.specs.Accepted.{Accepted, instanceOf}
 use Rattle.instance.proofs.Accepted.{limits-known, ready, sizes-same}
 use Rattle.formula.specs.Formula.{Clause, line, words}
@@ -44,7 +44,7 @@ returns c =
     (horizon (c .before .before .before .before .before .before .args .b .now) (c .before .before .before .before .before .before .args .m) (c .before .before .before .before .before .before .args .rule) (c .before .before .before .before .before .before .args .c) (c .before .before .before .before .check-ceiling .result .answer) (c .before .before .before .before .check-ceiling .result .checked) (c .before .before .before .before .check-ceiling .ensures .0) (c .before .before .before .before .check-ceiling .ensures .1)) (c .before .before .before .before .before .before .args .f .now) (c .if1 .taken)
 
 words-requires : tie.Need-words-requires
-words-requires c κs = (limits-known _ _ (known (c .before)), small (c .before))
+words-requires c κs = (limits-known _ _ (known (c .before)), omega (arith, small (c .before)))
 
 returns-2 : tie.Need-returns-2
 unfolding ceilingWriteAnswer ceilingWriteSlice ceilingAnswer
@@ -58,7 +58,7 @@ write-all-requires c κs =
     let w = known (c .before .before .before .before .before .before) in (
       ready _ _ w,
       (
-        small (c .before .before .before .before .before .before),
+        omega (arith, small (c .before .before .before .before .before .before)),
         rw (← (parts (c .before .before .before .before .before .before)))
             (omega (arith, words-held _ _ w (c .before .before .before .before .before .before .before .before .before .before .before .before .args .c), c .before .before .before .before .words .ensures, fits-12 (c .before .before .before .before .words .result) (length (c .before .before .before .before .before .before .before .before .before .before .before .before .args .f .now)) (c .before .before .before .ask-room .result) (c .before .before .before .ask-room .ensures) (c .before .if2 .left))),
       ),

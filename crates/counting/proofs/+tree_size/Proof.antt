@@ -1,9 +1,9 @@
 -- `counting::tree_size` meets its contract: by recursion on the length of the list. Assumes nothing.
-use mathlib.Core.Path.{_≡_, refl, sym}
-use Prim.Native.Nat.{_+_, _-_, _*_, _/_, _≤_, min}
+use mathlib.Core.Path.{sym}
+use Prim.Native.Nat.{_+_, _-_, _/_}
 use native.Mathlib.Omega.{arith}
 use borrow.Author.Needs.{needs}
-use Rattle.counting.proofs.Laws.{Counted, counted, one-variables, one-counts}
+use Rattle.counting.proofs.Laws.{counted, one-variables, one-counts}
 use Prim.Native.Nat.{ℕ, _<_}
 use borrow.Fn.Kinds.{In}
 use borrow.Fn.PlainCycle.{Measures, is, falls, and}

@@ -1,5 +1,5 @@
 -- `encoder::encode` meets its contract: the instance check decides, or the questions of the plan, or the valuation is written. Assumes nothing.
-use mathlib.Core.Path.{_≡_, sym, _∙_, ap, subst}
+use mathlib.Core.Path.{_≡_, _∙_, ap, subst}
 use mathlib.Core.List.{List}
 use Prim.Native.Nat.{ℕ, _≤_}
 use lib.ListN.{length}

@@ -1,4 +1,4 @@
--- `added_satisfaction::waiters_fault` meets its contract: each waiter before has a true literal. Assumes nothing.
+-- `added_satisfaction::chain_fault` meets its contract: each link before has a true literal. Assumes nothing.
 use mathlib.Core.List.{[], _∷_}
 use Prim.Native.Nat.{ℕ, _+_, _-_, _*_, _≤_, _<_}
 use native.Mathlib.Omega.{arith}
@@ -9,9 +9,9 @@ use lib.Dec.{T}
 use Rattle.answers.proofs.Faults.{holds, fails, fault-at, fault-none}
 use Rattle.valuation.specs.Valuation.{satisfied?}
 use Rattle.ceiling.specs.Tree.{on, off}
-use Rattle.added_satisfaction.proofs.Added.{waiters-fit, waiters-fault, waiters-size, waiters-most}
-use Rattle.added_satisfaction.proofs.waiters_fault.Statement.{statement}
-use Rattle.added_satisfaction.proofs.waiters_fault.Tie as tie
+use Rattle.added_satisfaction.proofs.Added.{chain-fit, chain-fault, chain-size, chain-most}
+use Rattle.added_satisfaction.proofs.chain_fault.Statement.{statement}
+use Rattle.added_satisfaction.proofs.chain_fault.Tie as tie
 
 abbrev Inv-loop : tie.InvT-loop
 Inv-loop entries k size first i₀ i = (i ≤ size) × ((j : ℕ) → j < i → T (satisfied? entries (off (first + j + k) ∷ on (first + j) ∷ [])))
@@ -20,7 +20,7 @@ abbrev μ-loop : tie.MeasureT-loop
 μ-loop entries k size first i₀ i = size - i
 
 most : (s : tie.Start Inv-loop μ-loop) → (s .args .s .m - 1) * s .args .s .k ≤ 512
-most s = waiters-most (s .args .s) (s .pre .0 .0)
+most s = chain-most (s .args .s) (s .pre .0 .0)
 
 mul-size : tie.Need-mul-size Inv-loop μ-loop
 mul-size c = omega (arith, most (c .before))
@@ -40,7 +40,7 @@ add-implies-3 c = omega (arith, most (c .before .before .before .before))
 implies-requires : tie.Need-implies-requires Inv-loop μ-loop
 implies-requires c κs =
     let s = c .before .before .before .before in
-    let fit = waiters-fit (s .args .s) (s .pre .0 .1) (c .before .loop .i) (c .loop-test .taken) in
+    let fit = chain-fit (s .args .s) (s .pre .0 .1) (c .before .loop .i) (c .loop-test .taken) in
     (s .pre .1 .0, ((omega arith, omega arith), (omega arith, omega arith)))
 
 returns : tie.Need-returns Inv-loop μ-loop
@@ -48,8 +48,8 @@ returns c =
     let s = c .before .before .before .before .before .before in
     let l = c .before .before .before .loop in
     let e = c .before .before .before .before .variable-count .ensures .0 in (
-      (waiters-size (s .args .s), most s),
-      waiters-fault (s .args .s) (s .args .entries .now) (l .i)
+      (chain-size (s .args .s), most s),
+      chain-fault (s .args .s) (s .args .entries .now) (l .i)
           (fault-at (c .before .before .loop-test .taken) (rw e at (l .inv .1)) (fails (rw e at (c .before .implies .ensures)) (not-true _ (c .if1 .taken)))),
     )
 
@@ -63,13 +63,13 @@ returns-2 : tie.Need-returns-2 Inv-loop μ-loop
 returns-2 c =
     let s = c .before .before .before .before in
     let l = c .before .loop in (
-      (waiters-size (s .args .s), most s),
-      waiters-fault (s .args .s) (s .args .entries .now) _
+      (chain-size (s .args .s), most s),
+      chain-fault (s .args .s) (s .args .entries .now) _
           (fault-none {r = l .i} (omega arith) (rw (c .before .before .variable-count .ensures .0) at (l .inv .1))),
     )
 
-pub waiters-fault-spec : {M : Type 1} → statement M
-waiters-fault-spec =
+pub chain-fault-spec : {M : Type 1} → statement M
+chain-fault-spec =
     tie.close
     (tie.spec
     Inv-loop

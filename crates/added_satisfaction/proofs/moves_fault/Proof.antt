@@ -1,4 +1,4 @@
--- `added_satisfaction::movers_fault` meets its contract: the agents of the bytes before keep their vertices, or their B are true. Assumes nothing.
+-- `added_satisfaction::moves_fault` meets its contract: the agents of the bytes before keep their vertices, or their B are true. Assumes nothing.
 use mathlib.Core.Bool.{_||_}
 use Prim.Native.Nat.{ℕ, _+_, _-_, _*_, _≤_, _<_}
 use native.Mathlib.Nat.{mul-le-mul-right}
@@ -11,9 +11,9 @@ use lib.Dec.{T, eqb}
 use Rattle.answers.proofs.Faults.{holds, fails}
 use Rattle.valuation.specs.Valuation.{true?}
 use Rattle.ceiling.specs.Tree.{on}
-use Rattle.added_satisfaction.proofs.Added.{movers-stop, movers-pass, movers-size, movers-most}
-use Rattle.added_satisfaction.proofs.movers_fault.Statement.{statement}
-use Rattle.added_satisfaction.proofs.movers_fault.Tie as tie
+use Rattle.added_satisfaction.proofs.Added.{moves-stop, moves-pass, moves-size, moves-most}
+use Rattle.added_satisfaction.proofs.moves_fault.Statement.{statement}
+use Rattle.added_satisfaction.proofs.moves_fault.Tie as tie
 
 abbrev Inv-loop : tie.InvT-loop
 Inv-loop entries p n k count size first i₀ i =
@@ -23,7 +23,7 @@ abbrev μ-loop : tie.MeasureT-loop
 μ-loop entries p n k count size first i₀ i = count - i
 
 most : (s : tie.Start Inv-loop μ-loop) → s .args .s .m * s .args .s .k * s .args .s .n ≤ 32768
-most s = movers-most (s .args .s) (s .pre .0)
+most s = moves-most (s .args .s) (s .pre .0)
 
 loop-holds : tie.Need-loop-holds Inv-loop μ-loop
 loop-holds c = (omega arith, below-none _)
@@ -39,9 +39,9 @@ returns c =
     let s = c .before .before .before .before .before .before .before .before .before in
     let l = c .before .before .before .before .before .loop in
     let e = c .before .before .before .before .before .before .variable-count .ensures .0 in (
-      (movers-size (s .args .s), most s),
+      (moves-size (s .args .s), most s),
       rw (c .wide .ensures .0)
-          (movers-stop (s .args .s) (s .args .entries .now) (s .args .p .now) (s .pre .1 .1 .1) (l .i) (c .before .before .before .before .loop-test .taken) (rw e at (l .inv .1))
+          (moves-stop (s .args .s) (s .args .entries .now) (s .args .p .now) (s .pre .1 .1 .1) (l .i) (c .before .before .before .before .loop-test .taken) (rw e at (l .inv .1))
           (fails (rw e at (c .before .before .before .keeps-or .ensures)) (not-true _ (c .before .before .if1 .taken)))),
     )
 
@@ -52,12 +52,12 @@ returns-2 : tie.Need-returns-2 Inv-loop μ-loop
 returns-2 c =
     let s = c .before .before .before .before .before in
     let l = c .before .loop in (
-      (movers-size (s .args .s), most s),
-      movers-pass (s .args .s) (s .args .entries .now) (s .args .p .now) (s .pre .1 .1 .1) (l .i) (omega arith) (rw (c .before .before .variable-count .ensures .0) at (l .inv .1)),
+      (moves-size (s .args .s), most s),
+      moves-pass (s .args .s) (s .args .entries .now) (s .args .p .now) (s .pre .1 .1 .1) (l .i) (omega arith) (rw (c .before .before .variable-count .ensures .0) at (l .inv .1)),
     )
 
-pub movers-fault-spec : {M : Type 1} → statement M
-movers-fault-spec =
+pub moves-fault-spec : {M : Type 1} → statement M
+moves-fault-spec =
     tie.close
     (tie.spec
     Inv-loop

@@ -1,4 +1,4 @@
--- `added_writer::write_waiters` meets its contract. The invariant: each turn has written its clause behind those before it. Assumes nothing.
+-- `added_writer::write_chain` meets its contract. The invariant: each turn has written its clause behind those before it. Assumes nothing.
 use mathlib.Core.Path.{_≡_, ap}
 use Prim.Native.Nat.{ℕ, _+_, _*_, _-_, _≤_}
 use native.Mathlib.Nat.{mul-le-mul}
@@ -9,10 +9,10 @@ use lib.ListN.{length-take, length-drop}
 use Rattle.lists.specs.Loop.{for, each}
 use Rattle.lists.proofs.Slices.{Filling, each-filling, filling-room, filling-next, each-filled}
 use Rattle.formula.specs.Formula.{line}
-use Rattle.ceiling.specs.Ceiling.{waiters}
-use Rattle.added_writer.proofs.Laws.{waiting, waiters-run}
-use Rattle.added_writer.proofs.write_waiters.Statement.{statement}
-use Rattle.added_writer.proofs.write_waiters.Tie as tie
+use Rattle.ceiling.specs.Ceiling.{chain}
+use Rattle.added_writer.proofs.Laws.{waiting, chain-run}
+use Rattle.added_writer.proofs.write_chain.Statement.{statement}
+use Rattle.added_writer.proofs.write_chain.Tie as tie
 
 abbrev Inv-loop : tie.InvT-loop
 Inv-loop f₀ k first end at₀ i₀ f at i = Filling (λ i. each line (waiting k first i)) end f₀ i at f
@@ -20,12 +20,12 @@ Inv-loop f₀ k first end at₀ i₀ f at i = Filling (λ i. each line (waiting 
 abbrev μ-loop : tie.MeasureT-loop
 μ-loop f₀ k first end at₀ i₀ f at i = end - i
 
--- how many waiters there are
+-- how many chain there are
 few : (c : tie.Start Inv-loop μ-loop) → (c .args .s .m - 1) * c .args .s .k ≤ 512
 few c = mul-le-mul {n₂ = 32} {m₂ = 16} (omega (arith, c .pre .0 .m-most)) (c .pre .0 .k-most)
 
-run : (c : tie.After-variable-count Inv-loop μ-loop) → waiters (c .before .args .s) ≡ for ((c .before .args .s .m - 1) * c .before .args .s .k) (waiting (c .before .args .s .k) (c .variable-count .result + 1))
-run c = waiters-run (c .before .args .s) (ap (λ (x : ℕ). x + 1) (c .variable-count .ensures .0))
+run : (c : tie.After-variable-count Inv-loop μ-loop) → chain (c .before .args .s) ≡ for ((c .before .args .s .m - 1) * c .before .args .s .k) (waiting (c .before .args .s .k) (c .variable-count .result + 1))
+run c = chain-run (c .before .args .s) (ap (λ (x : ℕ). x + 1) (c .variable-count .ensures .0))
 
 mul-end : tie.Need-mul-end Inv-loop μ-loop
 mul-end c = omega (arith, few (c .before .before))
@@ -65,8 +65,8 @@ add-i c = omega (arith, few (c .before .before .before .before .before .before .
 returns : tie.Need-returns Inv-loop μ-loop
 returns c = rw (run (c .before .before .before)) (each-filled line (waiting (c .before .before .before .before .args .s .k) (c .before .before .before .variable-count .result + 1)) (c .before .loop .inv) (omega arith))
 
-pub write-waiters-spec : {M : Type 1} → statement M
-write-waiters-spec =
+pub write-chain-spec : {M : Type 1} → statement M
+write-chain-spec =
     tie.close
     (tie.spec
     Inv-loop

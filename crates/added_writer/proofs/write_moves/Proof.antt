@@ -1,4 +1,4 @@
--- `added_writer::write_movers` meets its contract. The invariant: each turn has written its clauses behind those before it. Assumes nothing.
+-- `added_writer::write_moves` meets its contract. The invariant: each turn has written its clauses behind those before it. Assumes nothing.
 use Prim.Native.Nat.{_-_}
 use native.Mathlib.Omega.{arith}
 use borrow.Author.Needs.{needs}
@@ -6,20 +6,20 @@ use lib.ListN.{length-take, length-drop}
 use Rattle.lists.specs.Loop.{each}
 use Rattle.lists.proofs.Slices.{Filling, each-filling, filling-room, filling-next, each-filled}
 use Rattle.formula.specs.Formula.{line}
-use Rattle.ceiling.specs.Ceiling.{movers}
-use Rattle.added_writer.specs.Movers.{stepMovers}
-use Rattle.added_writer.proofs.write_movers.Statement.{statement}
-use Rattle.added_writer.proofs.write_movers.Tie as tie
+use Rattle.ceiling.specs.Ceiling.{moves}
+use Rattle.added_writer.specs.Moves.{stepMoves}
+use Rattle.added_writer.proofs.write_moves.Statement.{statement}
+use Rattle.added_writer.proofs.write_moves.Tie as tie
 
 abbrev Inv-loop : tie.InvT-loop
-Inv-loop f₀ s m at₀ t₀ f at t = Filling (λ t. each line (stepMovers s t)) m f₀ t at f
+Inv-loop f₀ s m at₀ t₀ f at t = Filling (λ t. each line (stepMoves s t)) m f₀ t at f
 
 abbrev μ-loop : tie.MeasureT-loop
 μ-loop f₀ s m at₀ t₀ f at t = m - t
 
 loop-holds : tie.Need-loop-holds Inv-loop μ-loop
-unfolding movers
-loop-holds c = each-filling line (stepMovers (c .args .s)) (c .pre .1)
+unfolding moves
+loop-holds c = each-filling line (stepMoves (c .args .s)) (c .pre .1)
 
 write-step-requires : tie.Need-write-step-requires Inv-loop μ-loop
 write-step-requires c κs = simp (length-take, length-drop) (let r = filling-room (c .before .before .loop .inv) (c .before .loop-test .taken) in search needs)
@@ -31,11 +31,11 @@ add-at : tie.Need-add-at Inv-loop μ-loop
 add-at c = let q = loop-again c .fits in omega arith
 
 returns : tie.Need-returns Inv-loop μ-loop
-unfolding movers
-returns c = each-filled line (stepMovers (c .before .before .args .s)) (c .before .loop .inv) (omega arith)
+unfolding moves
+returns c = each-filled line (stepMoves (c .before .before .args .s)) (c .before .loop .inv) (omega arith)
 
-pub write-movers-spec : {M : Type 1} → statement M
-write-movers-spec =
+pub write-moves-spec : {M : Type 1} → statement M
+write-moves-spec =
     tie.close
     (tie.spec
     Inv-loop
