@@ -2,12 +2,13 @@
 use mathlib.Core.Path.{_≡_, sym, _∙_, ap, subst}
 use mathlib.Core.Logic.{_↔_, ⊎-elim}
 use mathlib.Core.List.{List, [], _∷_}
+use mathlib.Core.Bool.{not, _||_}
 use Prim.Native.Nat.{ℕ, suc, _-_, _≤_}
 use native.Mathlib.Omega.{arith}
 use lib.ListN.{length, getD}
 use lib.Dec.{T}
 use lib.IntN.{ℤ, pos}
-use Rattle.lists.proofs.Tests.{T-ext}
+use Rattle.lists.proofs.Tests.{T-ext, or-imp, not-iff}
 use Rattle.lists.proofs.Loops.{any-two}
 use Rattle.valuation.specs.Valuation.{sameNumber, true?, satisfied?}
 use Rattle.valuation.specs.Satisfying.{Valuation}
@@ -41,3 +42,9 @@ module _ (es : List ℤ) (w : Valuation (length es) es) (z : ℕ) (p : 1 ≤ z) 
         (λ t y. two .0 t (λ n. off-iff .0 n y)),
         (λ h. two .1 (λ f. h (⊎-elim (λ y. y) (λ n. absurd (f (off-iff .1 n))) (one-of (true? es (on z)) .0)))),
       )
+
+  pub says-or : (u : ℕ) → not (true? es (on z)) || true? es (on u) ≡ satisfied? es (off z ∷ on u ∷ [])
+  says-or u =
+      T-ext (not (true? es (on z)) || true? es (on u)) (satisfied? es (off z ∷ on u ∷ []))
+      ((λ t. two-iff u .1 (λ y. or-imp (not (true? es (on z))) _ .0 t (λ n. not-iff (true? es (on z)) .0 n y))),
+       (λ t. or-imp (not (true? es (on z))) _ .1 (λ n. two-iff u .0 t (⊎-elim (λ y. y) (λ f. absurd (n (not-iff (true? es (on z)) .1 f))) (one-of (true? es (on z)) .0)))))

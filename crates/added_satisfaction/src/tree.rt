@@ -2,9 +2,12 @@
 use satisfaction::Part;
 use variables::Variable;
 ghost use mathlib.Core.Path.{_≡_};
+ghost use mathlib.Core.Bool.{true, not};
 ghost use mathlib.Core.List.{[], _∷_};
-ghost use Prim.Native.Nat.{_+_, _-_, _*_, _/_, _≤_, _<_, min};
+ghost use Prim.Native.Nat.{ℕ, _+_, _-_, _*_, _/_, _≤_, _<_, min};
+ghost use lib.Dec.{T};
 ghost use lib.ListN.{length};
+ghost use Rattle.lists.specs.Loop.{every};
 ghost use Rattle.answers.specs.Fault.{FirstFault};
 ghost use Rattle.valuation.specs.Valuation.{true?, satisfied?};
 ghost use Rattle.satisfaction.specs.Rows.{Fault, Stop};
@@ -49,10 +52,55 @@ pub fn implies(entries: &[i32], z: usize, w: usize) -> bool
     requires { ⌜ (1 ≤ w) × (w ≤ length (now entries)) ⌝ }
     ensures { λ r. ⌜ r ≡ satisfied? (now (entries .entry)) (off z ∷ on w ∷ []) ⌝ }
 {
-    if is_true(entries, z) {
-        return is_true(entries, w);
+    !is_true(entries, z) | is_true(entries, w)
+}
+
+// Is each of the n variables after w true where that of the n after z is? The loop has one way out, so that the compiler may take several
+// at once.
+fn all_imply(entries: &[i32], z: usize, w: usize, n: usize) -> bool
+    requires { ⌜ Assigned (now entries) ⌝ }
+    requires { ⌜ (z + n ≤ length (now entries)) × (w + n ≤ length (now entries)) ⌝ }
+    ensures { λ r. ⌜ r ≡ every n (λ j. satisfied? (now (entries .entry)) (off (z + (j + 1)) ∷ on (w + (j + 1)) ∷ [])) ⌝ }
+{
+    let mut all = true;
+    for j in 0..n {
+        all = all & implies(entries, z + (j + 1), w + (j + 1));
     }
-    true
+    all
+}
+
+// Is none of the n variables after z true? A loop of the same form.
+fn none_true(entries: &[i32], z: usize, n: usize) -> bool
+    requires { ⌜ Assigned (now entries) ⌝ }
+    requires { ⌜ z + n ≤ length (now entries) ⌝ }
+    ensures { λ r. ⌜ r ≡ every n (λ j. not (true? (now (entries .entry)) (on (z + (j + 1))))) ⌝ }
+{
+    let mut none = true;
+    for j in 0..n {
+        none = none & !is_true(entries, z + (j + 1));
+    }
+    none
+}
+
+// Row i of a node from j = 1 on: has each clause a true literal? Up to i + j = c + 1 the outputs stand one after another, beyond it there
+// is that one.
+fn row_holds(entries: &[i32], d: Node, i: usize) -> bool
+    requires { ⌜ Assigned (now entries) ⌝ }
+    requires { ⌜ Within (now entries) d × (i ≤ d .a) ⌝ }
+    ensures { λ r. ⌜ (r ≡ true → (j : ℕ) → 1 ≤ j → j < d .b + 1 → T (satisfied? (now (entries .entry)) (off (d .q + j) ∷ on (d .o + min (i + j) (d .c + 1)) ∷ []))) ⌝ }
+{
+    let most = d.c + 1;
+    let near = counting::smaller(d.b, most - i);
+    if !all_imply(entries, d.q, d.o + i, near) {
+        return false;
+    }
+    if near == d.b {
+        return true;
+    }
+    if is_true(entries, d.o + most) {
+        return true;
+    }
+    none_true(entries, d.q + near, d.b - near)
 }
 
 // Row i of a node from j = 1 on: the first j that is reached on the right, with the node's output for i and j false; or b + 1.
@@ -62,6 +110,9 @@ fn rest_of_row(entries: &[i32], d: Node, i: usize) -> usize
     ensures { λ r. ⌜ Stop (λ j. satisfied? (now (entries .entry)) (off (d .q + j) ∷ on (d .o + min (i + j) (d .c + 1)) ∷ [])) 1 (d .b + 1) r ⌝ }
 {
     let end = d.b + 1;
+    if row_holds(entries, d, i) {
+        return end;
+    }
     let most = d.c + 1;
     for j in 1..end {
         if !implies(entries, d.q + j, d.o + counting::smaller(i + j, most)) {

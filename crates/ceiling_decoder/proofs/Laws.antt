@@ -3,6 +3,7 @@ use mathlib.Core.Path.{_≡_, refl, sym, _∙_, ap, subst}
 use mathlib.Core.Logic.{by-cases}
 use mathlib.Core.List.{List}
 use Prim.Native.Nat.{ℕ, _+_, _≤_, _<_}
+use native.Mathlib.Nat.{le-refl}
 use native.Mathlib.Decide.{decLt}
 use native.Mathlib.Omega.{arith}
 use lib.ListN.{length, take}
@@ -47,6 +48,14 @@ module _ (es : List ℤ) (N : ℕ) where
         within = st .within;
         before = λ i q. by-cases (decLt i N) (λ o. subst T (right-first i o) (f .before i (omega arith))) (λ o. st .before i (omega arith) q);
         here = st .here;
+      }
+
+  pub fault-none : (r : ℕ) → FirstFault N (rightEntry (take N es)) r → N ≤ r → ((i : ℕ) → N ≤ i → i < length es → T (rightEntry es i)) → FirstFault (length es) (rightEntry es) (length es)
+  fault-none r f h g =
+      record {
+        within = le-refl (length es);
+        before = λ i q. by-cases (decLt i N) (λ o. subst T (right-first i o) (f .before i (omega arith))) (λ o. g i (omega arith) q);
+        here = λ q t. omega arith;
       }
 
 -- where none is wrong, they are a valuation

@@ -2,8 +2,10 @@
 // formula's entries stand first, and its clauses are asked of them alone; what the ceiling adds comes behind.
 use answers::Answer;
 use instance::Sizes;
+use variables::Variable;
 ghost use mathlib.Core.Path.{_≡_};
-ghost use Prim.Native.Nat.{_≤_};
+ghost use Prim.Native.Nat.{ℕ, _≤_, _<_};
+ghost use lib.Dec.{T};
 ghost use lib.ListN.{length, take};
 ghost use Rattle.answers.specs.Answers.{decide};
 ghost use Rattle.answers.specs.Fault.{FirstFault};
@@ -21,6 +23,20 @@ ghost use Rattle.ceiling_decoder.specs.Shown.{Shown};
 ghost use Rattle.calls.specs.Calls.{decodeRest};
 ghost use Rattle.calls.specs.Ceiling.{ceilingDecodeAnswer, ceilingDecodeSlice};
 
+// Is each entry from `low` on its variable or its negative? The loop has one way out, so that the compiler may take several at once.
+fn all_right(entries: &[i32], low: usize) -> bool
+    requires { ⌜ (low ≤ length (now entries)) × (length (now entries) ≤ 38912) ⌝ }
+    ensures { λ r. ⌜ (T r → (i : ℕ) → low ≤ i → i < length (now (entries .entry)) → T (rightEntry (now (entries .entry)) i)) ⌝ }
+{
+    let end = entries.len();
+    let mut all = true;
+    for i in low..end {
+        let e = entries[i];
+        all = all & variables::is_entry(e, Variable(i + 1));
+    }
+    all
+}
+
 // The first wrong entry of all, or their number. Where none is wrong, `vertices` is left with the vertex of each time and agent.
 fn entry_fault(vertices: &mut [u8], entries: &[i32], s: Sizes) -> usize
     requires { ⌜ Limits s ⌝ }
@@ -33,6 +49,9 @@ fn entry_fault(vertices: &mut [u8], entries: &[i32], s: Sizes) -> usize
     let wrong = satisfaction::read_entries(vertices, &entries[0..count], s);
     if wrong < count {
         return wrong;
+    }
+    if all_right(entries, count) {
+        return entries.len();
     }
     satisfaction::stop_from(entries, count, entries.len(), true)
 }

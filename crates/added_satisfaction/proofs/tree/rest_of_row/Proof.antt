@@ -1,8 +1,9 @@
--- `added_satisfaction::tree::rest_of_row` meets its contract: each j from 1 to the loop's passes. Assumes nothing.
+-- `added_satisfaction::tree::rest_of_row` meets its contract: the whole row holds, or each j from 1 to the loop's passes. Assumes nothing.
 use Prim.Native.Nat.{ℕ, _+_, _-_, _≤_, _<_, min}
 use native.Mathlib.Omega.{arith}
 use borrow.Author.Needs.{needs}
 use borrow.Author.Tests.{not-true, not-false}
+use mathlib.Core.Path.{refl}
 use mathlib.Core.Bool.{Bool}
 use mathlib.Core.List.{List, [], _∷_}
 use lib.Dec.{T}
@@ -25,31 +26,27 @@ Inv-loop entries d i end most j₀ j = (1 ≤ j) × (j ≤ end) × ((h : ℕ) �
 abbrev μ-loop : tie.MeasureT-loop
 μ-loop entries d i end most j₀ j = end - j
 
+returns : tie.Need-returns Inv-loop μ-loop
+returns c = stop-none (test (c .before .before .before .args .entries .now) (c .before .before .before .args .d) (c .before .before .before .args .i)) 1 (c .before .before .before .args .d .b + 1) (c .before .before .before .args .d .b + 1) (c .before .row-holds .ensures (c .if1 .taken)) (omega arith) refl
+
 loop-holds : tie.Need-loop-holds Inv-loop μ-loop
 loop-holds c = (omega arith, omega arith, λ j h l. absurd (let f : ⊥ = omega arith in f))
 
-returns : tie.Need-returns Inv-loop μ-loop
-returns c =
-    let s = c .before .before .before .before .before .before .before .before .before in
-    let l = c .before .before .before .before .before .before .loop in
-    stop-at (test (s .args .entries .now) (s .args .d) (s .args .i)) 1 (s .args .d .b + 1) (l .j) (l .inv .2) (l .inv .0) (c .before .before .before .before .before .loop-test .taken)
-    (fails (rw (c .before .before .before .smaller .ensures) at (c .before .implies .ensures)) (not-true _ (c .if1 .taken)))
-
-loop-again : tie.Need-loop-again Inv-loop μ-loop
-loop-again c =
-    let s = c .before .before .before .before .before .before .before .before .before in
-    let l = c .before .before .before .before .before .before .loop in (
-      omega arith,
-      omega arith,
-      stop-more (test (s .args .entries .now) (s .args .d) (s .args .i)) 1 (s .args .d .b + 1) (l .j) (l .inv .2)
-          (holds (rw (c .before .before .before .smaller .ensures) at (c .before .implies .ensures)) (not-false _ (c .if1 .left))),
-    )
-
 returns-2 : tie.Need-returns-2 Inv-loop μ-loop
 returns-2 c =
-    let s = c .before .before .before .before in
-    let l = c .before .loop in
-    stop-none (test (s .args .entries .now) (s .args .d) (s .args .i)) 1 (s .args .d .b + 1) (l .j) (l .inv .2) (l .inv .0) (omega arith)
+    stop-at (test (c .before .before .before .before .before .before .before .before .before .before .before .args .entries .now) (c .before .before .before .before .before .before .before .before .before .before .before .args .d) (c .before .before .before .before .before .before .before .before .before .before .before .args .i)) 1 (c .before .before .before .before .before .before .before .before .before .before .before .args .d .b + 1) (c .before .before .before .before .before .before .loop .j) (c .before .before .before .before .before .before .loop .inv .2) (c .before .before .before .before .before .before .loop .inv .0) (c .before .before .before .before .before .loop-test .taken)
+    (fails (rw (c .before .before .before .smaller .ensures) at (c .before .implies .ensures)) (not-true _ (c .if2 .taken)))
+
+loop-again : tie.Need-loop-again Inv-loop μ-loop
+loop-again c = (
+  omega arith,
+  omega arith,
+  stop-more (test (c .before .before .before .before .before .before .before .before .before .before .before .args .entries .now) (c .before .before .before .before .before .before .before .before .before .before .before .args .d) (c .before .before .before .before .before .before .before .before .before .before .before .args .i)) 1 (c .before .before .before .before .before .before .before .before .before .before .before .args .d .b + 1) (c .before .before .before .before .before .before .loop .j) (c .before .before .before .before .before .before .loop .inv .2)
+      (holds (rw (c .before .before .before .smaller .ensures) at (c .before .implies .ensures)) (not-false _ (c .if2 .left))),
+)
+
+returns-3 : tie.Need-returns-3 Inv-loop μ-loop
+returns-3 c = stop-none (test (c .before .before .before .before .before .before .args .entries .now) (c .before .before .before .before .before .before .args .d) (c .before .before .before .before .before .before .args .i)) 1 (c .before .before .before .before .before .before .args .d .b + 1) (c .before .loop .j) (c .before .loop .inv .2) (c .before .loop .inv .0) (omega arith)
 
 pub rest-of-row-spec : {M : Type 1} → statement M
 rest-of-row-spec =
@@ -58,6 +55,8 @@ rest-of-row-spec =
     Inv-loop
     μ-loop
     (λ c. search needs)
+    (λ c κs. search needs)
+    returns
     (λ c. search needs)
     loop-holds
     (λ c. search needs)
@@ -65,8 +64,8 @@ rest-of-row-spec =
     (λ c κs. search needs)
     (λ c. search needs)
     (λ c κs. search needs)
-    returns
+    returns-2
     (λ c. search needs)
     (λ c. search needs)
     loop-again
-    returns-2)
+    returns-3)
