@@ -45,6 +45,7 @@ module _ (es : List ℤ) (w : Valuation (length es) es) (z : ℕ) (p : 1 ≤ z) 
 
   pub says-or : (u : ℕ) → not (true? es (on z)) || true? es (on u) ≡ satisfied? es (off z ∷ on u ∷ [])
   says-or u =
-      T-ext (not (true? es (on z)) || true? es (on u)) (satisfied? es (off z ∷ on u ∷ []))
-      ((λ t. two-iff u .1 (λ y. or-imp (not (true? es (on z))) _ .0 t (λ n. not-iff (true? es (on z)) .0 n y))),
-       (λ t. or-imp (not (true? es (on z))) _ .1 (λ n. two-iff u .0 t (⊎-elim (λ y. y) (λ f. absurd (n (not-iff (true? es (on z)) .1 f))) (one-of (true? es (on z)) .0)))))
+      T-ext (not (true? es (on z)) || true? es (on u)) (satisfied? es (off z ∷ on u ∷ [])) (
+        (λ t. two-iff u .1 (λ y. or-imp (not (true? es (on z))) _ .0 t (λ n. not-iff (true? es (on z)) .0 n y))),
+        (λ t. or-imp (not (true? es (on z))) _ .1 (λ n. two-iff u .0 t (⊎-elim (λ y. y) (λ f. absurd (n (not-iff (true? es (on z)) .1 f))) (one-of (true? es (on z)) .0)))),
+      )

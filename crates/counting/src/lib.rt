@@ -1,6 +1,6 @@
 // The counting tree's sizes, by recursion as the tree is, and where its outputs stand.
 ghost use mathlib.Core.Path.{_≡_};
-ghost use Prim.Native.Nat.{_+_, _≤_, min};
+ghost use Prim.Native.Nat.{_+_, _-_, _/_, _≤_, min};
 ghost use Rattle.counting.specs.Over.{variablesOver, clauseCountOver, wordCountOver, beforeOutputs};
 
 // Variables, clauses and words, as counts.
@@ -30,6 +30,25 @@ pub fn before_outputs(c: usize, l: usize, x: usize, next: usize) -> usize
     next - smaller(l, c + 1)
 }
 
+// The tree over l inputs, from its two subtrees.
+fn joined(c: usize, l: usize, left: Counts, right: Counts) -> Counts
+    requires { ⌜ (c ≤ 128) × (2 ≤ l) × (l ≤ 512) ⌝ }
+    requires { ⌜ (left .variables ≡ variablesOver c (l / 2)) × (left .clauses ≡ clauseCountOver c (l / 2)) × (left .words ≡ wordCountOver c (l / 2)) ⌝ }
+    requires { ⌜ (right .variables ≡ variablesOver c (l - l / 2)) × (right .clauses ≡ clauseCountOver c (l - l / 2)) × (right .words ≡ wordCountOver c (l - l / 2)) ⌝ }
+    ensures { λ r. ⌜ (r .variables ≡ variablesOver c l) × (r .clauses ≡ clauseCountOver c l) × (r .words ≡ wordCountOver c l) ⌝ }
+{
+    let half = l / 2;
+    let most = c + 1;
+    let a = smaller(half, most);
+    let b = smaller(l - half, most);
+    let own = smaller(l, most);
+    Counts {
+        variables: left.variables + right.variables + own,
+        clauses: left.clauses + right.clauses + ((a + 1) * (b + 1) - 1),
+        words: left.words + right.words + (3 * (a + b) + 4 * (a * b)),
+    }
+}
+
 // The tree over l inputs.
 pub fn tree_size(c: usize, l: usize) -> Counts
     requires { ⌜ (c ≤ 128) × (1 ≤ l) × (l ≤ 512) ⌝ }
@@ -45,11 +64,5 @@ pub fn tree_size(c: usize, l: usize) -> Counts
     let half = l / 2;
     let left = tree_size(c, half);
     let right = tree_size(c, l - half);
-    let a = smaller(half, c + 1);
-    let b = smaller(l - half, c + 1);
-    Counts {
-        variables: left.variables + right.variables + smaller(l, c + 1),
-        clauses: left.clauses + right.clauses + ((a + 1) * (b + 1) - 1),
-        words: left.words + right.words + (3 * (a + b) + 4 * (a * b)),
-    }
+    joined(c, l, left, right)
 }

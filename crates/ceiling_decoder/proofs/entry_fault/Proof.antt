@@ -49,10 +49,13 @@ same-length-2 c = c .before .before .before .before .before .read-entries .ensur
 returns-2 : tie.Need-returns-2
 returns-2 c =
     let l = c .before .before .before .before .before .before .before .before .variable-count .ensures .0 in
-    let h : variableCount (c .before .before .before .before .before .before .before .before .before .before .args .s) ≤ c .before .before .before .before .before .read-entries .result = omega (arith, c .before .before .if1 .left) in
-    (fault-none (c .before .before .before .before .before .before .before .before .before .before .args .entries .now) (variableCount (c .before .before .before .before .before .before .before .before .before .before .args .s)) (c .before .before .before .before .before .read-entries .result) (first (c .before .before .before .before .before)) h (λ i q r. c .before .all-right .ensures (subst T (sym (c .if2 .taken)) tt) i (omega arith) r),
-     (c .before .before .before .before .before .read-entries .ensures .1 .0,
-      λ q. subst (λ (x : ℕ). Read (c .before .before .before .before .before .before .before .before .before .before .args .s) (take x (c .before .before .before .before .before .before .before .before .before .before .args .entries .now)) (take (planBytes (c .before .before .before .before .before .before .before .before .before .before .args .s)) (c .before .before .before .before .before .read-entries .last .0))) (lent-first (c .before .before .before .before .before .before .before .before)) (c .before .before .before .before .before .read-entries .ensures .1 .1 h)))
+    let h : variableCount (c .before .before .before .before .before .before .before .before .before .before .args .s) ≤ c .before .before .before .before .before .read-entries .result = omega (arith, c .before .before .if1 .left) in (
+      fault-none (c .before .before .before .before .before .before .before .before .before .before .args .entries .now) (variableCount (c .before .before .before .before .before .before .before .before .before .before .args .s)) (c .before .before .before .before .before .read-entries .result) (first (c .before .before .before .before .before)) h (λ i q r. c .before .all-right .ensures (subst T (sym (c .if2 .taken)) tt) i (omega arith) r),
+      (
+        c .before .before .before .before .before .read-entries .ensures .1 .0,
+        λ q. subst (λ (x : ℕ). Read (c .before .before .before .before .before .before .before .before .before .before .args .s) (take x (c .before .before .before .before .before .before .before .before .before .before .args .entries .now)) (take (planBytes (c .before .before .before .before .before .before .before .before .before .before .args .s)) (c .before .before .before .before .before .read-entries .last .0))) (lent-first (c .before .before .before .before .before .before .before .before)) (c .before .before .before .before .before .read-entries .ensures .1 .1 h),
+      ),
+    )
 
 stop-from-requires : tie.Need-stop-from-requires
 stop-from-requires c κs = search needs
