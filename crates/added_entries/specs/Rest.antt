@@ -1,6 +1,6 @@
--- The entries by an array of the agents' times until rest, as the code goes.
+-- The entries by the agents' times until rest and marks of the inputs, as the code goes.
 use mathlib.Core.List.{List, [], _∷_}
-use mathlib.Core.Bool.{Bool}
+use mathlib.Core.Bool.{Bool, cond}
 use Prim.Native.Nat.{ℕ, suc, _+_, _-_, _/_, _%_}
 use lib.ListN.{getD}
 use lib.Dec.{ltb}
@@ -18,10 +18,17 @@ restTimes s p = for (s .k) λ a. restTime (s .m) (planRow s p) a ∷ []
 abbrev pub entriesOf : (ℕ → Bool) → ℕ → ℕ → List ℤ
 entriesOf g n y = for n λ j. entryOf (g j) (y + suc j) ∷ []
 
-module _ (rest : List ℕ) (k : ℕ) where
-  -- input i, which is B(i / k, i % k), is true
+-- the mark of input i, which is B(i / k, i % k), 1 where it is true; and those of l inputs
+abbrev pub mark : List ℕ → ℕ → ℕ → ℕ
+mark rest k i = cond (ltb (i / k) (getD rest (i % k) 0)) 1 0
+
+abbrev pub marksOf : List ℕ → ℕ → ℕ → List ℕ
+marksOf rest k l = for l λ i. mark rest k i ∷ []
+
+module _ (marks : List ℕ) where
+  -- input i is true
   unfoldable pub busyIn : ℕ → Bool
-  busyIn i = ltb (i / k) (getD rest (i % k) 0)
+  busyIn i = ltb 0 (getD marks i 0)
 
   -- The tree over the l inputs from x on, its own variables after y: their entries, and how many inputs are true. Input i has the
   -- number i + 1 here.

@@ -3,7 +3,7 @@ use instance::Sizes;
 use variables::Variable;
 ghost use mathlib.Core.Path.{_≡_};
 ghost use mathlib.Core.List.{_++_};
-ghost use Prim.Native.Nat.{_+_, _≤_, min};
+ghost use Prim.Native.Nat.{_+_, _≤_, _<_, min};
 ghost use lib.Dec.{ltb};
 ghost use lib.ListN.{length, take, replicate};
 ghost use Rattle.lists.specs.Slice.{filled, Wrote};
@@ -14,7 +14,7 @@ ghost use Rattle.ceiling.specs.Tree.{entryOf};
 ghost use Rattle.ceiling.specs.Ceiling.{addedVariables};
 ghost use Rattle.ceiling.specs.Encoded.{busyEntries, counterEntries};
 ghost use Rattle.counting.specs.Over.{variablesOver};
-ghost use Rattle.added_entries.specs.Rest.{restTimes, busyIn, entriesOf, entriesOver, countOver};
+ghost use Rattle.added_entries.specs.Rest.{restTimes, marksOf, busyIn, entriesOf, entriesOver, countOver};
 
 // The entries of a tree's own variables that were written, and how many of its inputs are true.
 struct Counted {
@@ -37,12 +37,31 @@ fn rest_times(s: Sizes, p: &[u8]) -> [u8; 16]
     rest
 }
 
-// Is input i true: is its agent not yet at rest at its time?
-fn is_busy(rest: &[u8; 16], k: usize, i: usize) -> bool
-    requires { ⌜ (1 ≤ k) × (k ≤ 16) ⌝ }
-    ensures { λ r. ⌜ r ≡ busyIn (now (rest .entry)) k i ⌝ }
+// Of each of l inputs, 1 where its agent is not yet at rest at its time. They stand time by time, k agents each.
+fn marks_of(rest: &[u8; 16], k: usize, l: usize) -> [u8; 512]
+    requires { ⌜ (1 ≤ k) × (k ≤ 16) × (l ≤ 512) ⌝ }
+    ensures { λ r. ⌜ r ≡ filled (marksOf (now (rest .entry)) k l) (replicate 512 0) ⌝ }
 {
-    i / k < numbers::wide(rest[i % k])
+    let mut marks = [0u8; 512];
+    let mut t: usize = 0;
+    let mut a: usize = 0;
+    for i in 0..l {
+        marks[i] = (t < numbers::wide(rest[a])) as u8;
+        a += 1;
+        if a == k {
+            a = 0;
+            t += 1;
+        }
+    }
+    marks
+}
+
+// Is input i true?
+fn is_busy(marks: &[u8; 512], i: usize) -> bool
+    requires { ⌜ i < 512 ⌝ }
+    ensures { λ r. ⌜ r ≡ busyIn (now (marks .entry)) i ⌝ }
+{
+    0 < marks[i]
 }
 
 // A variable's entry.
@@ -57,13 +76,13 @@ fn entry_of(b: bool, x: Variable) -> i32
 }
 
 // The l inputs, which are the variables after x.
-fn write_inputs(z: &mut [i32], rest: &[u8; 16], k: usize, l: usize, x: usize)
-    requires { ⌜ (1 ≤ k) × (k ≤ 16) ⌝ }
+fn write_inputs(z: &mut [i32], marks: &[u8; 512], l: usize, x: usize)
+    requires { ⌜ l ≤ 512 ⌝ }
     requires { ⌜ (x + l ≤ highest) × (l ≤ length (now z)) ⌝ }
-    ensures { λ _. ⌜ now (z .exit) ≡ filled (entriesOf (busyIn (now (rest .entry)) k) l x) (now (z .entry)) ⌝ }
+    ensures { λ _. ⌜ now (z .exit) ≡ filled (entriesOf (busyIn (now (marks .entry))) l x) (now (z .entry)) ⌝ }
 {
     for i in 0..l {
-        z[i] = entry_of(is_busy(rest, k, i), Variable(x + (i + 1)));
+        z[i] = entry_of(is_busy(marks, i), Variable(x + (i + 1)));
     }
 }
 
@@ -95,30 +114,21 @@ fn write_node(z: &mut [i32], c: usize, l: usize, y: usize, left: Counted, right:
 }
 
 // The tree over the l inputs from x on, its own variables after y.
-fn write_tree(
-    z: &mut [i32],
-    rest: &[u8; 16],
-    k: usize,
-    c: usize,
-    l: usize,
-    x: usize,
-    y: usize,
-) -> Counted
-    requires { ⌜ (1 ≤ k) × (k ≤ 16) ⌝ }
-    requires { ⌜ (c ≤ 128) × (1 ≤ l) × (x + l ≤ highest) × (y + variablesOver c l ≤ highest) × (variablesOver c l ≤ length (now z)) ⌝ }
-    ensures { λ r. ⌜ r .count ≡ countOver (now (rest .entry)) k l x ⌝ }
-    ensures { λ r. ⌜ Wrote (entriesOver (now (rest .entry)) k c l x y) (now (z .entry)) (now (z .exit)) (r .entries) ⌝ }
+fn write_tree(z: &mut [i32], marks: &[u8; 512], c: usize, l: usize, x: usize, y: usize) -> Counted
+    requires { ⌜ (c ≤ 128) × (1 ≤ l) × (x + l ≤ 512) × (y + variablesOver c l ≤ highest) × (variablesOver c l ≤ length (now z)) ⌝ }
+    ensures { λ r. ⌜ r .count ≡ countOver (now (marks .entry)) l x ⌝ }
+    ensures { λ r. ⌜ Wrote (entriesOver (now (marks .entry)) c l x y) (now (z .entry)) (now (z .exit)) (r .entries) ⌝ }
 {
     if l < 2 {
         return Counted {
             entries: 0,
-            count: is_busy(rest, k, x) as usize,
+            count: is_busy(marks, x) as usize,
         };
     }
     let half = l / 2;
-    let left = write_tree(z, rest, k, c, half, x, y);
+    let left = write_tree(z, marks, c, half, x, y);
     let at = left.entries;
-    let right = write_tree(&mut z[at..], rest, k, c, l - half, x + half, y + at);
+    let right = write_tree(&mut z[at..], marks, c, l - half, x + half, y + at);
     write_node(z, c, l, y, left, right)
 }
 
@@ -136,6 +146,7 @@ pub fn write_added(z: &mut [i32], s: Sizes, c: usize, p: &[u8])
     }
     let n = counts::variable_count(s);
     let rest = rest_times(s, p);
-    write_inputs(z, &rest, k, l, n);
-    write_tree(&mut z[l..], &rest, k, c, l, 0, n + l);
+    let marks = marks_of(&rest, k, l);
+    write_inputs(z, &marks, l, n);
+    write_tree(&mut z[l..], &marks, c, l, 0, n + l);
 }

@@ -1,19 +1,23 @@
 -- The conditions as the code tests them.
-use mathlib.Core.Path.{_≡_, refl, ap}
+use mathlib.Core.Path.{_≡_, refl, ap, _∙_}
 use mathlib.Core.Logic.{_≢_}
-use mathlib.Core.Bool.{Bool, true, not, _&&_}
-use Prim.Native.Nat.{ℕ, zero, suc, _+_}
-use native.Mathlib.Nat.{zero-add}
+use mathlib.Core.Bool.{Bool, true, false, not, _&&_, _||_}
+use Prim.Native.Nat.{ℕ, zero, suc, _+_, _^_}
+use native.Mathlib.Numerals.{add-one}
 use borrow.Author.Tests.{eq-eqb, ne-eqb}
 use lib.Dec.{eqb}
+use lib.Bits.{bitOr}
+use Rattle.bits.specs.Bits.{set?}
+use Rattle.bits.proofs.Bits.{bit-zero, set-or, set-pow}
 use Rattle.answers.specs.Fault.{FirstFault}
-use Rattle.answers.proofs.Faults.{fault-ext, fault-every}
+use Rattle.answers.proofs.Faults.{fault-every}
 use Rattle.instance.specs.declared.Sizes.{Sizes}
+use Rattle.conditions.specs.Inside.{Standing}
 use Rattle.plan.specs.Plan.{Row, condition, condition1, condition2, condition3}
 
--- a search from offset 0
-from-0 : (n : ℕ) (P : Row) (x r : ℕ) → FirstFault n (λ b. not (eqb (P (0 + b)) x)) r → FirstFault n (λ b. not (eqb (P b) x)) r
-from-0 n P x r f = fault-ext (λ i l. ap (λ (j : ℕ). not (eqb (P j) x)) (zero-add i)) f
+not-or : (x y : Bool) → not (x || y) ≡ not x && not y
+not-or true y = refl
+not-or false y = refl
 
 module _ (here next : Row) (a : ℕ) where
   pub keeps-1 : (near : ℕ → ℕ → Bool) → here a ≡ next a → true ≡ condition1 near here next a
@@ -28,18 +32,30 @@ module _ (here next : Row) (a : ℕ) where
   unfolding condition2
   keeps-2 s e = rw (eq-eqb (here a) (next a) e)
 
-  pub enters-2 : (s : Sizes) → s .rule ≢ 2 → (here a ≡ next a → ⊥) → (r : ℕ) → FirstFault (s .k) (λ b. not (eqb (here (0 + b)) (next a))) r → eqb r (s .k) ≡ condition2 s here next a
+  pub enters-2 : (s : Sizes) → s .rule ≢ 2 → (here a ≡ next a → ⊥) → (word : ℕ) → Standing here (s .k) word → not (set? word (next a)) ≡ condition2 s here next a
   unfolding condition2
-  enters-2 s one d r f = rw (ne-eqb (here a) (next a) d, ne-eqb (s .rule) 2 one) (fault-every (s .k) _ r (from-0 (s .k) here (next a) r f))
+  enters-2 s one d word stood = rw (ne-eqb (here a) (next a) d, ne-eqb (s .rule) 2 one) (stood (next a))
 
   pub exchanges-2 : (s : Sizes) → s .rule ≡ 2 → (here a ≡ next a → ⊥) → (r : ℕ)
       → FirstFault (s .k) (λ b. not (eqb (here b) (next a) && eqb (next b) (here a))) r → eqb r (s .k) ≡ condition2 s here next a
   unfolding condition2
   exchanges-2 s two d r f = rw (ne-eqb (here a) (next a) d, eq-eqb (s .rule) 2 two) (fault-every (s .k) _ r f)
 
-pub shares-3 : (next : Row) (a r : ℕ) → FirstFault a (λ b. not (eqb (next (0 + b)) (next a))) r → eqb r a ≡ condition3 next a
+pub shares-3 : (next : Row) (a word : ℕ) → Standing next a word → not (set? word (next a)) ≡ condition3 next a
 unfolding condition3
-shares-3 next a r f = fault-every a _ r (from-0 a next (next a) r f)
+shares-3 next a word taken = taken (next a)
+
+-- the word of no agents, and of one more
+pub standing-none : (here : Row) → Standing here 0 0
+standing-none here v = rw (bit-zero v)
+
+pub standing-next : (here : Row) (a word v more : ℕ) → Standing here a word → v ≡ here a → more ≡ bitOr word (2 ^ v) → Standing here (a + 1) more
+standing-next here a word v more h e f w =
+    rw (add-one a, f, e, set-or word (2 ^ here a) w, set-pow (here a) w) (not-or (set? word w) (eqb (here a) w) ∙ ap (λ (x : Bool). x && not (eqb (here a) w)) (h w))
+
+-- a bit that was asked for by a number equal to it
+pub unset : (word : ℕ) {v w : ℕ} {r : Bool} → v ≡ w → r ≡ set? word v → not r ≡ not (set? word w)
+unset word e f = rw (f, e)
 
 pub condition-last : (s : Sizes) (near : ℕ → ℕ → Bool) (which : ℕ) (here next : Row) (a : ℕ) → which ≢ 0 → which ≢ 1 → condition3 next a ≡ condition s near which here next a
 condition-last s near zero here next a d e = absurd (d refl)

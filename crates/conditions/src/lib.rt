@@ -8,7 +8,7 @@ ghost use lib.Dec.{eqb};
 ghost use Rattle.answers.specs.Fault.{FirstFault};
 ghost use Rattle.instance.specs.Instance.{joined};
 ghost use Rattle.plan.specs.Plan.{row, planBytes, planRow, condition, condition1, condition2, condition3};
-ghost use Rattle.conditions.specs.Inside.{Inside};
+ghost use Rattle.conditions.specs.Inside.{Inside, Standing};
 
 // The first of `count` agents, whose bytes stand from an offset on, that stands on x, or `count`.
 pub fn first_on(p: &[u8], from: usize, count: usize, x: u8) -> usize
@@ -36,6 +36,18 @@ pub fn first_going(here: &[u8], next: &[u8], count: usize, x: u8, y: u8) -> usiz
     count
 }
 
+// The vertices on which the first `count` agents of a row stand, as a word.
+fn occupied(here: &[u8], count: usize) -> u64
+    requires { ⌜ (count ≤ length (now here)) × Inside (now here) ⌝ }
+    ensures { λ r. ⌜ Standing (row (now (here .entry))) count r ⌝ }
+{
+    let mut word = 0u64;
+    for a in 0..count {
+        word = bits::with_bit(word, numbers::wide(here[a]));
+    }
+    word
+}
+
 // Condition 1 of agent a: it keeps its vertex or crosses an edge, that is to a vertex whose bit is set?
 fn condition_1(near: &[u64; 64], here: &[u8], next: &[u8], a: usize) -> bool
     requires { ⌜ (a < length (now here)) × (a < length (now next)) ⌝ }
@@ -52,8 +64,9 @@ fn condition_1(near: &[u64; 64], here: &[u8], next: &[u8], a: usize) -> bool
 
 // Condition 2 of agent a: it keeps its vertex, or goes to one on which no agent stood; or, under rule 2, no agent goes from there to its
 // vertex?
-fn condition_2(s: Sizes, here: &[u8], next: &[u8], a: usize) -> bool
+fn condition_2(s: Sizes, stood: u64, here: &[u8], next: &[u8], a: usize) -> bool
     requires { ⌜ (s .k ≤ length (now here)) × (s .k ≤ length (now next)) × (a < s .k) ⌝ }
+    requires { ⌜ Standing (row (now here)) (s .k) stood × (getD (now next) a 0 < 64) ⌝ }
     ensures { λ r. ⌜ r ≡ condition2 s (row (now (here .entry))) (row (now (next .entry))) a ⌝ }
 {
     let k = s.k;
@@ -63,30 +76,40 @@ fn condition_2(s: Sizes, here: &[u8], next: &[u8], a: usize) -> bool
         if s.rule == 2 {
             return first_going(here, next, k, w, v) == k;
         }
-        return first_on(here, 0, k, w) == k;
+        return !bits::has_bit(stood, numbers::wide(w));
     }
     true
 }
 
 // Condition 3 of agent a: it shares its vertex in the next row with no lower agent?
-fn condition_3(next: &[u8], a: usize) -> bool
-    requires { ⌜ a < length (now next) ⌝ }
+fn condition_3(taken: u64, next: &[u8], a: usize) -> bool
+    requires { ⌜ (a < length (now next)) × (getD (now next) a 0 < 64) ⌝ }
+    requires { ⌜ Standing (row (now next)) a taken ⌝ }
     ensures { λ r. ⌜ r ≡ condition3 (row (now (next .entry))) a ⌝ }
 {
-    let w = next[a];
-    first_on(next, 0, a, w) == a
+    !bits::has_bit(taken, numbers::wide(next[a]))
 }
 
-// The condition with a number, from 0, of agent a.
-fn passes(s: Sizes, near: &[u64; 64], which: usize, here: &[u8], next: &[u8], a: usize) -> bool
+// The condition with a number, from 0, of agent a, before whom the lower agents have taken their vertices in the next row.
+fn passes(
+    s: Sizes,
+    near: &[u64; 64],
+    which: usize,
+    stood: u64,
+    taken: u64,
+    here: &[u8],
+    next: &[u8],
+    a: usize,
+) -> bool
     requires { ⌜ (s .k ≤ length (now here)) × (s .k ≤ length (now next)) × (a < s .k) ⌝ }
     requires { ⌜ Inside (now here) × Inside (now next) ⌝ }
+    requires { ⌜ Standing (row (now here)) (s .k) stood × Standing (row (now next)) a taken ⌝ }
     ensures { λ r. ⌜ r ≡ condition s (joined (now (near .entry))) which (row (now (here .entry))) (row (now (next .entry))) a ⌝ }
 {
     match which {
         0 => condition_1(near, here, next, a),
-        1 => condition_2(s, here, next, a),
-        _ => condition_3(next, a),
+        1 => condition_2(s, stood, here, next, a),
+        _ => condition_3(taken, next, a),
     }
 }
 
@@ -97,10 +120,13 @@ fn fault(s: Sizes, near: &[u64; 64], which: usize, here: &[u8], next: &[u8]) -> 
     ensures { λ r. ⌜ FirstFault (s .k) (condition s (joined (now (near .entry))) which (row (now (here .entry))) (row (now (next .entry)))) r ⌝ }
 {
     let k = s.k;
+    let stood = occupied(here, k);
+    let mut taken = 0u64;
     for a in 0..k {
-        if !passes(s, near, which, here, next, a) {
+        if !passes(s, near, which, stood, taken, here, next, a) {
             return a;
         }
+        taken = bits::with_bit(taken, numbers::wide(next[a]));
     }
     k
 }

@@ -25,7 +25,7 @@ use Rattle.added_entries.proofs.+write_tree.Tie.{close}
 
 -- the length of the list
 abbrev μ-write-tree : Measures 2 write-tree-kinds.ps ℕ
-μ-write-tree κs a = a .1 .1 .1 .1 .0
+μ-write-tree κs a = a .1 .1 .1 .0
 
 abbrev at : ℕ → In 2 write-tree-kinds.ps
 at t = and 2 write-tree-kinds.ps (is 2 write-tree-kinds.ps μ-write-tree t) write-tree.Pre
@@ -41,22 +41,22 @@ module _ (t : ℕ) where
   returns : lts.Need-returns (claims t) (at t) write-tree.Post
   returns c =
       let start = c .before .before in
-      let e : start .args .l ≡ 1 = omega (arith, start .pre .1 .1 .1) in (
-        one-count _ _ _ _ (c .is-busy .result) e (c .is-busy .ensures),
-        rw (one-entries (start .args .rest .now) (start .args .k) (start .args .c) (start .args .l) (start .args .x) (start .args .y) (c .before .if1 .taken)) (refl, sym (filled-nil _)),
+      let e : start .args .l ≡ 1 = omega (arith, start .pre .1 .1) in (
+        one-count _ _ _ (c .is-busy .result) e (c .is-busy .ensures),
+        rw (one-entries (start .args .marks .now) (start .args .c) (start .args .l) (start .args .x) (start .args .y) (c .before .if1 .taken)) (refl, sym (filled-nil _)),
       )
 
   write-tree-requires : lts.Need-write-tree-requires (claims t) (at t) write-tree.Post
   write-tree-requires c κs =
       let start = c .before .before in
       let two = two-variables (start .args .c) (start .args .l) (c .before .if1 .left) in
-      (omega (arith, start .pre .0), (start .pre .1 .0, (omega arith, omega arith, omega arith, omega arith, omega arith)))
+      (omega (arith, start .pre .0), (omega arith, omega arith, omega arith, omega arith, omega arith))
 
   -- the left subtree's entries, and all
   left : (c : lts.After-z (claims t) (at t) write-tree.Post) → let args = c .before .before .before .before .args in
       (c .before .write-tree .result .entries ≡ variablesOver (args .c) (args .l / 2))
       × (variablesOver (args .c) (args .l) ≡ variablesOver (args .c) (args .l / 2) + variablesOver (args .c) (args .l - args .l / 2) + min (args .l) (args .c + 1))
-  left c = (c .before .write-tree .ensures .1 .0 ∙ entries-length _ _ _ _ _ _, two-variables _ _ (c .before .before .before .if1 .left))
+  left c = (c .before .write-tree .ensures .1 .0 ∙ entries-length _ _ _ _ _, two-variables _ _ (c .before .before .before .if1 .left))
 
   mul-write-tree : lts.Need-mul-write-tree (claims t) (at t) write-tree.Post
   mul-write-tree c = omega (arith, left c)
@@ -74,16 +74,16 @@ module _ (t : ℕ) where
   write-tree-requires-2 c κs =
       let start = c .before .before .before .before .before in
       let l = left (c .before) in
-      (omega (arith, start .pre .0), (start .pre .1 .0, (omega arith, omega arith, omega arith, omega arith, simp (length-take, length-drop) (omega arith))))
+      (omega (arith, start .pre .0), (omega arith, omega arith, omega arith, omega arith, simp (length-take, length-drop) (omega arith)))
 
   -- the right subtree's entries, and how many inputs are true
   right : (c : lts.After-z2 (claims t) (at t) write-tree.Post) → let args = c .before .before .before .before .before .before .before .args in
       (c .before .write-tree2 .result .entries ≡ variablesOver (args .c) (args .l - args .l / 2))
-      × (c .before .before .before .before .write-tree .result .count + c .before .write-tree2 .result .count ≡ countOver (args .rest .now) (args .k) (args .l) (args .x))
+      × (c .before .before .before .before .write-tree .result .count + c .before .write-tree2 .result .count ≡ countOver (args .marks .now) (args .l) (args .x))
   right c =
       let args = c .before .before .before .before .before .before .before .args in (
-        c .before .write-tree2 .ensures .1 .0 ∙ entries-length _ _ _ _ _ _,
-        omega (arith, two-count (args .rest .now) (args .k) (args .l) (args .x), c .before .before .before .before .write-tree .ensures .0, c .before .write-tree2 .ensures .0),
+        c .before .write-tree2 .ensures .1 .0 ∙ entries-length _ _ _ _ _,
+        omega (arith, two-count (args .marks .now) (args .l) (args .x), c .before .before .before .before .write-tree .ensures .0, c .before .write-tree2 .ensures .0),
       )
 
   write-node-requires : lts.Need-write-node-requires (claims t) (at t) write-tree.Post
@@ -91,8 +91,8 @@ module _ (t : ℕ) where
       let start = c .before .before .before .before .before .before .before .before in
       let l = left (c .before .before .before .before) in
       let r = right (c .before) in
-      let most = count-within (start .args .rest .now) (start .args .k) (start .args .l) (start .args .x) in
-      ((start .pre .1 .1 .0, omega arith, omega arith), (omega arith, omega arith))
+      let most = count-within (start .args .marks .now) (start .args .l) (start .args .x) in
+      ((start .pre .1 .0, omega arith, omega arith), (omega arith, omega arith))
 
   returns-2 : lts.Need-returns-2 (claims t) (at t) write-tree.Post
   returns-2 c =
@@ -102,15 +102,15 @@ module _ (t : ℕ) where
       let second = c .before .before .before .before .write-tree2 in
       let l = left (c .before .before .before .before .before .before) in
       let r = right (c .before .before .before) in
-      let us = entriesOver (args .rest .now) (args .k) (args .c) (args .l / 2) (args .x) (args .y) in
-      let vs = entriesOver (args .rest .now) (args .k) (args .c) (args .l - args .l / 2) (args .x + args .l / 2) (args .y + first .result .entries) in
+      let us = entriesOver (args .marks .now) (args .c) (args .l / 2) (args .x) (args .y) in
+      let vs = entriesOver (args .marks .now) (args .c) (args .l - args .l / 2) (args .x + args .l / 2) (args .y + first .result .entries) in
       let ws = entriesOf (λ j. ltb j (first .result .count + second .result .count)) (min (args .l) (args .c + 1)) (args .y + (first .result .entries + second .result .entries)) in
-      let whole : us ++ vs ++ ws ≡ entriesOver (args .rest .now) (args .k) (args .c) (args .l) (args .x) (args .y) =
-      two-entries _ _ _ _ _ _ (c .before .before .before .before .before .before .before .before .before .if1 .left) (l .0) (r .0) (r .1) in (
+      let whole : us ++ vs ++ ws ≡ entriesOver (args .marks .now) (args .c) (args .l) (args .x) (args .y) =
+      two-entries _ _ _ _ _ (c .before .before .before .before .before .before .before .before .before .if1 .left) (l .0) (r .0) (r .1) in (
         c .before .write-node .ensures .0 ∙ r .1,
         subst (λ (out : List ℤ). Wrote out (args .z .now) (c .before .write-node .last .0) (c .before .write-node .result .entries)) whole
             (wrote-three us vs ws (args .z .now) (first .last .0) (second .last .0) (c .before .write-node .last .0)
-            (rw whole (omega (arith, entries-length (args .rest .now) (args .k) (args .c) (args .l) (args .x) (args .y), start .pre .1 .1 .4)))
+            (rw whole (omega (arith, entries-length (args .marks .now) (args .c) (args .l) (args .x) (args .y), start .pre .1 .4)))
             (first .ensures .1) (second .ensures .1) (c .before .write-node .ensures .1)),
       )
 

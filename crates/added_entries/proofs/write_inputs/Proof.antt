@@ -13,19 +13,19 @@ use Rattle.added_entries.proofs.write_inputs.Statement.{statement}
 use Rattle.added_entries.proofs.write_inputs.Tie as tie
 
 abbrev Inv-loop : tie.InvT-loop
-Inv-loop z₀ rest k l x i₀ z i = Writing (busyIn rest k) x l z₀ i z
+Inv-loop z₀ marks l x i₀ z i = Writing (busyIn marks) x l z₀ i z
 
 abbrev μ-loop : tie.MeasureT-loop
-μ-loop z₀ rest k l x i₀ z i = l - i
+μ-loop z₀ marks l x i₀ z i = l - i
 
 loop-holds : tie.Need-loop-holds Inv-loop μ-loop
-loop-holds c = writing-from (busyIn (c .args .rest .now) (c .args .k)) (c .args .x) (c .args .l) (c .args .z .now) (c .pre .1 .1)
+loop-holds c = writing-from (busyIn (c .args .marks .now)) (c .args .x) (c .args .l) (c .args .z .now) (c .pre .1 .1)
 
 loop-again : tie.Need-loop-again Inv-loop μ-loop
 loop-again c =
     let args = c .before .before .before .before .args in
     let turn = c .before .before .before .loop in
-    writing-next (busyIn (args .rest .now) (args .k)) (args .x) (args .l) (args .z .now) (turn .inv) (c .before .before .loop-test .taken)
+    writing-next (busyIn (args .marks .now)) (args .x) (args .l) (args .z .now) (turn .inv) (c .before .before .loop-test .taken)
     (toZ-ofZ (sfits-of (c .entry-of .ok)) ∙ c .entry-of .ensures ∙ ap (λ (b : Bool). entryOf b (args .x + (turn .i + 1))) (c .before .is-busy .ensures))
 
 same-length : tie.Need-same-length Inv-loop μ-loop
