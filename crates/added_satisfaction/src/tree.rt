@@ -1,6 +1,5 @@
 // The counting tree's clauses: by recursion as the tree is, and those of a node row by row.
 use satisfaction::Part;
-use variables::Variable;
 ghost use mathlib.Core.Path.{_≡_};
 ghost use mathlib.Core.Bool.{true, not};
 ghost use mathlib.Core.List.{[], _∷_};
@@ -42,7 +41,7 @@ pub fn is_true(entries: &[i32], z: usize) -> bool
 {
     let i = z - 1;
     let e = entries[i];
-    e == variables::literal_of(Variable(z))
+    0 < e
 }
 
 // Is variable w true where z is: has the clause of z's negation and w a true literal?

@@ -49,7 +49,7 @@ fn joined(c: usize, l: usize, left: Counts, right: Counts) -> Counts
     }
 }
 
-// The tree over l inputs.
+// The tree over l inputs. Equal halves are asked once.
 pub fn tree_size(c: usize, l: usize) -> Counts
     requires { ⌜ (c ≤ 128) × (1 ≤ l) × (l ≤ 512) ⌝ }
     ensures { λ r. ⌜ (r .variables ≡ variablesOver c l) × (r .clauses ≡ clauseCountOver c l) × (r .words ≡ wordCountOver c l) ⌝ }
@@ -63,6 +63,9 @@ pub fn tree_size(c: usize, l: usize) -> Counts
     }
     let half = l / 2;
     let left = tree_size(c, half);
+    if l % 2 == 0 {
+        return joined(c, l, left, left);
+    }
     let right = tree_size(c, l - half);
     joined(c, l, left, right)
 }

@@ -1,7 +1,8 @@
 -- `counting::tree_size` meets its contract: by recursion on the length of the list. Assumes nothing.
-use mathlib.Core.Path.{sym}
-use Prim.Native.Nat.{ℕ, _<_}
+use mathlib.Core.Path.{_≡_, sym, _∙_, ap}
+use Prim.Native.Nat.{ℕ, _-_, _/_, _<_}
 use native.Mathlib.Omega.{arith}
+use Rattle.counting.specs.Over.{variablesOver, clauseCountOver, wordCountOver}
 use Rattle.counting.proofs.Laws.{one-variables, one-counts}
 use borrow.Author.Needs.{needs}
 use borrow.Fn.Kinds.{In}
@@ -36,8 +37,16 @@ module _ (t : ℕ) where
   tree-size-requires : lts.Need-tree-size-requires (claims t) (at t) tree-size.Post
   tree-size-requires c κs = (omega (arith, c .before .pre .0), (omega arith, omega arith, omega arith))
 
+  -- equal halves: what is known of the left is known of the right
+  joined-requires : lts.Need-joined-requires (claims t) (at t) tree-size.Post
+  joined-requires c κs =
+      let args = c .before .before .before .args in
+      let left = c .before .tree-size .ensures in
+      let e : args .l / 2 ≡ args .l - args .l / 2 = omega (arith, c .if2 .taken) in
+      ((omega arith, omega arith, omega arith), (left, (left .0 ∙ ap (variablesOver (args .c)) e, left .1 ∙ ap (clauseCountOver (args .c)) e, left .2 ∙ ap (wordCountOver (args .c)) e)))
+
   tree-size-requires-2 : lts.Need-tree-size-requires-2 (claims t) (at t) tree-size.Post
-  tree-size-requires-2 c κs = (omega (arith, c .before .before .pre .0), (omega arith, omega arith, omega arith))
+  tree-size-requires-2 c κs = (omega (arith, c .before .before .before .pre .0), (omega arith, omega arith, omega arith))
 
 pub +tree-size-spec : {M : Type 1} → statement M
 +tree-size-spec =
@@ -45,6 +54,8 @@ pub +tree-size-spec : {M : Type 1} → statement M
     lts.spec (claims t) (at t) tree-size.Post
     (returns t)
     (tree-size-requires t)
+    (joined-requires t)
+    (λ c. search needs)
     (λ c. search needs)
     (tree-size-requires-2 t)
     (λ c κs. search needs)
