@@ -31,7 +31,7 @@ use Rattle.ceiling.proofs.Tree.{tree-one, tree-two, tree-inputs, count-split, c
 use Rattle.ceiling.proofs.Entries.{tree-entries-length}
 use Rattle.ceiling.proofs.Ceiling.{busy-flat}
 use Rattle.counting.specs.Over.{variablesOver}
-use Rattle.counting.proofs.Laws.{tree-fits}
+use Rattle.counting.proofs.Laws.{tree-fits, one-variables}
 use Rattle.added_entries.specs.Rest.{restTimes, mark, marksOf, entriesOf, busyIn, entriesOver, countOver}
 
 -- ---- a loop that writes the entries of n variables after y, one a turn: entry j says g j
@@ -101,6 +101,18 @@ module _ (marks : List ℕ) where
       let right = tree-inputs (l - l / 2) (omega arith) in
       let e : l / 2 + (l - l / 2) ≡ l = omega arith in
       rw (ea, eb, en, tree-two l h, left, right, e, add-one c)
+
+  -- two inputs: nothing stands before the node's own
+  pub pair-entries : (c l x y : ℕ) {a b n : ℕ} (s : List ℤ) → l ≡ 2 → a ≡ 0 → b ≡ 0 → n ≡ countOver marks l x
+      → take (a + b) s ++ entriesOf (λ j. ltb j n) (min l (c + 1)) (y + (a + b)) ≡ entriesOver marks c l x y
+  pair-entries c l x y s h ea eb en =
+      let none = one-entries c 1 x y (omega arith) in
+      let also = one-entries c 1 (x + 1) (y + 0) (omega arith) in
+      let all = two-entries c 2 x y {a = 0} {b = 0} (omega arith) (sym (one-variables c 1 (omega arith))) (sym (one-variables c 1 (omega arith))) (en ∙ ap (λ (k : ℕ). countOver marks k x) h) in
+      rw (h, ea, eb) (rw (none, also) at all)
+
+  pub pair-count : (l x : ℕ) → l ≡ 2 → countOver marks l x ≡ countOver marks 1 x + countOver marks 1 (x + 1)
+  pair-count l x h = rw h (two-count 2 x)
 
 -- ---- the entries depend on the truth of the inputs alone, wherever these stand
 module _ (b d : ℕ → Bool) (c : ℕ) where

@@ -113,17 +113,30 @@ fn write_node(z: &mut [i32], c: usize, l: usize, y: usize, left: Counted, right:
     }
 }
 
-// The tree over the l inputs from x on, its own variables after y.
+// The tree over input x alone.
+fn leaf(marks: &[u8; 512], x: usize) -> Counted
+    requires { ⌜ x < 512 ⌝ }
+    ensures { λ r. ⌜ (r .entries ≡ 0) × (r .count ≡ countOver (now (marks .entry)) 1 x) ⌝ }
+{
+    Counted {
+        entries: 0,
+        count: is_busy(marks, x) as usize,
+    }
+}
+
+// The tree over the l inputs from x on, its own variables after y. Half of all calls would be for one input: two are taken at once.
 fn write_tree(z: &mut [i32], marks: &[u8; 512], c: usize, l: usize, x: usize, y: usize) -> Counted
     requires { ⌜ (c ≤ 128) × (1 ≤ l) × (x + l ≤ 512) × (y + variablesOver c l ≤ highest) × (variablesOver c l ≤ length (now z)) ⌝ }
     ensures { λ r. ⌜ r .count ≡ countOver (now (marks .entry)) l x ⌝ }
     ensures { λ r. ⌜ Wrote (entriesOver (now (marks .entry)) c l x y) (now (z .entry)) (now (z .exit)) (r .entries) ⌝ }
 {
     if l < 2 {
-        return Counted {
-            entries: 0,
-            count: is_busy(marks, x) as usize,
-        };
+        return leaf(marks, x);
+    }
+    if l == 2 {
+        let first = leaf(marks, x);
+        let second = leaf(marks, x + 1);
+        return write_node(z, c, l, y, first, second);
     }
     let half = l / 2;
     let left = write_tree(z, marks, c, half, x, y);
