@@ -65,6 +65,16 @@ module _ (es : List ℤ) (w : Valuation (length es) es) (d : Node) (fit : Within
             (λ h. inl (leb-iff (i + j) 0 .1 (omega arith))))),
       )
 
+  -- none is true behind i on the left, nor behind j on the right, and the node's are up to the sum
+  pub all-cells : (i j : ℕ) → ((u : ℕ) → i < u → u ≤ a → T (true? es (on (p + u))) → ⊥) → ((v : ℕ) → j < v → v ≤ b → T (true? es (on (q + v))) → ⊥)
+      → ((z : ℕ) → z < min (i + j) (c + 1) → T (true? es (on (o + (z + 1))))) → (u v : ℕ) → u ≤ a → v ≤ b → T (cell es d u v)
+  all-cells i j left right own u v x y =
+      cell-iff u v x y .1 (λ h f g.
+      by-cases (decLt i u) (λ l. absurd (left u l x (f (omega arith)))) (λ l.
+      by-cases (decLt j v) (λ r. absurd (right v r y (g (omega arith)))) (λ r.
+      let e : o + (min (u + v) (c + 1) - 1 + 1) ≡ o + min (u + v) (c + 1) = omega arith in
+      subst (λ (x : ℕ). T (true? es (on x))) e (own (min (u + v) (c + 1) - 1) (omega arith)))))
+
   -- ---- row i
   module _ (i : ℕ) (x : i ≤ a) where
     -- output i of the left is false

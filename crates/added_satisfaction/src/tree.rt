@@ -139,6 +139,39 @@ fn row_fault(entries: &[i32], d: Node, i: usize) -> usize
     rest_of_row(entries, d, i)
 }
 
+// The last true variable of the n after z, by its place among them from 1 on; 0 where none is.
+fn last_true(entries: &[i32], z: usize, n: usize) -> usize
+    requires { ⌜ Assigned (now entries) ⌝ }
+    requires { ⌜ z + n ≤ length (now entries) ⌝ }
+    ensures { λ r. ⌜ (r ≤ n) × ((j : ℕ) → r < j → j ≤ n → T (true? (now (entries .entry)) (on (z + j))) → ⊥) ⌝ }
+{
+    for j in 0..n {
+        let i = n - j;
+        if is_true(entries, z + i) {
+            return i;
+        }
+    }
+    0
+}
+
+// Are a node's outputs true up to the sum of the last on either side? Then each of its clauses has a true literal. So it is wherever
+// each output has its meaning.
+fn sum_reached(entries: &[i32], d: Node) -> bool
+    requires { ⌜ Assigned (now entries) ⌝ }
+    requires { ⌜ Within (now entries) d ⌝ }
+    ensures { λ r. ⌜ (r ≡ true → (i j : ℕ) → i ≤ d .a → j ≤ d .b → T (cell (now (entries .entry)) d i j)) ⌝ }
+{
+    let i = last_true(entries, d.p, d.a);
+    let j = last_true(entries, d.q, d.b);
+    let sum = counting::smaller(i + j, d.c + 1);
+    for z in 0..sum {
+        if !is_true(entries, d.o + (z + 1)) {
+            return false;
+        }
+    }
+    true
+}
+
 // The clauses of a node.
 fn node_fault(entries: &[i32], d: Node) -> Part
     requires { ⌜ Assigned (now entries) ⌝ }
@@ -149,6 +182,9 @@ fn node_fault(entries: &[i32], d: Node) -> Part
     let rows = d.a + 1;
     let width = d.b + 1;
     let size = rows * width - 1;
+    if sum_reached(entries, d) {
+        return Part { size, fault: size };
+    }
     for i in 0..rows {
         let j = row_fault(entries, d, i);
         if j < width {

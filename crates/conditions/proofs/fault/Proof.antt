@@ -19,9 +19,6 @@ Inv-loop s near which here next k stood taken₀ a₀ taken a = (a ≤ k) × ((i
 abbrev μ-loop : tie.MeasureT-loop
 μ-loop s near which here next k stood taken₀ a₀ taken a = k - a
 
-occupied-requires : tie.Need-occupied-requires Inv-loop μ-loop
-occupied-requires c κs = (omega arith, c .before .before .pre .1 .0)
-
 loop-holds : tie.Need-loop-holds Inv-loop μ-loop
 loop-holds c = (omega arith, below-none _, standing-none (row (c .before .before .before .args .next .now)))
 
@@ -32,7 +29,10 @@ returns : tie.Need-returns Inv-loop μ-loop
 returns c = fault-at (omega arith) (c .before .before .before .loop .inv .1) (fails (c .before .passes .ensures) (not-true _ (c .if1 .taken)))
 
 with-bit-requires : tie.Need-with-bit-requires Inv-loop μ-loop
-with-bit-requires c κs = omega (arith, c .wide .ensures .0, c .before .before .before .before .before .before .before .before .before .pre .1 .1 (c .before .before .before .before .before .loop .a) (omega arith))
+with-bit-requires c κs =
+    let (here, next) = c .before .before .before .before .before .before .before .before .before .pre .1 in
+    let a = c .before .before .before .before .before .loop .a in
+    omega (arith, c .wide .ensures .0, here a (omega arith), next a (omega arith))
 
 loop-again : tie.Need-loop-again Inv-loop μ-loop
 loop-again c =
@@ -51,7 +51,7 @@ fault-spec =
     (tie.spec
     Inv-loop
     μ-loop
-    occupied-requires
+    (λ c κs. search needs)
     loop-holds
     passes-requires
     returns

@@ -7,7 +7,7 @@ use super::instance::{refuse, Instance};
 use super::plan::{check_length, check_rows, cost_of};
 use super::reader::{read, tokens_by_bytes, tokens_by_words, Tokens};
 use super::straight;
-use super::tree::{self, rows_hold, sorted_hold, Filler, Finder, NodeHolds, Sizes, Writer};
+use super::tree::{self, rows_hold, sums_hold, Filler, Finder, NodeHolds, Sizes, Writer};
 use super::valuation::{check_entries, first_false, read_places, write_rows};
 use independent::{Answer, Size};
 
@@ -170,8 +170,8 @@ pub fn decode_ceiling(
     answer(bounded.and_then(|bounded| decoded(&bounded, entries, plan, rows_hold)))
 }
 
-/// The second form: a node at once where the outputs below it are in order.
-pub fn decode_ceiling_sorted(
+/// The second form: a node at once where its outputs reach the sum of those below.
+pub fn decode_ceiling_by_sums(
     instance: &[u8],
     horizon: u64,
     rule: u64,
@@ -180,7 +180,7 @@ pub fn decode_ceiling_sorted(
     plan: &mut [u8],
 ) -> Answer {
     let bounded = Bounded::read(instance, horizon, rule, ceiling);
-    answer(bounded.and_then(|bounded| decoded(&bounded, entries, plan, sorted_hold)))
+    answer(bounded.and_then(|bounded| decoded(&bounded, entries, plan, sums_hold)))
 }
 
 #[inline(always)]

@@ -48,7 +48,7 @@ pub fn compare_ceilings(cases: usize) -> usize {
 
         let entries = some_valuation(&mut g, &case, c);
         let lent = vec![200; some_length(&mut g, case.plan.len())];
-        let [answer, _] = [super::decode_ceiling, super::decode_ceiling_sorted].map(|form| {
+        let [answer, _] = [super::decode_ceiling, super::decode_ceiling_by_sums].map(|form| {
             same(
                 &lent,
                 |plan| form(instance, m, rule, c, &entries, plan),

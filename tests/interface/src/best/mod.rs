@@ -16,7 +16,7 @@ mod straight;
 mod tree;
 mod valuation;
 
-pub use ceiling::{ceiling_size, decode_ceiling, decode_ceiling_sorted, encode_ceiling};
+pub use ceiling::{ceiling_size, decode_ceiling, decode_ceiling_by_sums, encode_ceiling};
 pub use ceiling::{read_ceiling, read_ceiling_straight};
 pub use ceiling::{write_ceiling, write_ceiling_straight};
 pub use clause::clause;

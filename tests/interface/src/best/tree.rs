@@ -175,17 +175,12 @@ pub fn rows_hold(left: &[i32], right: &[i32], own: &[i32]) -> bool {
     holds
 }
 
-/// At once where those that are true come first on either side, as they do where each output has its meaning.
-pub fn sorted_hold(left: &[i32], right: &[i32], own: &[i32]) -> bool {
-    let first = |outputs: &[i32]| {
-        let trues = outputs.iter().filter(|&&x| x > 0).count();
-        let sorted = outputs[..trues].iter().all(|&x| x > 0);
-        sorted.then_some(trues)
-    };
-    match (first(left), first(right)) {
-        (Some(i), Some(j)) => own[..(i + j).min(own.len())].iter().all(|&z| z > 0),
-        _ => rows_hold(left, right, own),
-    }
+/// At once where a node's outputs are true up to the sum of the last on either side, as they are where each output has
+/// its meaning.
+pub fn sums_hold(left: &[i32], right: &[i32], own: &[i32]) -> bool {
+    let last = |outputs: &[i32]| outputs.iter().rposition(|&x| x > 0).map_or(0, |i| i + 1);
+    let sum = own.len().min(last(left) + last(right));
+    own[..sum].iter().all(|&z| z > 0) || rows_hold(left, right, own)
 }
 
 /// Without an early exit, so that the compiler takes several at once.

@@ -37,7 +37,7 @@ const WRITERS: [Writer; 4] = forms!(
 );
 const DECODERS: [Decoder; 4] = forms!(
     decode_ceiling,
-    decode_ceiling_sorted,
+    decode_ceiling_by_sums,
     (i, m, rule, c, entries, plan)
 );
 const ENCODERS: [FromBytes; 4] = forms!(
@@ -94,7 +94,6 @@ fn valuation(input: &Input) -> Vec<i32> {
     entries
 }
 
-/// The target is held against the faster of moved blocks and straight loops.
 fn writer(table: &mut Table, input: &Input) {
     let (instance, m, rule) = input.given();
     let size = model::ceiling_size(instance, m, rule, CEILING);
@@ -107,14 +106,18 @@ fn writer(table: &mut Table, input: &Input) {
         let write = WRITERS[[0, 1, 3][form]];
         black_box(write(black_box(instance), m, rule, CEILING, &mut words));
     });
-    let mut forms = [
+    let forms = [
         (moved, "  against moved blocks"),
         (straight, "  against straight loops"),
     ];
+    rows(table, "writer, c 128", input, ours, forms);
+}
+
+/// A row for each of two Rust forms. The target is held against the faster one.
+fn rows(table: &mut Table, call: &str, input: &Input, ours: f64, mut forms: [(f64, &str); 2]) {
     forms.sort_by(|x, y| x.0.total_cmp(&y.0));
     for ((best, note), target) in forms.into_iter().zip([TARGET, None]) {
-        let row = [ours, best, f64::INFINITY];
-        table.row("writer, c 128", input, row, target, note);
+        table.row(call, input, [ours, best, f64::INFINITY], target, note);
     }
 }
 
@@ -124,16 +127,17 @@ fn decoder(table: &mut Table, input: &Input, entries: &[i32]) {
     agree(&plan, |form, plan| {
         DECODERS[form](instance, m, rule, CEILING, entries, plan)
     });
-    let [ours, rows, sorted] = times(|form| {
+    let [ours, by_rows, by_sums] = times(|form| {
         let decode = DECODERS[[0, 1, 3][form]];
         let entries = black_box(entries);
         let said = decode(black_box(instance), m, rule, CEILING, entries, &mut plan);
         assert_eq!(said.0, 0);
     });
-    let row = [ours, rows, f64::INFINITY];
-    table.row("decoder, c 128", input, row, TARGET, "  row by row");
-    let (row, note) = ([ours, sorted, f64::INFINITY], "  outputs in order at once");
-    table.row("decoder, c 128", input, row, None, note);
+    let forms = [
+        (by_rows, "  against a node row by row"),
+        (by_sums, "  against a node at once"),
+    ];
+    rows(table, "decoder, c 128", input, ours, forms);
 }
 
 fn encoder(table: &mut Table, input: &Input, length: usize) {
@@ -166,8 +170,9 @@ fn reader(table: &mut Table, input: &Input, entries: &[i32]) {
         let said = reader(black_box(instance), m, rule, CEILING, text, &mut read);
         assert_eq!(said.0, 0);
     });
-    let row = [ours, words, f64::INFINITY];
-    table.row("reader, c 128", input, row, TARGET, "");
-    let (row, note) = ([ours, bytes, f64::INFINITY], "  against a loop over bytes");
-    table.row("reader, c 128", input, row, None, note);
+    let forms = [
+        (words, "  against words of eight bytes"),
+        (bytes, "  against a loop over bytes"),
+    ];
+    rows(table, "reader, c 128", input, ours, forms);
 }
