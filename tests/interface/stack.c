@@ -6,9 +6,6 @@
  * free; at last they have their goals again, and the rule is 2. */
 #include "stack.h"
 
-/* What the header promises is enough for any call but the reader and those of the pruned formula, and for these. */
-enum { PROMISED = 12288, READER_PROMISED = 65536, PRUNED_PROMISED = 24576 };
-
 /* The path 0-1-..-63: as many clauses, but shorter ones in family F. From a to 63-a is further than M for every agent, so
  * that family H rules out all. */
 enum { PATH_E = N - 1, PATH_H = VARIABLES, PATH_WORDS = WORDS - 2 * M * K * (E - PATH_E) + 2 * PATH_H };

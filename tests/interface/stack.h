@@ -13,6 +13,9 @@
 #include <sys/wait.h>
 #include <unistd.h>
 
+/* What the header promises is enough for any call but the readers and those of the pruned formula, and for these. */
+enum { PROMISED = 12288, READER_PROMISED = 65536, PRUNED_PROMISED = 24576 };
+
 enum { N = 64, K = 16, E = N * (N - 1) / 2, M = 32, ROWS = M + 1 };
 enum { PLAN = ROWS * K, VARIABLES = PLAN * N };
 

@@ -2,9 +2,6 @@
  * with the lowest. What the ceiling adds is reckoned here from request S-12. */
 #include "stack.h"
 
-/* What is enough for each of the five. */
-enum { CEILING_PROMISED = 262144 };
-
 enum { HIGHEST = 128, INPUTS = M * K };
 
 /* Variables, clauses and words at the highest ceiling under rule 2. */
@@ -115,12 +112,13 @@ static runglaet_size make(const run *r) {
 
 static uint64_t clauses_of(const run *r) { return r->which == SIZE_CALL ? (uint64_t)clauses : 0; }
 
-static size_t most = 0;
+/* Of the reader, and of the others. */
+static size_t most_reading = 0, most = 0;
 
 static void measure_all(const run *runs, size_t length) {
     for (size_t i = 0; i < length; i++) {
-        size_t bytes = measured(&runs[i]);
-        if (bytes > most) most = bytes;
+        size_t bytes = measured(&runs[i]), *of = runs[i].which == READER ? &most_reading : &most;
+        if (bytes > *of) *of = bytes;
     }
 }
 
@@ -164,5 +162,6 @@ int main(void) {
             {DECODER, "ceiling decoder, c 129", M, SATISFIES, PLAN, 32, 0},
             {ENCODER, "ceiling encoder, c 129", M, COSTS_128, ALL_VARIABLES, 32, 0},
             {READER, "ceiling reader, c 129", M, RIGHT, ALL_VARIABLES, 32, 0}, );
-    return too_many("with a ceiling ", most, CEILING_PROMISED);
+    int failed = too_many("with a ceiling ", most, PROMISED);
+    return failed | too_many("reader with a ceiling ", most_reading, READER_PROMISED);
 }

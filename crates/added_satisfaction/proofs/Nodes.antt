@@ -26,7 +26,7 @@ use Rattle.ceiling.specs.Tree.{join, joins, on, off}
 use Rattle.ceiling.proofs.Tree.{join-iff, one-of}
 use Rattle.ceiling.proofs.Counts.{count-joins}
 use Rattle.ceiling.proofs.Entries.{clash}
-use Rattle.added_satisfaction.specs.declared.tree.Node.{Node}
+use Rattle.counting.specs.declared.Node.{Node}
 use Rattle.added_satisfaction.specs.Search.{cell, Within}
 use Rattle.added_satisfaction.proofs.Truth.{off-iff, two-iff}
 

@@ -14,7 +14,7 @@ use Rattle.lists.proofs.Tests.{every-iff, not-iff}
 use Rattle.valuation.specs.Valuation.{true?, satisfied?}
 use Rattle.valuation.specs.Satisfying.{Valuation}
 use Rattle.ceiling.specs.Tree.{on, off}
-use Rattle.added_satisfaction.specs.declared.tree.Node.{Node}
+use Rattle.counting.specs.declared.Node.{Node}
 use Rattle.added_satisfaction.specs.Search.{Within}
 use Rattle.added_satisfaction.proofs.Truth.{two-iff}
 

@@ -11,7 +11,7 @@ use Rattle.valuation.specs.Valuation.{satisfied?}
 use Rattle.valuation.specs.Satisfying.{Valuation}
 use Rattle.satisfaction.specs.Rows.{Fault}
 use Rattle.ceiling.specs.Tree.{join}
-use Rattle.added_satisfaction.specs.declared.tree.Node.{Node}
+use Rattle.counting.specs.declared.Node.{Node}
 
 -- the entries are a valuation of as many variables, and few
 pub record Assigned (entries : List ℤ) : Type 0 where

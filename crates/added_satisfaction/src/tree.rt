@@ -1,4 +1,5 @@
 // The counting tree's clauses: by recursion as the tree is, and those of a node row by row.
+use counting::Node;
 use satisfaction::Part;
 ghost use mathlib.Core.Path.{_≡_};
 ghost use mathlib.Core.Bool.{true, not};
@@ -10,20 +11,9 @@ ghost use Rattle.lists.specs.Loop.{every};
 ghost use Rattle.answers.specs.Fault.{FirstFault};
 ghost use Rattle.valuation.specs.Valuation.{true?, satisfied?};
 ghost use Rattle.satisfaction.specs.Rows.{Fault, Stop};
-ghost use Rattle.ceiling.specs.Tree.{on, off, joins};
-ghost use Rattle.counting.specs.Over.{variablesOver, clausesOver, ownClauses};
+ghost use Rattle.ceiling.specs.Tree.{on, off};
+ghost use Rattle.counting.specs.Over.{variablesOver, clausesOver, nodeClauses, ownClauses};
 ghost use Rattle.added_satisfaction.specs.Search.{Assigned, Finds, cell, Within};
-
-// A node with the ceiling c, over a left tree of a outputs and a right one of b: output i of the left is the variable p + i, of the
-// right q + i, and of the node o + i.
-pub struct Node {
-    pub c: usize,
-    pub a: usize,
-    pub b: usize,
-    pub p: usize,
-    pub q: usize,
-    pub o: usize,
-}
 
 // Of a tree's clauses: how many were asked, and the place of the first without a true literal, or that number again. Then they are
 // all, and `next` is the tree's last variable.
@@ -176,8 +166,8 @@ fn sum_reached(entries: &[i32], d: Node) -> bool
 fn node_fault(entries: &[i32], d: Node) -> Part
     requires { ⌜ Assigned (now entries) ⌝ }
     requires { ⌜ Within (now entries) d ⌝ }
-    ensures { λ r. ⌜ (length (joins (d .c) (d .a) (d .b) (d .p) (d .q) (d .o)) ≡ r .size) × (r .size ≤ 16899) ⌝ }
-    ensures { λ r. ⌜ Fault (now (entries .entry)) (joins (d .c) (d .a) (d .b) (d .p) (d .q) (d .o)) (r .fault) ⌝ }
+    ensures { λ r. ⌜ (length (nodeClauses d) ≡ r .size) × (r .size ≤ 16899) ⌝ }
+    ensures { λ r. ⌜ Fault (now (entries .entry)) (nodeClauses d) (r .fault) ⌝ }
 {
     let rows = d.a + 1;
     let width = d.b + 1;
@@ -205,23 +195,7 @@ fn own_fault(entries: &[i32], c: usize, l: usize, x: usize, u: usize, v: usize) 
     ensures { λ r. ⌜ (length (ownClauses c l x u v) ≡ r .size) × (r .size ≤ 16899) ⌝ }
     ensures { λ r. ⌜ Fault (now (entries .entry)) (ownClauses c l x u v) (r .fault) ⌝ }
 {
-    let half = l / 2;
-    let rest = l - half;
-    let p = counting::before_outputs(c, half, x, u);
-    let q = counting::before_outputs(c, rest, x + half, v);
-    let a = counting::smaller(half, c + 1);
-    let b = counting::smaller(rest, c + 1);
-    node_fault(
-        entries,
-        Node {
-            c,
-            a,
-            b,
-            p,
-            q,
-            o: v,
-        },
-    )
+    node_fault(entries, counting::node_over(c, l, x, u, v))
 }
 
 // The tree over the l variables after x, its own variables after y.

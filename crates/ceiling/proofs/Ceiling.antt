@@ -9,6 +9,7 @@ use native.Mathlib.Nat.{le-refl, add-zero, add-suc, zero-mul, suc-mul, div-add-m
 use native.Mathlib.Decide.{ℕ-discrete, decLt}
 use native.Mathlib.Numerals.{sub-one}
 use native.Mathlib.Omega.{arith}
+use borrow.Author.Tests.{le-ltb}
 use lib.ListN.{length, length-append}
 use lib.Dec.{T, eqb}
 use lib.IntN.{ℤ}
@@ -323,3 +324,8 @@ over-last s c l =
     by-cases (decLt x 2)
     (λ h. rw (tree-one x h) (omega arith))
     (λ h. rw (tree-two x (omega arith), tree-inputs (x / 2) (omega arith), tree-inputs (x - x / 2) (omega arith)) (omega arith))
+
+-- where no input is too many, nothing is forbidden
+pub no-limit : (s : Sizes) (c : ℕ) → s .m * s .k ≤ c → limit s c ≡ []
+unfolding limit
+no-limit s c l = rw (le-ltb c (s .m * s .k) l)

@@ -187,10 +187,14 @@ counts-rise (suc d) c c′ l l′ p q r =
     rw (tree-two l t, tree-two l′ t′, tree-inputs (l / 2) f₁, tree-inputs (l - l / 2) f₂, tree-inputs (l′ / 2) f₃, tree-inputs (l′ - l′ / 2) f₄)
     (three-rise _ _ _ _ _ _ v v′ o, three-rise _ _ _ _ _ _ x x′ (less-one _ _ m₂), three-rise _ _ _ _ _ _ y y′ (node-words-rise a a′ b b′ (a * b) (a′ * b′) h₁ h₂ m₁)))
 
--- the largest sizes with the ceiling 128, under rule 2
+-- the largest sizes with the ceiling 128
 pub largest-ceiling : (ceilingVariables (largestSizes 2) 128 ≡ 38_275) × (ceilingCount (largestSizes 2) 128 ≡ 16_953_636) × (ceilingWords (largestSizes 2) 128 ≡ 84_038_444)
 unfolding ceilingVariables ceilingCount ceilingWords clauseCount wordCount addedVariables addedWords addedCount variables wordsIn clausesIn outputs inputs treeOver halved
 largest-ceiling = (refl, refl, refl)
+
+pub largest-one : (ceilingVariables (largestSizes 1) 128 ≡ 38_275) × (ceilingCount (largestSizes 1) 128 ≡ 1_962_276) × (ceilingWords (largestSizes 1) 128 ≡ 8_098_604)
+unfolding ceilingVariables ceilingCount ceilingWords clauseCount wordCount addedVariables addedWords addedCount variables wordsIn clausesIn outputs inputs treeOver halved
+largest-one = (refl, refl, refl)
 
 -- the tree over 512 inputs with the ceiling 128
 widest : (variables 128 (treeOver 512) ≡ 3_971) × (clausesIn 128 (treeOver 512) ≡ 86_275) × (wordsIn 128 (treeOver 512) ≡ 340_746)

@@ -43,8 +43,8 @@ use Rattle.ceiling.specs.Ceiling.{busyNumber, root, moves, chain, counters, lim
 use Rattle.ceiling.specs.Encoded.{busy, busyAt, ceilingValuation}
 use Rattle.ceiling.proofs.Tree.{tree-one, tree-two, tree-inputs, count-same, Means}
 use Rattle.ceiling.proofs.Entries.{clash}
-use Rattle.ceiling.proofs.Counts.{ceiling-count, ceiling-words, variables-top, count-top, words-top, largest-ceiling}
-use Rattle.ceiling.proofs.Ceiling.{says-iff, ceiling-places, ceiling-passes, ceiling-cost, ceiling-valuation, ceiling-written, ceiling-means, says-busy, says-B, added-hold, over-last}
+use Rattle.ceiling.proofs.Counts.{ceiling-count, ceiling-words, variables-top, count-top, words-top, largest-ceiling, largest-one}
+use Rattle.ceiling.proofs.Ceiling.{says-iff, ceiling-places, ceiling-passes, ceiling-cost, ceiling-valuation, ceiling-written, ceiling-means, says-busy, says-B, added-hold, over-last, no-limit}
 use Rattle.calls.specs.Questions.{question13, question14, question15, question16, question23, question24, question33}
 use Rattle.calls.specs.Calls.{planQuestions, encodeRest, decodeRest, checkAnswer}
 use Rattle.calls.specs.Ceiling.{ceilingQuestions, ceilingAnswer, ceilingSizeAnswer, ceilingWriteAnswer, ceilingDecodeQuestions, ceilingDecodeAnswer, ceilingDecodeSlice, ceilingEncodeQuestions, ceilingEncodeAnswer, ceilingEncodeSlice, ceilingReadQuestions, ceilingReadAnswer}
@@ -320,6 +320,7 @@ module _ (b : List ℕ) (m rule c : ℕ) (ok : T (all clear (instanceQuestions b
         text16 = text-16;
         after = after;
         last = last;
+        unlimited = no-limit (I .sizes) c;
         clauseTotal = ceiling-count I c (goals-counted b m rule);
         wordTotal = ceiling-words I c edges (goals-counted b m rule);
         most = most;
@@ -376,5 +377,6 @@ ceiling-claim =
       width = tree-inputs;
       nothing = nothing-added;
       largest = largest-ceiling;
+      largestOne = largest-one;
       worked = worked;
     }

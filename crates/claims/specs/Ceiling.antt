@@ -19,7 +19,7 @@ use Rattle.plan.specs.Plan.{planBytes, planRow, restTime, cost}
 use Rattle.valuation.specs.Valuation.{true?}
 use Rattle.valuation.specs.Satisfying.{True, Valuation, Satisfies, Names}
 use Rattle.ceiling.specs.Tree.{Tree, input, node, treeOver, inputs, outputs, variables, before, on, off, count}
-use Rattle.ceiling.specs.Ceiling.{busyNumber, root, addedClauses, ceilingVariables, ceilingCount, ceilingWords, underCeiling}
+use Rattle.ceiling.specs.Ceiling.{busyNumber, root, limit, addedClauses, ceilingVariables, ceilingCount, ceilingWords, underCeiling}
 use Rattle.calls.specs.Calls.{checkAnswer}
 use Rattle.calls.specs.Ceiling.{ceilingAnswer, ceilingSizeAnswer, ceilingWriteAnswer, ceilingWriteSlice, ceilingDecodeAnswer, ceilingDecodeSlice, ceilingEncodeAnswer, ceilingEncodeSlice, ceilingReadAnswer}
 use Rattle.claims.specs.Correspondence.{Accepts}
@@ -100,9 +100,11 @@ module _ (b : List ℕ) (m rule c : ℕ) where
         → ceilingEncodeAnswer b m rule c p (length z) ≡ refuse 33 (cost (I .sizes) p)
     -- some valuation satisfies the formula exactly when some plan passes the check and costs at most c
     pub satisfiable : ((entries : List ℤ) × Valuation all entries × Satisfies limited entries) ↔ ((p : List ℕ) × Within p)
-    -- what is added stands after G; where output c + 1 of the root is forbidden, it is the last variable, and this the last clause
+    -- what is added stands after G; where output c + 1 of the root is forbidden, it is the last variable, and this the last clause; where
+    -- there are no more than c inputs, nothing is forbidden
     pub after : words limited ≡ words (formula I) ++ each line (addedClauses (I .sizes) c)
     pub last : c < I .sizes .m * I .sizes .k → drop (ceilingCount (I .sizes) c - 1) (limited .clauses) ≡ (off all ∷ []) ∷ []
+    pub unlimited : I .sizes .m * I .sizes .k ≤ c → limit (I .sizes) c ≡ []
     -- clauses and words as counts
     pub clauseTotal : length (limited .clauses) ≡ ceilingCount (I .sizes) c
     pub wordTotal : length (words limited) ≡ ceilingWords (I .sizes) c
@@ -183,6 +185,7 @@ pub record Claim : Type 0 where
   pub width : (l : ℕ) → 1 ≤ l → inputs (treeOver l) ≡ l
   -- at m 0 nothing is added
   pub nothing : (b : List ℕ) (rule c : ℕ) → underCeiling c (instance b 0 rule) ≡ formula (instance b 0 rule)
-  -- the largest, under rule 2
+  -- the largest, under rule 2 and under rule 1
   pub largest : (ceilingVariables (largestSizes 2) 128 ≡ 38_275) × (ceilingCount (largestSizes 2) 128 ≡ 16_953_636) × (ceilingWords (largestSizes 2) 128 ≡ 84_038_444)
+  pub largestOne : (ceilingVariables (largestSizes 1) 128 ≡ 38_275) × (ceilingCount (largestSizes 1) 128 ≡ 1_962_276) × (ceilingWords (largestSizes 1) 128 ≡ 8_098_604)
   pub worked : Worked

@@ -14,7 +14,7 @@ use Rattle.formula.specs.Formula.{line}
 use Rattle.ceiling.specs.Tree.{Tree, input, node, treeOver, inputs, outputs, variables, before, treeClauses, clausesIn, wordsIn}
 use Rattle.ceiling.proofs.Tree.{tree-one, tree-two, tree-inputs, variables-most}
 use Rattle.ceiling.proofs.Counts.{clauses-most, count-tree, words-tree}
-use Rattle.counting.specs.Over.{variablesOver, clauseCountOver, wordCountOver, clausesOver, beforeOutputs, ownClauses}
+use Rattle.counting.specs.Over.{variablesOver, clauseCountOver, wordCountOver, clausesOver, beforeOutputs, nodeOver, ownClauses}
 
 module _ (c : ℕ) where
   pub one-clauses : (l x y : ℕ) → l < 2 → clausesOver c l x y ≡ []
@@ -43,7 +43,7 @@ module _ (c : ℕ) where
   pub two-clauses : (l x y : ℕ) → 2 ≤ l
       → clausesOver c l x y ≡ clausesOver c (l / 2) x y ++ clausesOver c (l - l / 2) (x + l / 2) (y + variablesOver c (l / 2))
       ++ ownClauses c l x (y + variablesOver c (l / 2)) (y + variablesOver c (l / 2) + variablesOver c (l - l / 2))
-  unfolding clausesOver treeClauses outputs before ownClauses variablesOver
+  unfolding clausesOver treeClauses outputs before nodeOver variablesOver
   two-clauses l x y h =
       let left = tree-inputs (l / 2) (omega arith) in
       let right = tree-inputs (l - l / 2) (omega arith) in

@@ -1,13 +1,24 @@
 // The counting tree's sizes, by recursion as the tree is, and where its outputs stand.
 ghost use mathlib.Core.Path.{_≡_};
 ghost use Prim.Native.Nat.{_+_, _-_, _/_, _≤_, min};
-ghost use Rattle.counting.specs.Over.{variablesOver, clauseCountOver, wordCountOver, beforeOutputs};
+ghost use Rattle.counting.specs.Over.{variablesOver, clauseCountOver, wordCountOver, beforeOutputs, nodeOver};
 
 // Variables, clauses and words, as counts.
 pub struct Counts {
     pub variables: usize,
     pub clauses: usize,
     pub words: usize,
+}
+
+// A node with the ceiling c, over a left tree of a outputs and a right one of b: output i of the left is the variable p + i, of the
+// right q + i, and of the node o + i.
+pub struct Node {
+    pub c: usize,
+    pub a: usize,
+    pub b: usize,
+    pub p: usize,
+    pub q: usize,
+    pub o: usize,
 }
 
 pub fn smaller(a: usize, b: usize) -> usize
@@ -28,6 +39,28 @@ pub fn before_outputs(c: usize, l: usize, x: usize, next: usize) -> usize
         return x;
     }
     next - smaller(l, c + 1)
+}
+
+// The topmost node of a tree over l inputs after x, where the left subtree's variables end at u, and the right's at v.
+pub fn node_over(c: usize, l: usize, x: usize, u: usize, v: usize) -> Node
+    requires { ⌜ (c ≤ 128) × (2 ≤ l) × (x + l ≤ 40000) ⌝ }
+    requires { ⌜ (2 ≤ l / 2 → min (l / 2) (c + 1) ≤ u) × (2 ≤ l - l / 2 → min (l - l / 2) (c + 1) ≤ v) ⌝ }
+    ensures { λ r. ⌜ r ≡ nodeOver c l x u v ⌝ }
+{
+    let half = l / 2;
+    let rest = l - half;
+    let p = before_outputs(c, half, x, u);
+    let q = before_outputs(c, rest, x + half, v);
+    let a = smaller(half, c + 1);
+    let b = smaller(rest, c + 1);
+    Node {
+        c,
+        a,
+        b,
+        p,
+        q,
+        o: v,
+    }
 }
 
 // The tree over l inputs, from its two subtrees.

@@ -1,5 +1,6 @@
 // The words of the counting tree, by recursion: a list of two or more is cut into a left half, rounded down, and the rest. Each function
 // writes to the start of the slice that it is lent.
+use counting::Node;
 use variables::Variable;
 ghost use mathlib.Core.Path.{_≡_};
 ghost use mathlib.Core.List.{[], _∷_};
@@ -8,8 +9,7 @@ ghost use lib.ListN.{length};
 ghost use Rattle.lists.specs.Loop.{each};
 ghost use Rattle.lists.specs.Slice.{filled, Wrote};
 ghost use Rattle.formula.specs.Formula.{line};
-ghost use Rattle.ceiling.specs.Tree.{joins};
-ghost use Rattle.counting.specs.Over.{variablesOver, clausesOver, ownClauses};
+ghost use Rattle.counting.specs.Over.{variablesOver, clausesOver, nodeClauses, ownClauses};
 ghost use Rattle.tree_writer.specs.Rows.{joining, row};
 
 // The words written, and the last variable so far.
@@ -70,16 +70,16 @@ fn write_row(f: &mut [i32], c: usize, p: usize, q: usize, o: usize, b: usize, i:
     at
 }
 
-// A node's clauses, where output i of the left is p + i, of the right q + i, and of the node o + i.
-fn write_node(f: &mut [i32], c: usize, p: usize, q: usize, o: usize, a: usize, b: usize) -> usize
-    requires { ⌜ (c ≤ 128) × (p ≤ 40000) × (q ≤ 40000) × (o ≤ 40000) × (a ≤ 129) × (b ≤ 129) ⌝ }
-    requires { ⌜ length (each line (joins c a b p q o)) ≤ length (now f) ⌝ }
-    ensures { λ r. ⌜ Wrote (each line (joins c a b p q o)) (now (f .entry)) (now (f .exit)) r ⌝ }
+// A node's clauses.
+fn write_node(f: &mut [i32], d: Node) -> usize
+    requires { ⌜ (d .c ≤ 128) × (d .p ≤ 40000) × (d .q ≤ 40000) × (d .o ≤ 40000) × (d .a ≤ 129) × (d .b ≤ 129) ⌝ }
+    requires { ⌜ length (each line (nodeClauses d)) ≤ length (now f) ⌝ }
+    ensures { λ r. ⌜ Wrote (each line (nodeClauses d)) (now (f .entry)) (now (f .exit)) r ⌝ }
 {
-    let end = a + 1;
+    let end = d.a + 1;
     let mut at: usize = 0;
     for i in 0..end {
-        at += write_row(&mut f[at..], c, p, q, o, b, i);
+        at += write_row(&mut f[at..], d.c, d.p, d.q, d.o, d.b, i);
     }
     at
 }
@@ -91,13 +91,7 @@ fn write_own(f: &mut [i32], c: usize, l: usize, x: usize, u: usize, v: usize) ->
     requires { ⌜ length (each line (ownClauses c l x u v)) ≤ length (now f) ⌝ }
     ensures { λ r. ⌜ Wrote (each line (ownClauses c l x u v)) (now (f .entry)) (now (f .exit)) r ⌝ }
 {
-    let half = l / 2;
-    let rest = l - half;
-    let p = counting::before_outputs(c, half, x, u);
-    let q = counting::before_outputs(c, rest, x + half, v);
-    let a = counting::smaller(half, c + 1);
-    let b = counting::smaller(rest, c + 1);
-    write_node(f, c, p, q, v, a, b)
+    write_node(f, counting::node_over(c, l, x, u, v))
 }
 
 // The tree over the l variables after x, its own variables after y.

@@ -1,4 +1,5 @@
 -- `counting::joined` meets its contract: the law of a node's counts. Assumes nothing.
+use mathlib.Core.Path.{sym}
 use native.Mathlib.Omega.{arith}
 use Rattle.counting.proofs.Laws.{Counted, counted}
 use borrow.Author.Needs.{needs}
@@ -45,7 +46,10 @@ add-t24 : tie.Need-add-t24
 add-t24 c = let k = known (c .before .before .before .before .before .before) in search needs
 
 returns : tie.Need-returns
-returns c = let k = known (c .before .before .before .before .before .before) in (omega arith, omega arith, omega arith)
+returns c =
+    let k = known (c .before .before .before .before .before .before) in
+    let (left, right) = c .before .before .before .before .before .before .before .before .before .pre .1 in
+    (omega arith, omega arith, rw (left .2, right .2) (sym (k .words)))
 
 pub joined-spec : {M : Type 1} → statement M
 joined-spec =

@@ -1,29 +1,35 @@
 -- `tree_writer::write_node` meets its contract. The invariant: each turn has written its clauses behind those before it. Assumes nothing.
-use Prim.Native.Nat.{suc, _-_, _<_}
+use mathlib.Core.List.{List}
+use Prim.Native.Nat.{ℕ, suc, _-_, _<_}
 use native.Mathlib.Omega.{arith}
 use borrow.Author.Needs.{needs}
 use lib.ListN.{length-take, length-drop}
 use Rattle.lists.specs.Loop.{each}
 use Rattle.lists.proofs.Slices.{Filling, each-filling, filling-room, filling-next, each-filled}
-use Rattle.formula.specs.Formula.{line}
+use Rattle.formula.specs.Formula.{Clause, line}
 use Rattle.ceiling.specs.Tree.{join, joins}
+use Rattle.counting.specs.declared.Node.{Node}
 use Rattle.tree_writer.specs.Rows.{joining, cell, row}
 use Rattle.tree_writer.proofs.write_node.Statement.{statement}
 use Rattle.tree_writer.proofs.write_node.Tie as tie
 
+-- the clauses of i on the left
+abbrev rowOf : Node → ℕ → List Clause
+rowOf d i = row (d .c) (d .p) (d .q) (d .o) (d .b) i
+
 abbrev Inv-loop : tie.InvT-loop
-Inv-loop f₀ c p q o a b end at₀ i₀ f at i = Filling (λ i. each line (row c p q o b i)) (suc a) f₀ i at f
+Inv-loop f₀ d end at₀ i₀ f at i = Filling (λ i. each line (rowOf d i)) (suc (d .a)) f₀ i at f
 
 abbrev μ-loop : tie.MeasureT-loop
-μ-loop f₀ c p q o a b end at₀ i₀ f at i = end - i
+μ-loop f₀ d end at₀ i₀ f at i = end - i
 
 loop-holds : tie.Need-loop-holds Inv-loop μ-loop
 unfolding joins join row cell joining
-loop-holds c = each-filling line (row (c .args .c) (c .args .p) (c .args .q) (c .args .o) (c .args .b)) (c .pre .1)
+loop-holds c = each-filling line (rowOf (c .before .args .d)) (c .before .pre .1)
 
 write-row-requires : tie.Need-write-row-requires Inv-loop μ-loop
 write-row-requires c κs =
-    simp (length-take, length-drop) (let r = filling-room (c .before .before .loop .inv) (let l : c .before .before .loop .i < suc (c .before .before .before .args .a) = omega arith in l) in search needs)
+    simp (length-take, length-drop) (let r = filling-room (c .before .before .loop .inv) (let l : c .before .before .loop .i < suc (c .before .before .before .before .args .d .a) = omega arith in l) in search needs)
 
 loop-again : tie.Need-loop-again Inv-loop μ-loop
 loop-again c = filling-next (c .before .before .before .before .loop .inv) (omega arith) (c .before .write-row .ensures)
@@ -33,7 +39,7 @@ add-at c = let q = loop-again c .fits in omega arith
 
 returns : tie.Need-returns Inv-loop μ-loop
 unfolding joins join row cell joining
-returns c = each-filled line (row (c .before .before .args .c) (c .before .before .args .p) (c .before .before .args .q) (c .before .before .args .o) (c .before .before .args .b)) (c .before .loop .inv) (omega arith)
+returns c = each-filled line (rowOf (c .before .before .before .args .d)) (c .before .loop .inv) (omega arith)
 
 pub write-node-spec : {M : Type 1} → statement M
 write-node-spec =

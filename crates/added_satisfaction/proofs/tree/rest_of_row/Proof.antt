@@ -12,7 +12,7 @@ use Rattle.answers.proofs.Faults.{holds, fails}
 use Rattle.valuation.specs.Valuation.{satisfied?}
 use Rattle.ceiling.specs.Tree.{on, off}
 use Rattle.satisfaction.proofs.Laws.{stop-more, stop-at, stop-none}
-use Rattle.added_satisfaction.specs.declared.tree.Node.{Node}
+use Rattle.counting.specs.declared.Node.{Node}
 use Rattle.added_satisfaction.proofs.tree.rest_of_row.Statement.{statement}
 use Rattle.added_satisfaction.proofs.tree.rest_of_row.Tie as tie
 
