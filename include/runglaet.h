@@ -152,8 +152,9 @@ runglaet_answer runglaet_write_pruned(const uint8_t *instance, size_t instance_l
  * - where m * k exceeds c: not output c + 1 of the whole.
  *
  * Each call asks 32 just after 31: the ceiling exceeds 128, place 0. What it asks besides, and in which order, is what the
- * call without a ceiling asks, and every count and place takes in what is added. There is no call with a ceiling for one
- * clause, for family H, for the floor or for the plan check, which tells the cost.
+ * call without a ceiling asks, and the encoder asks 33 at the end. Every count of variables, clauses and words takes in
+ * what is added, and so does the place of a clause, an entry or a variable. There is no call with a ceiling for one clause,
+ * for family H, for the floor or for the plan check, which tells the cost.
  *
  * The size: asks 1 to 10, 31 and 32. The words are at most 8,098,604 under rule 1 and 84,038,444 under rule 2. */
 runglaet_size runglaet_ceiling_size(const uint8_t *instance, size_t instance_len, uint64_t horizon, uint64_t rule,
