@@ -1,4 +1,4 @@
-// The counting tree's clauses: by recursion as the tree is, and those of a node row by row.
+// The counting tree's clauses: by recursion as the tree is, and those of a node at once or row by row.
 use counting::Node;
 use satisfaction::Part;
 ghost use mathlib.Core.Path.{_≡_};
