@@ -1,4 +1,6 @@
 // The entries of the variables that a ceiling adds, for a plan: B, then the counting tree's own.
+#![tactic(auto)]
+
 ghost use Rattle.std.specs.Prelude.{◌≡◌, ◌++◌, ◌+◌, ◌≤◌, ◌<◌, min, ltb, length, take, replicate};
 ghost use Rattle.lists.specs.Slice.{filled, Wrote};
 ghost use Rattle.instance.specs.Limits.{Limits};
@@ -14,7 +16,7 @@ use instance::Sizes;
 use variables::Variable;
 
 // The entries of a tree's own variables that were written, and how many of its inputs are true.
-#[derive(Drop)]
+#[derive(Clone, Copy)]
 struct Counted {
     entries: usize,
     count: usize,

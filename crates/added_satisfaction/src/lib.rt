@@ -1,5 +1,7 @@
 // Question 24 with a ceiling: the first clause without a true literal among those that the ceiling adds, in their order. The plan is
 // known, so of an agent and a step only one moving can fail: that of the vertex that the agent leaves.
+#![tactic(auto)]
+
 mod tree;
 
 ghost use Rattle.std.specs.Prelude.{◌≡◌, ◌||◌, [], ◌∷◌, ◌++◌, ◌+◌, ◌*◌, ◌≤◌, ◌<◌, min, length, get_or, ltb, eqb};

@@ -13,7 +13,7 @@ use satisfaction::Part;
 
 // Of a tree's clauses: how many were asked, and the place of the first without a true literal, or that number again. Then they are
 // all, and `next` is the tree's last variable.
-#[derive(Drop)]
+#[derive(Clone, Copy)]
 pub struct Found {
     pub size: usize,
     pub fault: usize,

@@ -1,5 +1,7 @@
 // The words of what a ceiling adds to the formula: moves, chain, the counting tree and its limit. B(t,a) says that agent a is not
 // yet at rest at time t. And the words of the whole formula with a ceiling.
+#![tactic(auto)]
+
 ghost use Rattle.std.specs.Prelude.{◌≡◌, ◌++◌, ◌+◌, ◌*◌, ◌≤◌, ◌<◌, length};
 ghost use Rattle.lists.specs.Loop.{for, each};
 ghost use Rattle.lists.specs.Slice.{filled, Wrote};

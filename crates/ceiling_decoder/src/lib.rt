@@ -1,5 +1,7 @@
 // The decoder with a ceiling: from a list of entries of all variables to the plan that it names, which costs at most c. The base
 // formula's entries stand first, and its clauses are asked of them alone; what the ceiling adds comes behind.
+#![tactic(auto)]
+
 ghost use Rattle.std.specs.Prelude.{◌≡◌, ℕ, ◌≤◌, ◌<◌, T, length, take};
 ghost use Rattle.answers.specs.Answers.{decide};
 ghost use Rattle.answers.specs.Fault.{FirstFault};

@@ -1,4 +1,6 @@
 // The encoder with a ceiling: the valuation of a plan that costs at most c, with the variables that the ceiling adds.
+#![tactic(auto)]
+
 ghost use Rattle.std.specs.Prelude.{◌≡◌, ◌≤◌, length};
 ghost use Rattle.lists.specs.Slice.{filled};
 ghost use Rattle.instance.specs.Limits.{Limits};

@@ -1,4 +1,6 @@
 // The reader with a ceiling: the text gives the variables that the ceiling adds too.
+#![tactic(auto)]
+
 ghost use Rattle.std.specs.Prelude.{◌≡◌, length};
 ghost use Rattle.calls.specs.Ceiling.{ceiling_read_answer, ceiling_read_slice};
 

@@ -1,4 +1,6 @@
 // What every call with a ceiling asks first, what a ceiling adds, and the size of the formula with a ceiling.
+#![tactic(auto)]
+
 ghost use Rattle.std.specs.Prelude.{◌≡◌, cond, ◌≤◌, ltb};
 ghost use Rattle.instance.specs.Limits.{Limits};
 ghost use Rattle.instance.specs.Questions.{instance_checked};

@@ -1,4 +1,6 @@
 // The writer with a ceiling: the seven families, then what the ceiling adds.
+#![tactic(auto)]
+
 ghost use Rattle.std.specs.Prelude.{◌≡◌, length};
 ghost use Rattle.calls.specs.Ceiling.{ceiling_write_answer, ceiling_write_slice};
 

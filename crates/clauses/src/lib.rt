@@ -1,4 +1,6 @@
 // The words of single clauses, each written to the start of the slice that is lent. The answer is the number of words.
+#![tactic(auto)]
+
 ghost use Rattle.std.specs.Prelude.{◌≡◌, [], ◌∷◌, ◌^◌, ◌≤◌, ◌<◌, length};
 ghost use Rattle.lists.specs.Slice.{filled, Wrote};
 ghost use Rattle.bits.specs.Bits.{set?};

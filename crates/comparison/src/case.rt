@@ -1,7 +1,7 @@
 // Reading a case: its head, and the entries that a payload stands for.
 ghost use Rattle.std.specs.Prelude.{◌*◌, ◌≤◌, ◌<◌, length};
 
-#[derive(Drop)]
+#[derive(Clone, Copy)]
 pub struct Head {
     pub kind: usize,
     pub m: usize,

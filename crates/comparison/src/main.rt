@@ -6,6 +6,8 @@
 // payload: a plan, entries of 4 bytes, a text, or a record and a plan. Each case prints a line: the answer's number, its second number, the
 // clauses (0 but for a size), and a hash of the lent slice or of the record after the call; or "skip" where the slice is longer than the
 // array here, or there is no record.
+#![tactic(auto)]
+
 mod case;
 mod ceilings;
 mod lent;

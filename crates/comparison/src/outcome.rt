@@ -4,7 +4,7 @@ ghost use Rattle.std.specs.Prelude.{◌≤◌, ◌<◌, length};
 use answers::{Answer, Size};
 
 // `known` is false where the case was skipped.
-#[derive(Drop)]
+#[derive(Clone, Copy)]
 pub struct Outcome {
     pub known: bool,
     pub number: u32,

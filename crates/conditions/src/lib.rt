@@ -1,4 +1,6 @@
 // The three conditions of a valid step, asked of the bytes of a row and of the next row, and of two rows of a plan.
+#![tactic(auto)]
+
 ghost use Rattle.std.specs.Prelude.{◌≡◌, not, ◌&&◌, suc, ◌+◌, ◌<◌, ◌≤◌, length, get_or, eqb};
 ghost use Rattle.answers.specs.Fault.{FirstFault};
 ghost use Rattle.instance.specs.Instance.{joined};

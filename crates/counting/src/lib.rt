@@ -1,9 +1,11 @@
 // The counting tree's sizes, by recursion as the tree is, and where its outputs stand.
+#![tactic(auto)]
+
 ghost use Rattle.std.specs.Prelude.{◌≡◌, ◌+◌, ◌-◌, ◌/◌, ◌≤◌, min};
 ghost use Rattle.counting.specs.Over.{variables_over, clause_count_over, word_count_over, before_outputs, node_over};
 
 // Variables, clauses and words, as counts.
-#[derive(Drop)]
+#[derive(Clone, Copy)]
 pub struct Counts {
     pub variables: usize,
     pub clauses: usize,
@@ -12,7 +14,7 @@ pub struct Counts {
 
 // A node with the ceiling c, over a left tree of a outputs and a right one of b: output i of the left is the variable p + i, of the
 // right q + i, and of the node o + i.
-#[derive(Drop)]
+#[derive(Clone, Copy)]
 pub struct Node {
     pub c: usize,
     pub a: usize,

@@ -1,5 +1,7 @@
 // What is worked out from the sizes: how many bytes a plan has, how many variables, clauses and words a formula, and how many blocks
 // a family. And how many pairs there are of so many vertices or agents.
+#![tactic(auto)]
+
 ghost use Rattle.std.specs.Prelude.{◌≡◌, cond, ◌≤◌, ◌<◌};
 ghost use Rattle.formula.specs.Variables.{variable_count};
 ghost use Rattle.formula.specs.Blocks.{times, blocks_at};
@@ -13,7 +15,7 @@ ghost use Rattle.instance.specs.Limits.{Limits};
 use instance::Sizes;
 
 // A number for each family.
-#[derive(Drop)]
+#[derive(Clone, Copy)]
 pub struct Families {
     pub a: usize,
     pub b: usize,

@@ -1,1 +1,2 @@
 // Decimal digits, written and read: definitions and their laws. There is no code here.
+#![tactic(auto)]

@@ -1,4 +1,6 @@
 // The decoder: from a list of entries, of any length and with any numbers, to the plan that it names.
+#![tactic(auto)]
+
 ghost use Rattle.std.specs.Prelude.{◌≡◌, length, take};
 ghost use Rattle.answers.specs.Answers.{decide};
 ghost use Rattle.formula.specs.Formula.{formula};

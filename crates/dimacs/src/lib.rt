@@ -1,4 +1,6 @@
 // The text of a formula, written to the start of the slice that is lent. The answer is the number of bytes.
+#![tactic(auto)]
+
 ghost use Rattle.std.specs.Prelude.{◌≡◌, ◌++◌, ◌+◌, ◌*◌, ◌/◌, ◌≤◌, ◌<◌, pos, neg_ℤ, nat_abs, length, take};
 ghost use Rattle.lists.specs.Slice.{filled, Wrote};
 ghost use Rattle.decimals.specs.Decimals.{digit, decimal};

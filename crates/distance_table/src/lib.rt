@@ -1,5 +1,7 @@
 // The table of distances, filled breadth first from the words of neighbours: from each vertex a round for each distance, whose frontier,
 // the vertices at that distance, is a word.
+#![tactic(auto)]
+
 ghost use Rattle.std.specs.Prelude.{◌≡◌, [], ◌&&◌, cond, ℕ, ◌^◌, ◌≤◌, ◌<◌, length, get_or, replicate};
 ghost use Rattle.lists.specs.Loop.{some};
 ghost use Rattle.bits.specs.Bits.{set?};

@@ -1,10 +1,12 @@
 // The edges by low end, then high end, from the words of neighbours: where an edge stands among them, and which edge stands at a place.
+#![tactic(auto)]
+
 ghost use Rattle.std.specs.Prelude.{◌≡◌, [], ◌∷◌, ℕ, ◌^◌, ◌≤◌, ◌<◌, length, get_or, T};
 ghost use Rattle.lists.specs.Loop.{for, when};
 ghost use Rattle.bits.specs.Bits.{set?};
 ghost use Rattle.instance.specs.Instance.{joined, upward, higher, edges_before};
 
-#[derive(Drop)]
+#[derive(Clone, Copy)]
 pub struct Edge {
     pub low: usize,
     pub high: usize,
@@ -35,7 +37,7 @@ fn bits_below(word: u64, v: usize) -> usize
 // The bit at a place among those below bit n that are set.
 fn bit_at(word: u64, n: usize, place: usize) -> usize
     requires { (n ≤ 64) × (place < length (for n λ w. when (set? word w) (w ∷ []))) }
-    ensures* { λ r. ⌜ (r < n) × T (set? word r) × (length (for r λ w. when (set? word w) (w ∷ [])) ≡ place) ⌝ }
+    ensures { (result < n) × T (set? word result) × (length (for result λ w. when (set? word w) (w ∷ [])) ≡ place) }
 {
     let mut before: usize = 0;
     for w in 0..n {

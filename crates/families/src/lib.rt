@@ -1,5 +1,7 @@
 // The writers of the families. Each writes the words of its clauses to the start of the slice that it is lent, and answers how
 // many they are: the next begin at the word after them. A family is its blocks, and only `write_block` asks which family it is.
+#![tactic(auto)]
+
 ghost use Rattle.std.specs.Prelude.{◌≡◌, [], ◌∷◌, ℕ, suc, ◌+◌, ◌*◌, ◌^◌, ◌≤◌, ◌<◌, length, get_or};
 ghost use Rattle.lists.specs.Loop.{for, each};
 ghost use Rattle.lists.specs.Slice.{Wrote};
@@ -16,7 +18,7 @@ use instance::Sizes;
 use variables::{Agent, Step, Variable, Vertex};
 
 // Variables at one distance from each to the next.
-#[derive(Drop)]
+#[derive(Clone, Copy)]
 pub struct Run {
     pub first: Variable,
     pub stride: usize,

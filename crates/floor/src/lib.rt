@@ -1,4 +1,6 @@
 // The floor: instance bytes in, the greatest distance from a start to its goal out. No plan that passes has a smaller makespan.
+#![tactic(auto)]
+
 ghost use Rattle.std.specs.Prelude.{◌≡◌, ℕ, ◌≤◌, ◌<◌, max, length, get_or};
 ghost use Rattle.instance.specs.Instance.{GoalBelow};
 ghost use Rattle.calls.specs.Calls.{floor_answer};

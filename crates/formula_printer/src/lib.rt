@@ -1,5 +1,7 @@
 // The formula program: the text of what stands in standard input, to standard output, under movement rule 1. It is gathered and
 // written in pieces of 64 KiB or more; the first write that fails ends the program, and so does a read that fails.
+#![tactic(auto)]
+
 ghost use Rattle.std.specs.Prelude.{◌≡◌, ◌*◌, ◌≤◌, ◌<◌, T, length};
 ghost use Rattle.instance.specs.Ready.{Ready};
 ghost use Rattle.formula.specs.Variables.{variable_count};
@@ -19,7 +21,7 @@ pub const REFUSED: u32 = 1;
 pub const FAILED: u32 = 2;
 
 // The text so far: the bytes before `at` are gathered and not yet written. It is not `ok` where a write failed.
-#[derive(Drop)]
+#[derive(Clone, Copy)]
 pub struct Gathered {
     pub ok: bool,
     pub at: usize,
@@ -233,7 +235,7 @@ pub fn print_input(words: &mut [i32], text: &mut [u8], texts: &mut [u8], input: 
 }
 
 // What was read: so many bytes, or a read failed.
-#[derive(Drop)]
+#[derive(Clone, Copy)]
 pub struct Input {
     pub ok: bool,
     pub length: usize,

@@ -1,4 +1,6 @@
 // How large a formula is, in words and in clauses. Nothing is lent.
+#![tactic(auto)]
+
 ghost use Rattle.std.specs.Prelude.{◌≡◌, ◌≢◌, suc, ◌+◌, ◌*◌, ◌≤◌, min, length, get_or};
 ghost use Rattle.lists.specs.Loop.{sum};
 ghost use Rattle.answers.specs.Answers.{accept, with_clauses};

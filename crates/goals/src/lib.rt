@@ -1,4 +1,6 @@
 // Which agents have a goal: how many do, and which of them stands at a place among those that do.
+#![tactic(auto)]
+
 ghost use Rattle.std.specs.Prelude.{◌≡◌, ◌≤◌, ◌<◌, get_or};
 ghost use Rattle.instance.specs.Instance.{free, HasGoal, goal_count};
 

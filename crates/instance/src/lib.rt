@@ -1,7 +1,8 @@
 // The instance as it travels after the check.
+#![tactic(auto)]
 
 // Vertices, agents, edges, the horizon and the movement rule that were given beside the instance, and how many agents have a goal.
-#[derive(Drop)]
+#[derive(Clone, Copy)]
 pub struct Sizes {
     pub n: usize,
     pub k: usize,
@@ -13,7 +14,7 @@ pub struct Sizes {
 
 // The checked instance. Starts and goals are in arrays for 16 agents, 0 beyond agent k - 1; the goal of a free agent is 255. The
 // neighbours are words, one for each of 64 vertices: bit w of word v is set where w is a neighbour of v.
-#[derive(Drop)]
+#[derive(Clone, Copy)]
 pub struct Checked {
     pub sizes: Sizes,
     pub starts: [u8; 16],

@@ -1,4 +1,6 @@
 // The instance check: questions 1 to 10 and 31, of any bytes and any numbers given as horizon and rule.
+#![tactic(auto)]
+
 ghost use Rattle.std.specs.Prelude.{◌≡◌, false, ◌&&◌, ◌||◌, List, [], ◌∷◌, ℕ, suc, ◌+◌, ◌-◌, ◌*◌, ◌<◌, ◌≤◌, length, get_or, take, drop, replicate};
 ghost use Rattle.lists.specs.Loop.{every};
 ghost use Rattle.lists.specs.Slice.{filled};
@@ -13,7 +15,7 @@ use answers::Answer;
 use instance::{Checked, Sizes};
 
 // The answer to the questions, and beside it the checked instance, of zeros at a refusal.
-#[derive(Drop)]
+#[derive(Clone, Copy)]
 pub struct Inspection {
     pub answer: Answer,
     pub checked: Checked,

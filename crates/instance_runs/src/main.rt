@@ -1,5 +1,6 @@
 // Runs the instance check on stored cases. A case is the horizon and the rule in 8 bytes each and the instance's length in 2, low bytes
 // first, and then the instance. Each prints a line: the number, and the place of a refusal.
+#![tactic(auto)]
 
 fn report(b: &[u8], horizon: usize, rule: usize) {
     let r = instance_check::check_instance(b, horizon, rule);

@@ -1,4 +1,6 @@
 // Numbers from bytes: of one byte, and of two, four and eight, low byte first.
+#![tactic(auto)]
+
 ghost use Rattle.std.specs.Prelude.{◌≡◌, ◌+◌, ◌*◌, ◌≤◌, ◌<◌, length};
 ghost use Rattle.numbers.specs.Numbers.{two_bytes, four_bytes, eight_bytes};
 

@@ -1,4 +1,6 @@
 // One clause of the formula, asked by number.
+#![tactic(auto)]
+
 ghost use Rattle.std.specs.Prelude.{◌≡◌, [], ◌∷◌, ◌≢◌, ℕ, suc, ◌*◌, ◌-◌, ◌^◌, ◌≤◌, ◌<◌, length, get_or, take};
 ghost use Rattle.lists.specs.Loop.{for, sum, pairs};
 ghost use Rattle.lists.specs.Slice.{filled, Wrote};
@@ -18,10 +20,10 @@ use instance::Sizes;
 use variables::{Agent, Step, Vertex};
 
 // A family's number, A 0 to G 6; how many slots each of its blocks has; a place in the family.
-#[derive(Drop)]
+#[derive(Clone, Copy)]
 pub struct Spot(pub usize, pub usize, pub usize);
 
-#[derive(Drop)]
+#[derive(Clone, Copy)]
 pub struct Pair {
     pub low: usize,
     pub high: usize,

@@ -1,4 +1,6 @@
 // The plan check, counted in a record: question 34, then the plan check, of any record, any bytes and any numbers.
+#![tactic(auto)]
+
 ghost use Rattle.std.specs.Prelude.{◌≡◌, ◌≤◌, ◌<◌, min, max};
 ghost use Rattle.tally.specs.Tally.{under, total, takes_more, with_pass, with_refusal};
 ghost use Rattle.calls.specs.Tally.{tally_answer, tally_record};
@@ -7,7 +9,7 @@ use answers::Answer;
 use tally::Tally;
 
 // A call's answer, and the record after it.
-#[derive(Drop)]
+#[derive(Clone, Copy)]
 pub struct Tallied {
     pub answer: Answer,
     pub tally: Tally,

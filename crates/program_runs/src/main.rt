@@ -1,6 +1,8 @@
 // Prints what the formula program prints for each of many inputs, at most a million, one after another. The standard input holds
 // for each the input's length in 2 bytes, low byte first, and then the input, of at most 4,070 bytes. The runs end where that is
 // not so.
+#![tactic(auto)]
+
 ghost use Rattle.std.specs.Prelude.{◌≤◌, ◌<◌, length};
 ghost use Rattle.formula_printer.specs.Room.{Room};
 

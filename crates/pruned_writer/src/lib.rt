@@ -1,5 +1,7 @@
 // The writer of the pruned formula: the seven families, then family H. Of an agent, `from` has the distances of the vertices from its
 // start, `to` those from its goal.
+#![tactic(auto)]
+
 ghost use Rattle.std.specs.Prelude.{◌≡◌, [], ◌∷◌, ◌++◌, ◌≤◌, ◌<◌, length, get_or};
 ghost use Rattle.lists.specs.Loop.{for, when, each};
 ghost use Rattle.lists.specs.Slice.{filled, Wrote};

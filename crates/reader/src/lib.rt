@@ -1,5 +1,7 @@
 // The reader of a solver's text: one pass reads the lines and marks the variables given; then the marks are asked, and the literals
 // written.
+#![tactic(auto)]
+
 ghost use Rattle.std.specs.Prelude.{◌≡◌, [], ◌∷◌, ◌≤◌, ◌<◌, length, get_or, replicate};
 ghost use Rattle.lists.specs.Loop.{for, every};
 ghost use Rattle.lists.specs.Slice.{filled};

@@ -1,4 +1,6 @@
 // The calls for programs in other languages; include/runglaet.h declares them for C.
+#![tactic(auto)]
+
 ghost use Rattle.std.specs.Prelude.{◌≡◌, length};
 ghost use Rattle.formula.specs.Formula.{formula};
 ghost use Rattle.formula.specs.Pruned.{pruned};

@@ -2,6 +2,8 @@
 // none is written out. One pass over the entries finds the wrong one and, of each agent at each time, its one vertex, or that there
 // is none or several: this is the plan where families C and D hold, and then E, F and G are asked of the plan alone, F and G by the
 // conditions of the plan check.
+#![tactic(auto)]
+
 mod family_g;
 
 ghost use Rattle.std.specs.Prelude.{◌≡◌, ◌&&◌, ◌||◌, ℕ, ◌+◌, ◌-◌, ◌<◌, ◌≤◌, length, get_or, take, T, ℤ, List};
@@ -26,21 +28,21 @@ use instance::Sizes;
 use variables::{Agent, Step, Variable};
 
 // What the entries of one agent and time say: the first wrong one, or the end; and the vertex, n for none, n + 1 for several.
-#[derive(Drop)]
+#[derive(Clone, Copy)]
 pub struct Row {
     pub wrong: usize,
     pub vertex: usize,
 }
 
 // Of some clauses: their number, and the place of the first without a true literal, or their number again.
-#[derive(Drop)]
+#[derive(Clone, Copy)]
 pub struct Part {
     pub size: usize,
     pub fault: usize,
 }
 
 // Of the entries of one agent and time: how many are not their variables' negatives, and the sum of their vertices.
-#[derive(Drop)]
+#[derive(Clone, Copy)]
 pub struct Tally {
     pub count: u32,
     pub sum: u32,

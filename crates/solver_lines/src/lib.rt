@@ -1,4 +1,6 @@
 // The lines of a solver's text: their tokens are read, the variables given are marked, and what they say is kept.
+#![tactic(auto)]
+
 ghost use Rattle.std.specs.Prelude.{◌≡◌, not, cond, false, ◌+◌, ◌≤◌, ◌<◌, length, T, eqb};
 ghost use Rattle.lists.specs.Loop.{all};
 ghost use Rattle.solver_text.specs.Text.{same};
@@ -9,7 +11,7 @@ ghost use Rattle.solver_lines.specs.Lines.{again, mark, IsValues, IsLine, IsLine
 use solver_text::Said;
 
 // The tokens of a v line: whether they are right, whether the 0 is among them, and where the line ends.
-#[derive(Drop)]
+#[derive(Clone, Copy)]
 pub struct Values {
     pub right: bool,
     pub closed: bool,
@@ -17,7 +19,7 @@ pub struct Values {
 }
 
 // A line: whether it is right, where it ends, and what has been said with it.
-#[derive(Drop)]
+#[derive(Clone, Copy)]
 pub struct Line {
     pub right: bool,
     pub end: usize,
@@ -25,7 +27,7 @@ pub struct Line {
 }
 
 // All lines: whether all are right, else the place of the first wrong one, and what they have said.
-#[derive(Drop)]
+#[derive(Clone, Copy)]
 pub struct Lines {
     pub right: bool,
     pub place: usize,

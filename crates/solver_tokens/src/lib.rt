@@ -1,10 +1,12 @@
 // The bytes of a solver's text by their places, and a token read from one of them.
+#![tactic(auto)]
+
 ghost use Rattle.std.specs.Prelude.{◌≡◌, ◌+◌, ◌≤◌, ◌<◌, length};
 ghost use Rattle.decimals.specs.Decimals.{digit?};
 ghost use Rattle.solver_tokens.specs.Token.{byte, end?, token, IsNumber, IsSize, IsToken};
 
 // Digits: whether they say a number that is small enough, which one, and where they end.
-#[derive(Drop)]
+#[derive(Clone, Copy)]
 pub struct Number {
     pub right: bool,
     pub size: usize,
@@ -12,7 +14,7 @@ pub struct Number {
 }
 
 // A token: whether it is right, its sign and size, and where it ends.
-#[derive(Drop)]
+#[derive(Clone, Copy)]
 pub struct Token {
     pub right: bool,
     pub negative: bool,

@@ -1,9 +1,10 @@
 // The record in which checked plans are counted.
+#![tactic(auto)]
 
 // How many passed, how many were refused under each number, and the sum, the least and the greatest cost of those that passed. Least and
 // greatest are 0 while none has passed.
 #[repr(C)]
-#[derive(Drop)]
+#[derive(Clone, Copy)]
 pub struct Tally {
     pub passed: usize,
     pub refused: [usize; 36],

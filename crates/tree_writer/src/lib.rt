@@ -1,5 +1,7 @@
 // The words of the counting tree, by recursion: a list of two or more is cut into a left half, rounded down, and the rest. Each function
 // writes to the start of the slice that it is lent.
+#![tactic(auto)]
+
 ghost use Rattle.std.specs.Prelude.{◌≡◌, [], ◌∷◌, ◌+◌, ◌-◌, ◌/◌, ◌≤◌, min, length};
 ghost use Rattle.lists.specs.Loop.{each};
 ghost use Rattle.lists.specs.Slice.{filled, Wrote};
@@ -11,7 +13,7 @@ use counting::Node;
 use variables::Variable;
 
 // The words written, and the last variable so far.
-#[derive(Drop)]
+#[derive(Clone, Copy)]
 pub struct Grown {
     pub words: usize,
     pub next: usize,

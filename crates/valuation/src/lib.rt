@@ -1,1 +1,2 @@
 // Valuations, as definitions and their laws. There is no code here.
+#![tactic(auto)]

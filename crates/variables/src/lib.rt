@@ -1,4 +1,6 @@
 // The four countings, the number of X(t,a,v), and literals and entries one by one.
+#![tactic(auto)]
+
 ghost use Rattle.std.specs.Prelude.{◌≡◌, ◌||◌, suc, ◌+◌, ◌≤◌, ◌<◌, pos, neg_ℤ};
 ghost use Rattle.formula.specs.Variables.{index, variable_count, highest};
 ghost use Rattle.instance.specs.Limits.{Limits};
@@ -6,16 +8,16 @@ ghost use Rattle.valuation.specs.Valuation.{same_number};
 
 use instance::Sizes;
 
-#[derive(Drop)]
+#[derive(Clone, Copy)]
 pub struct Vertex(pub usize);
 
-#[derive(Drop)]
+#[derive(Clone, Copy)]
 pub struct Agent(pub usize);
 
-#[derive(Drop)]
+#[derive(Clone, Copy)]
 pub struct Step(pub usize);
 
-#[derive(Drop)]
+#[derive(Clone, Copy)]
 pub struct Variable(pub usize);
 
 // The index of the entry of X(t,a,0); those of the agent's other vertices at that time follow it.

@@ -1,0 +1,16 @@
+-- `conditions::condition_1` meets its contract. The two bytes are the agent's places in the two rows, and the bit of the second in the word of the first answers where they differ. Assumes nothing.
+use mathlib.Core.Path.{ap₂, sym, ◌∙◌}
+use Rattle.instance.specs.Instance.{joined}
+use Rattle.conditions.proofs.Laws.{keeps_1, crosses_1}
+use borrow.Author.Rules.{rules}
+use Rattle.conditions.proofs.condition_1.Goals as goal
+
+pub returns-then-v-w : goal.returns-then-v-w
+returns-then-v-w c = keeps_1 _ _ c.args.a _ (sym c.wide-v.ensures.0 ∙ c.if-v-w.true ∙ c.wide-w.ensures.0)
+
+pub returns : goal.returns
+returns c =
+    crosses_1 _ _ c.args.a _
+    (λ e. c.if-v-w.false (c.wide-v.ensures.0 ∙ e ∙ sym c.wide-w.ensures.0))
+    c.has_bit.result
+    (c.has_bit.ensures ∙ ap₂ (joined c.args.near.now) c.wide-v.ensures.0 c.wide-w.ensures.0)

@@ -1,0 +1,12 @@
+-- `conditions::condition_3` meets its contract: the vertex is not among those taken by lower agents. Assumes nothing.
+use mathlib.Core.Path.{◌∙◌}
+use native.Mathlib.Omega.{arith}
+use Rattle.conditions.proofs.Laws.{shares_3, unset}
+use borrow.Author.Rules.{rules}
+use Rattle.conditions.proofs.condition_3.Goals as goal
+
+pub has_bit-requires : goal.has_bit-requires
+has_bit-requires c = omega (arith, c.wide.ensures.0)
+
+pub returns : goal.returns
+returns c = unset c.args.taken c.wide.ensures.0 c.has_bit.ensures ∙ shares_3 _ c.args.a _ c.requires.standing

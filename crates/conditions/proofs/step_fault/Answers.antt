@@ -1,0 +1,48 @@
+-- `conditions::step_fault` meets its contract: the two parts of the bytes are the two rows. Assumes nothing.
+use Prim.Native.Nat.{◌+◌, ◌*◌}
+use native.Mathlib.Omega.{arith}
+use Rattle.instance.specs.Instance.{joined}
+use Rattle.plan.proofs.Rows.{Rows, rows, part_length, part_below, step_fault}
+use borrow.Author.Rules.{rules}
+use Rattle.conditions.proofs.step_fault.Goals as goal
+
+pub overflow_mul-row : goal.overflow_mul-row
+overflow_mul-row c =
+    let known : Rows c.args.s c.args.p.now c.args.t = rows _ _ _ c.requires.p_len.0 c.requires.p_len.1 in
+    omega (arith, known)
+
+pub overflow_add-next : goal.overflow_add-next
+overflow_add-next c =
+    let known : Rows c.args.s c.args.p.now c.args.t = rows _ _ _ c.requires.p_len.0 c.requires.p_len.1 in
+    omega (arith, known)
+
+pub overflow_add-end : goal.overflow_add-end
+overflow_add-end c =
+    let known : Rows c.args.s c.args.p.now c.args.t = rows _ _ _ c.requires.p_len.0 c.requires.p_len.1 in
+    omega (arith, known)
+
+pub slice_bounds-fault-end : goal.slice_bounds-fault-end
+slice_bounds-fault-end c =
+    let known : Rows c.args.s c.args.p.now c.args.t = rows _ _ _ c.requires.p_len.0 c.requires.p_len.1 in
+    omega (arith, known)
+
+pub slice_bounds-fault-end-2 : goal.slice_bounds-fault-end-2
+slice_bounds-fault-end-2 c =
+    let known : Rows c.args.s c.args.p.now c.args.t = rows _ _ _ c.requires.p_len.0 c.requires.p_len.1 in
+    omega (arith, known)
+
+pub fault-requires : goal.fault-requires
+fault-requires c =
+    let known : Rows c.args.s c.args.p.now c.args.t = rows _ _ _ c.requires.p_len.0 c.requires.p_len.1 in
+   
+    let k = c.args.s.k in
+    let at = c.args.t * k in
+    let x = part_length c.args.p.now at (at + k) (omega arith) (omega (arith, known)) in
+    let y = part_length c.args.p.now (at + k) (at + k + k) (omega arith) (omega (arith, known)) in record { k_in_bounds = (omega (arith, x), omega (arith, y)); inside = (
+        part_below c.args.p.now 64 c.requires.inside at (at + k) (omega arith) (omega (arith, known)),
+        part_below c.args.p.now 64 c.requires.inside (at + k) (at + k + k) (omega arith) (omega (arith, known)),
+      ) }
+
+pub returns : goal.returns
+returns c =
+    step_fault c.args.s (joined c.args.near.now) c.args.which c.args.p.now c.args.t c.fault.result c.fault.ensures

@@ -1,0 +1,14 @@
+-- `edges::bit_at` meets its contract. The loop keeps how many bits so far are set, and they are not more than the place. Assumes nothing.
+use mathlib.Core.Logic.{⊎_elim}
+use Prim.Native.Nat.{◌-◌}
+use native.Mathlib.Omega.{arith}
+use borrow.Author.Rules.{rules}
+use Rattle.lists.proofs.Passing.{Seeking, seeking_from, seeking_found, seeking_yes, seeking_no, seeking_done}
+use Rattle.bits.specs.Bits.{set?}
+use Rattle.edges.proofs.bit_at.Given as goal
+
+abbrev pub invariant-loop-w : goal.invariant-loop-w
+invariant-loop-w l = Seeking (set? l.word) l.n l.place l.w l.before
+
+abbrev pub decreases-loop-w : goal.decreases-loop-w
+decreases-loop-w l = l.n - l.w

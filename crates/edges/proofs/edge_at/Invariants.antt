@@ -1,0 +1,16 @@
+-- `edges::edge_at` meets its contract. The loop keeps how many edges stand between those with a lower low end and the place. Assumes nothing.
+use mathlib.Core.Path.{◌≡◌, ap, subst}
+use Prim.Native.Nat.{◌+◌, ◌-◌, ◌≤◌}
+use native.Mathlib.Omega.{arith}
+use native.Mathlib.Numerals.{add-one}
+use borrow.Author.Rules.{rules}
+use lib.Dec.{T}
+use Rattle.instance.specs.Instance.{edges_before}
+use Rattle.edges.proofs.Laws.{lower_edges, passing_higher}
+use Rattle.edges.proofs.edge_at.Given as goal
+
+abbrev pub invariant-loop-low : goal.invariant-loop-low
+invariant-loop-low l = (l.low ≤ l.n) × (l.j ≡ lower_edges l.near l.n l.low + l.rest)
+
+abbrev pub decreases-loop-low : goal.decreases-loop-low
+decreases-loop-low l = l.n - l.low

@@ -1,0 +1,16 @@
+-- `instance_check::all_later` meets its contract. The invariant: the test of the edges so far. Assumes nothing.
+use mathlib.Core.Path.{◌≡◌, refl, ◌∙◌, ap}
+use Prim.Native.Nat.{ℕ, suc, ◌-◌, ◌≤◌}
+use native.Mathlib.Numerals.{add-one}
+use native.Mathlib.Omega.{arith}
+use borrow.Author.Rules.{rules}
+use Rattle.lists.specs.Loop.{every}
+use Rattle.instance.specs.Instance.{edges}
+use Rattle.instance.specs.Questions.{later_edge}
+use Rattle.instance_check.proofs.all_later.Given as goal
+
+abbrev pub invariant-loop-i : goal.invariant-loop-i
+invariant-loop-i l = (l.i ≤ l.e - 1) × (l.all ≡ every l.i (λ j. later_edge l.b (suc j) j))
+
+abbrev pub decreases-loop-i : goal.decreases-loop-i
+decreases-loop-i l = l.e - l.i

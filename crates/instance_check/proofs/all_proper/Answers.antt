@@ -1,0 +1,22 @@
+-- `instance_check::all_proper` meets its contract. The invariant: the test of the edges so far. Assumes nothing.
+use mathlib.Core.Path.{◌≡◌, refl, ◌∙◌, ap}
+use Prim.Native.Nat.{ℕ, ◌-◌, ◌≤◌}
+use native.Mathlib.Numerals.{add-one}
+use native.Mathlib.Omega.{arith}
+use borrow.Author.Rules.{rules}
+use Rattle.lists.specs.Loop.{every}
+use Rattle.instance.specs.Instance.{edges}
+use Rattle.instance.specs.Questions.{proper_edge}
+use Rattle.instance_check.proofs.all_proper.Goals as goal
+
+pub loop-j-init : goal.loop-j-init
+loop-j-init c = (omega arith, refl)
+
+pub loop-j-preserved : goal.loop-j-preserved
+loop-j-preserved c = (omega arith, rw (add-one, c.loop-j.invariant.1, c.proper_edge-all.ensures))
+
+pub returns : goal.returns
+returns c =
+    let b = c.args.b.now in
+    let end : c.loop-j.j ≡ edges b = omega arith in
+    c.loop-j.invariant.1 ∙ ap (λ (x : ℕ). every x (proper_edge b)) end

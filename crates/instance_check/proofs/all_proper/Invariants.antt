@@ -1,0 +1,16 @@
+-- `instance_check::all_proper` meets its contract. The invariant: the test of the edges so far. Assumes nothing.
+use mathlib.Core.Path.{◌≡◌, refl, ◌∙◌, ap}
+use Prim.Native.Nat.{ℕ, ◌-◌, ◌≤◌}
+use native.Mathlib.Numerals.{add-one}
+use native.Mathlib.Omega.{arith}
+use borrow.Author.Rules.{rules}
+use Rattle.lists.specs.Loop.{every}
+use Rattle.instance.specs.Instance.{edges}
+use Rattle.instance.specs.Questions.{proper_edge}
+use Rattle.instance_check.proofs.all_proper.Given as goal
+
+abbrev pub invariant-loop-j : goal.invariant-loop-j
+invariant-loop-j l = (l.j ≤ l.e) × (l.all ≡ every l.j (proper_edge l.b))
+
+abbrev pub decreases-loop-j : goal.decreases-loop-j
+decreases-loop-j l = l.e - l.j

@@ -1,0 +1,16 @@
+-- `instance_check::order_fault` meets its contract. The invariant: every item so far passes the test. Assumes nothing.
+use Prim.Native.Nat.{ℕ, suc, ◌-◌, ◌≤◌, ◌<◌}
+use native.Mathlib.Omega.{arith}
+use borrow.Author.Tests.{not-true, not-false}
+use borrow.Author.Count.{below_more, below_none}
+use borrow.Author.Rules.{rules}
+use lib.Dec.{T}
+use Rattle.answers.proofs.Faults.{holds, fails, fault_at}
+use Rattle.instance.specs.Questions.{later_edge}
+use Rattle.instance_check.proofs.order_fault.Given as goal
+
+abbrev pub invariant-loop-i : goal.invariant-loop-i
+invariant-loop-i l = (l.i ≤ l.e - 1) × ((j : ℕ) → j < l.i → T (later_edge l.b (suc j) j))
+
+abbrev pub decreases-loop-i : goal.decreases-loop-i
+decreases-loop-i l = l.e - l.i
