@@ -1,5 +1,5 @@
 // The formula program: the text of what stands in standard input, to standard output, under movement rule 1. It is gathered and
-// written in pieces of 64 KiB or more; the first write that fails ends the program, and so does a read that fails.
+// written in pieces of 64 KiB or more; the first write that fails ends the program.
 #![tactic(auto)]
 
 ghost use Rattle.std.specs.Prelude.{◌≡◌, ◌*◌, ◌≤◌, ◌<◌, T, length};
@@ -234,60 +234,20 @@ pub fn print_input(words: &mut [i32], text: &mut [u8], texts: &mut [u8], input: 
     print_answer(words, text, texts, &input[1..], m)
 }
 
-// What was read: so many bytes, or a read failed.
-#[derive(Clone, Copy)]
-pub struct Input {
-    pub ok: bool,
-    pub length: usize,
-}
-
-// Reads until the slice is full, or to the end of standard input.
-fn read_input(input: &mut [u8]) -> Input
-    ensures { result.length ≤ length input.new }
+// The same, with buffers of its own.
+pub fn print(input: &[u8]) -> u32
+    ensures { Ends (input_status input.now) result }
 {
-    let mut at: usize = 0;
-    while at < input.len() {
-        let got = libc::read(0, &mut input[at..]);
-        if got < 0 {
-            return Input {
-                ok: false,
-                length: at,
-            };
-        }
-        let n = io::count(got, &input[at..]);
-        if n == 0 {
-            break;
-        }
-        at += n;
-    }
-    Input {
-        ok: true,
-        length: at,
-    }
-}
-
-// The whole program: reads at most 4,070 bytes, the byte m and an instance, prints, and says what failed on standard error. Answers
-// the exit status.
-pub fn run() -> u32 {
-    let mut input = [0u8; 4070];
-    let read = read_input(&mut input);
-    let n = read.length;
-    if !read.ok {
-        os::fail(b"formula_program: the input cannot be read");
-        return FAILED;
-    }
     let mut words = [0i32; 6048];
     let mut text = [0u8; 113920];
     let mut texts = [0u8; 540680];
-    let status = print_input(&mut words, &mut text, &mut texts, &input[0..n]);
-    if status == FAILED {
-        os::fail(b"formula_program: the output cannot be written");
-    }
-    status
+    print_input(&mut words, &mut text, &mut texts, input)
 }
 
-// The whole program, for a `main` that has an exit status.
-#[unsafe(no_mangle)]
-pub extern "C" fn runglaet_formula_program() -> u32 {
-    run()
+// The whole program, where no runtime is at hand: reads at most 4,070 bytes, the byte m and an instance, and prints. A read that
+// fails counts as the end. Answers the exit status.
+pub fn run() -> u32 {
+    let mut input = [0u8; 4070];
+    let n = io::read_full(0, &mut input);
+    print(&input[0..n])
 }
