@@ -166,7 +166,7 @@ base_given b m rule o =
     }
 
 ceiling_given : (b : List ℕ) (m rule c : ℕ) → Accepts (instance_answer b m rule) → c ≤ 128
-    → Given (instance b m rule) (under_ceiling c (instance b m rule)) (ceiling_read_answer b m rule c) (ceiling_read_slice b m rule c) (ceiling_decode_answer b m rule c) (ceiling.handedBack b m rule c) (check_answer b m rule)
+    → Given (instance b m rule) (under_ceiling c (instance b m rule)) (ceiling_read_answer b m rule c) (ceiling_read_slice b m rule c) (ceiling_decode_answer b m rule c) (ceiling.handed_back b m rule c) (check_answer b m rule)
 unfolding ceiling_read_answer ceiling_read_slice
 ceiling_given b m rule c o l =
     let w = ceiling_claim.ceiling b m rule c o l in

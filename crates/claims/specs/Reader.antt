@@ -75,4 +75,4 @@ pub record Claim : Type 0 where
       → Reader (instance b m rule) (formula (instance b m rule)) (read_answer b m rule) (read_slice b m rule) (decode_answer b m rule) (handed_back b m rule) (check_answer b m rule)
   -- and with every ceiling from 0 to 128: the variables are then all of them, and the decoder that with the ceiling
   pub ceiling_reader : (b : List ℕ) (m rule c : ℕ) → Accepts (instance_answer b m rule) → c ≤ 128
-      → Reader (instance b m rule) (under_ceiling c (instance b m rule)) (ceiling_read_answer b m rule c) (ceiling_read_slice b m rule c) (ceiling_decode_answer b m rule c) (ceiling.handedBack b m rule c) (check_answer b m rule)
+      → Reader (instance b m rule) (under_ceiling c (instance b m rule)) (ceiling_read_answer b m rule c) (ceiling_read_slice b m rule c) (ceiling_decode_answer b m rule c) (ceiling.handed_back b m rule c) (check_answer b m rule)
