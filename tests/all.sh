@@ -51,15 +51,15 @@ cargo_test() {
 # hand, all is proved first, on all processors.
 built() {
     if command -v rt >/dev/null; then
-        rt check || return 1
+        rt all check || return 1
     fi
-    RUNGLAET_LIB=$(made RUNGLAET_LIB target/staticlib/librunglaet.a "rt staticlib runglaet") &&
-        RUNGLAET_COMPARISON=$(made RUNGLAET_COMPARISON target/bin/comparison "rt check comparison") &&
+    RUNGLAET_LIB=$(made RUNGLAET_LIB target/staticlib/librunglaet.a "tools/make.sh runglaet") &&
+        RUNGLAET_COMPARISON=$(made RUNGLAET_COMPARISON target/bin/comparison "tools/make.sh comparison") &&
         program=$(status_program) && tools/shuttles/build.sh && build independent && build interface || return 1
     if [ -n "${RUNGLAET_PROGRAM:-}" ]; then
         RUNGLAET_PROGRAM=$program
     else
-        made RUNGLAET_PROGRAM target/bin/formula_program "rt check formula_program" || return 1
+        made RUNGLAET_PROGRAM target/bin/formula_program "tools/make.sh formula_program" || return 1
     fi
     export RUNGLAET_LIB RUNGLAET_COMPARISON
     echo "all is built"

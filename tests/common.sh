@@ -15,8 +15,6 @@ made() {
     case $path in /*) ;; *) path=$OLDPWD/$path ;; esac
     if [ -z "$given" ] && command -v rt >/dev/null && older "$path"; then
         echo "$2 is missing or older than a source; running: $3 (minutes when nothing is proved yet)" >&2
-        # rt takes a program for made as long as its crate's stamp is there, also where the program is gone.
-        [ -f "$path" ] || rm -f "target/stamp/${3##* }"
         if ! $3 >&2; then
             echo "$2 could not be made: '$3' failed" >&2
             exit 1

@@ -15,7 +15,7 @@ cd "$(dirname "$0")/.."
 # shellcheck source=tests/common.sh
 . tests/common.sh
 seed=${1:-1} pieces=${2:-10} count=${3:-400}
-program=$(made RUNGLAET_COMPARISON target/bin/comparison "rt check comparison")
+program=$(made RUNGLAET_COMPARISON target/bin/comparison "tools/make.sh comparison")
 build independent
 cases=tests/independent/target/release/cases
 work=$(mktemp -d)

@@ -13,7 +13,7 @@ program=$(status_program)
 status=0
 python3 tests/independent/failures.py "$text" "$program" || status=1
 if [ -z "${RUNGLAET_PROGRAM:-}" ]; then
-    program=$(made RUNGLAET_PROGRAM target/bin/formula_program "rt check formula_program")
+    program=$(made RUNGLAET_PROGRAM target/bin/formula_program "tools/make.sh formula_program")
     python3 tests/independent/failures.py --no-status "$text" "$program" || status=1
 fi
 exit "$status"

@@ -12,6 +12,6 @@ release=tests/independent/target/release
 program=$(status_program)
 "$release/program_cases" compare "$release/formula_text" "$program" "$@"
 if [ -z "${RUNGLAET_PROGRAM:-}" ]; then
-    program=$(made RUNGLAET_PROGRAM target/bin/formula_program "rt check formula_program")
+    program=$(made RUNGLAET_PROGRAM target/bin/formula_program "tools/make.sh formula_program")
     "$release/program_cases" compare --no-status "$release/formula_text" "$program" "$@"
 fi

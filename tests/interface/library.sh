@@ -4,5 +4,5 @@
 . tests/common.sh
 
 # Environment for the builds.
-RUNGLAET_LIB=$(made RUNGLAET_LIB target/staticlib/librunglaet.a "rt staticlib runglaet")
+RUNGLAET_LIB=$(made RUNGLAET_LIB target/staticlib/librunglaet.a "tools/make.sh runglaet")
 export RUNGLAET_LIB

@@ -15,7 +15,7 @@ fn main() {
         .and_then(|file| file.parent().zip(file.file_name()))
     else {
         println!(
-            "cargo::error=the proved library is not there; run `rt staticlib runglaet` in the repository or set \
+            "cargo::error=the proved library is not there; run `tools/make.sh runglaet` in the repository or set \
              RUNGLAET_LIB to its file: {}",
             library.display()
         );

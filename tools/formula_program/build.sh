@@ -29,8 +29,7 @@ if older "$library"; then
     command -v rt >/dev/null || stop "rt is missing on the path, and the program is yet to be proved: $library"
     command -v "$cc" >/dev/null || stop "$no_compiler"
     echo "proving the formula program, which takes some minutes; log: $log" >&2
-    # `rt check` proves on all processors; then only the library is left to be written.
-    (cd "$root" && rt check formula_printer && rt staticlib formula_printer) >"$log" 2>&1 ||
+    "$root/tools/make.sh" formula_printer >"$log" 2>&1 ||
         stop "proving it failed, see what rt said: $log"
 fi
 
@@ -41,8 +40,8 @@ if [ ! -x "$program" ] || [ "$(sum)" != "$(cat "$stamp" 2>/dev/null)" ]; then
     log=$root/target/formula_program.log
     command -v "$cc" >/dev/null || stop "$no_compiler"
     command -v rt >/dev/null || stop "linking needs rt, which is not on the path: $program"
-    # The toolchain's C code behind the library that says why a read or a write failed.
-    behind=$(dirname "$(rt doc)")/../lib/libos_c.a
+    # The toolchain's C code behind the library that reads and writes.
+    behind=$(dirname "$(rt doc)")/c/liblibc_c.a
     "$cc" -std=c11 -O2 -Wall -Wextra -Werror "$here/main.c" "$library" "$behind" -o "$program" >"$log" 2>&1 ||
         stop "linking it failed, see what the C compiler said: $log"
     sum >"$stamp"

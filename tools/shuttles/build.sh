@@ -27,8 +27,7 @@ if [ -z "${RUNGLAET_LIB:-}" ]; then
         command -v rt >/dev/null || stop "rt is not on the path, and the library is yet to be proved: $RUNGLAET_LIB"
         command -v cargo >/dev/null || stop "$no_cargo"
         echo "proving the library, which takes some minutes; log: $log" >&2
-        # `rt check` proves on all processors; then only the library is left to be written.
-        (cd "$root" && rt check runglaet && rt staticlib runglaet) >"$log" 2>&1 ||
+        "$root/tools/make.sh" runglaet >"$log" 2>&1 ||
             stop "the library could not be proved, see what rt said: $log"
     fi
 fi
