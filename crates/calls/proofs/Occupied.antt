@@ -49,6 +49,16 @@ all_occupied test h s here next a =
     let w = simp and_iff at h in number_is test w.0 w.1.0 w.1.1.0 (following s) (occupant_leaves s here next a)
 
 module _ (s : Sizes) (here next : Row) (a : ℕ) where
+  pub number_occupied : T (occupied? (second_number s here next a))
+  number_occupied = all_occupied occupied? tt s here next a
+
+  -- none of them is 22, and none 0
+  pub number_other : T (not (eqb (second_number s here next a) 22))
+  number_other = all_occupied (λ x. not (eqb x 22)) tt s here next a
+
+  pub numbered_occupied : T (ltb 0 (second_number s here next a))
+  numbered_occupied = all_occupied (ltb 0) tt s here next a
+
   -- under rule 1 they say what the occupant does, under rule 2 there is 25 alone
   pub number_leaves : s.rule ≢ 2 → second_number s here next a ≡ occupied_number (occupant_leaves s here next a)
   unfolding second_number
