@@ -3,19 +3,13 @@ use mathlib.Core.Path.{refl}
 use mathlib.Core.List.{[], ◌∷◌}
 use native.Mathlib.Omega.{arith}
 use mir.Facts.{to_z-of_z}
-use borrow.Author.Rules.{rules}
 use lib.ListN.{length-set}
 use Rattle.lists.proofs.Slices.{sets_filled}
 use Rattle.formula.specs.Formula.{line}
-use Rattle.clauses.proofs.put_pair.Statement.{statement}
-use Rattle.clauses.proofs.put_pair.Tie as tie
+use Rattle.clauses.proofs.put_pair.Goals as goal
 
-slice_set_from_y : tie.Need-slice-set-from-y
-slice_set_from_y c = simp length-set (omega arith)
+pub bounds-f-1 : goal.bounds-f-1
+bounds-f-1 c = simp length-set (omega arith)
 
-returns : tie.Need-returns
+pub returns : goal.returns
 returns c = (refl, rw (to_z-of_z c.ranges.x, to_z-of_z c.ranges.y) (sets_filled (line (c.args.x ∷ c.args.y ∷ [])) c.args.f.now (omega arith)))
-
-pub put_pair_spec : {M : Type 1} → statement M
-put_pair_spec =
-    tie.close (tie.spec (λ c. search rules) slice_set_from_y (λ c. search rules) (λ c. search rules) returns)
