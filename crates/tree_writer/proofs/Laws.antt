@@ -1,17 +1,19 @@
 -- A join by its cases; clauses in parts that are written one behind another, as those of a tree are.
-use mathlib.Core.Path.{◌≡◌, subst}
+use mathlib.Core.Path.{◌≡◌, sym, subst}
 use mathlib.Core.List.{List, [], ◌∷◌}
 use Prim.Native.Nat.{ℕ, ◌+◌, ◌-◌, ◌/◌, ◌≤◌, ◌<◌}
 use native.Mathlib.Nat.{zero-add, le_refl}
 use native.Mathlib.Omega.{arith}
 use borrow.Author.Tests.{lt-ltb}
 use lib.IntN.{ℤ}
-use lib.ListN.{length, get_or}
+use borrow.Rule.Slice.PartMut.{put_mid}
+use lib.ListN.{length, get_or, take, drop}
 use Rattle.lists.specs.Loop.{for, each}
-use Rattle.lists.specs.Slice.{Wrote}
-use Rattle.lists.proofs.Slices.{Filling, each_filling, each_filled}
+use Rattle.lists.specs.Slice.{filled, Wrote}
+use Rattle.lists.proofs.Slices.{Filling, each_filling, each_filled, filling_on, filling_next}
 use Rattle.formula.specs.Formula.{Clause, line}
 use Rattle.counting.specs.Over.{variables_over, clauses_over, own_clauses}
+use Rattle.counting.proofs.Laws.{two_clauses}
 use Rattle.tree_writer.specs.Rows.{joining}
 
 -- ---- the cases of a join
@@ -63,3 +65,24 @@ module _ (c l x y : ℕ) where
 
     pub own_written : {v : ℕ} → v ≡ u + variables_over c (l - l / 2) → Wrote (each line (own_clauses c l x u v)) s f r → Wrote (each line (part_at tree_parts 2)) s f r
     own_written ev w = rw (ev, eu) at w
+
+-- ---- the same tree part by part: the slice held s; the left subtree leaves f, the right's call leaves g, the node's o
+module _ (c l x y : ℕ) (two : 2 ≤ l) (s : List ℤ) (room : length (each line (clauses_over c l x y)) ≤ length s) where
+  pub tree_start : Parts (tree_parts c l x y) s 0 0 s
+  tree_start = none_written (tree_parts c l x y) (sym (two_clauses c l x y two)) room
+
+  module _ {r u : ℕ} {f : List ℤ} (left : (r ≡ length (each line (clauses_over c (l / 2) x y)))
+      × (u ≡ y + variables_over c (l / 2)) × (f ≡ filled (each line (clauses_over c (l / 2) x y)) s)) where
+    pub left_done : Parts (tree_parts c l x y) s 1 r f
+    left_done = filling_on tree_start (omega arith) (left.0, left.2)
+
+    module _ {q v : ℕ} {g : List ℤ} (right : (q ≡ length (each line (clauses_over c (l - l / 2) (x + l / 2) u)))
+        × (v ≡ u + variables_over c (l - l / 2)) × (g ≡ filled (each line (clauses_over c (l - l / 2) (x + l / 2) u)) (take (length f - r) (drop r f)))) where
+      pub right_done : Parts (tree_parts c l x y) s 2 (r + q) (put_mid r (length f - r) f g)
+      right_done = filling_next left_done (omega arith) (right_written c l x y _ _ left.1 (right.0, right.2))
+
+      module _ {k : ℕ} {o : List ℤ} (own : let b = put_mid r (length f - r) f g in
+          Wrote (each line (own_clauses c l x u v)) (take (length b - (r + q)) (drop (r + q) b)) o k) where
+        pub own_done : let b = put_mid r (length f - r) f g in
+            Parts (tree_parts c l x y) s 3 (r + q + k) (put_mid (r + q) (length b - (r + q)) b o)
+        own_done = filling_next right_done (omega arith) (own_written c l x y _ _ left.1 right.1 own)

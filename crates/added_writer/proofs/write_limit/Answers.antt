@@ -1,0 +1,46 @@
+-- `added_writer::write_limit` meets its contract: the root's output c + 1 is counted from the tree's last variable. Assumes nothing.
+use mathlib.Core.Path.{refl, sym}
+use Prim.Native.Nat.{◌*◌, ◌≤◌}
+use native.Mathlib.Omega.{arith}
+use mir.Facts.{to_z-of_z}
+use borrow.Author.Rules.{sfits_of}
+use Rattle.lists.proofs.Slices.{filled_nil}
+use Rattle.formula.proofs.Limits.{agent_steps}
+use Rattle.counting.proofs.Laws.{before_most, outputs_fit, tree_fits}
+use Rattle.added_writer.proofs.Laws.{limit_none, limit_one}
+use Rattle.added_writer.proofs.write_limit.Goals as goal
+
+pub returns-then-l-c : goal.returns-then-l-c
+returns-then-l-c c = rw (limit_none c.args.s c.args.c c.if-l-c.true) (refl, sym (filled_nil _))
+
+pub before_outputs-before-requires : goal.before_outputs-before-requires
+before_outputs-before-requires c = rw c.requires.c_bound.1 (c.requires.c_bound.0, (λ h. outputs_fit c.args.c (c.args.s.m * c.args.s.k) _ h))
+
+pub overflow_add-before : goal.overflow_add-before
+overflow_add-before c =
+    let few : c.before_outputs-before.result ≤ 40000 = let q = agent_steps c.args.s c.requires.limits in
+    rw c.before_outputs-before.ensures
+    (before_most c.args.c (c.args.s.m * c.args.s.k) c.variable_count.result c.args.next (omega (arith, c.variable_count.ensures.1)) (omega (arith, c.requires.c_bound.1, c.variable_count.ensures, tree_fits c.args.c (c.args.s.m * c.args.s.k) q))) in
+    omega (arith, few, c.requires.c_bound.0)
+
+pub overflow_add-before-2 : goal.overflow_add-before-2
+overflow_add-before-2 c =
+    let few : c.before_outputs-before.result ≤ 40000 = let q = agent_steps c.args.s c.requires.limits in
+    rw c.before_outputs-before.ensures
+    (before_most c.args.c (c.args.s.m * c.args.s.k) c.variable_count.result c.args.next (omega (arith, c.variable_count.ensures.1)) (omega (arith, c.requires.c_bound.1, c.variable_count.ensures, tree_fits c.args.c (c.args.s.m * c.args.s.k) q))) in
+    omega (arith, few, c.requires.c_bound.0)
+
+pub negation_of-requires : goal.negation_of-requires
+negation_of-requires c =
+    let few : c.before_outputs-before.result ≤ 40000 = let q = agent_steps c.args.s c.requires.limits in
+    rw c.before_outputs-before.ensures
+    (before_most c.args.c (c.args.s.m * c.args.s.k) c.variable_count.result c.args.next (omega (arith, c.variable_count.ensures.1)) (omega (arith, c.requires.c_bound.1, c.variable_count.ensures, tree_fits c.args.c (c.args.s.m * c.args.s.k) q))) in
+    omega (arith, few, c.requires.c_bound.0)
+
+pub put_unit-requires : goal.put_unit-requires
+put_unit-requires c = rw (limit_one c.args.s c.args.c c.if-l-c.false) at c.requires.c_in_bounds
+
+pub returns : goal.returns
+returns c =
+    rw (limit_one c.args.s c.args.c c.if-l-c.false)
+    (rw (to_z-of_z (sfits_of c.negation_of.type_inv), c.negation_of.ensures, c.before_outputs-before.ensures, c.variable_count.ensures.0, c.requires.c_bound.1) at c.put_unit.ensures)

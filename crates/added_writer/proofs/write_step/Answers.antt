@@ -1,0 +1,26 @@
+-- `added_writer::write_step` meets its contract. The invariant: each turn has written its clauses behind those before it. Assumes nothing.
+use native.Mathlib.Omega.{arith}
+use borrow.Author.Rules.{rules}
+use lib.ListN.{length-take, length-drop}
+use Rattle.lists.proofs.Slices.{each_filling, filling_room, filling_next, each_filled}
+use Rattle.formula.specs.Formula.{line}
+use Rattle.added_writer.specs.Moves.{agent_moves}
+use Rattle.added_writer.proofs.write_step.Goals as goal
+
+pub loop-a-init : goal.loop-a-init
+loop-a-init c = each_filling line (agent_moves c.args.s c.args.t.0) c.requires.t_in_bounds
+
+pub write_block-at-requires : goal.write_block-at-requires
+write_block-at-requires c = simp (length-take, length-drop) (let r = filling_room c.loop-a.invariant c.loop-a-test.true in search rules)
+
+pub loop-a-preserved : goal.loop-a-preserved
+loop-a-preserved c = filling_next c.loop-a.invariant c.loop-a-test.true c.write_block-at.ensures
+
+pub overflow_add-at : goal.overflow_add-at
+overflow_add-at c = let q = (loop-a-preserved c).fits in omega arith
+
+pub returns : goal.returns
+returns c = each_filled line (agent_moves c.args.s c.args.t.0) c.loop-a.invariant (omega arith)
+
+pub shape_of-f : goal.shape_of-f
+shape_of-f c = c.loop-a.invariant.same
