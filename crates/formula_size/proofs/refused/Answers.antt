@@ -3,13 +3,9 @@ use mathlib.Core.Path.{sym, ap}
 use Prim.Native.Nat.{ℕ}
 use Rattle.answers.specs.Answers.{with_clauses}
 use Rattle.answers.proofs.Laws.{by_number_refused}
-use Rattle.formula_size.proofs.refused.Statement.{statement}
-use Rattle.formula_size.proofs.refused.Tie as tie
+use Rattle.formula_size.proofs.refused.Goals as goal
 
-returns : tie.Need-returns
+pub returns : goal.returns
 unfolding with_clauses
 returns c =
     ap (λ (q : ℕ). record { number = c.args.a.number; second = c.args.a.second; clauses = q }) (sym (by_number_refused c.args.a.number 0 0 c.requires))
-
-pub refused_spec : {M : Type 1} → statement M
-refused_spec = tie.close (tie.spec returns)
