@@ -15,7 +15,7 @@ use Rattle.answers.specs.declared.Answer.{Answer}
 use Rattle.answers.specs.Answers.{Question, ask_each, refuse, accept, decide}
 use Rattle.answers.proofs.Laws.{decide_pass, decide_stop, decide_count}
 use Rattle.instance.specs.declared.Checked.{Checked}
-use Rattle.instance.specs.Instance.{Instance, instance, goals}
+use Rattle.instance.specs.Instance.{Instance, instance}
 use Rattle.instance.specs.Questions.{instance_answer, instance_checked}
 use Rattle.instance.specs.Accepted.{Accepted, instance_of}
 use Rattle.instance.proofs.Accepted.{ready, shown, k_same, e_same}
