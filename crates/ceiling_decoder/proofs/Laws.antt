@@ -18,7 +18,7 @@ use Rattle.instance.specs.Instance.{Instance, Edges, Endpoints}
 use Rattle.formula.specs.Variables.{variable_count}
 use Rattle.formula.specs.Formula.{clauses}
 use Rattle.plan.specs.Plan.{plan_row}
-use Rattle.valuation.specs.Valuation.{right_entry, true?, named, named_plan}
+use Rattle.valuation.specs.Valuation.{right_entry, true?, named_plan}
 use Rattle.valuation.specs.Satisfying.{Valuation}
 use Rattle.valuation.specs.Places.{Places}
 use Rattle.valuation.proofs.Families.{Sat}

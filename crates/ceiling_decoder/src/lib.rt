@@ -170,6 +170,6 @@ pub fn decode_ceiling(
         return answer;
     }
     let bytes = answer.second;
-    bytes::copy(&vertices[0..bytes], plan);
+    plan[0..bytes].copy_from_slice(&vertices[0..bytes]);
     answer
 }

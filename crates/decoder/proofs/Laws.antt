@@ -1,13 +1,15 @@
 -- The decoder's questions one after another, of any formula F, and what an acceptance says of the entries.
 use mathlib.Core.Path.{◌≡◌, sym, ◌∙◌, ap, subst}
 use mathlib.Core.Logic.{◌≢◌}
-use mathlib.Core.List.{List, [], ◌∷◌}
-use Prim.Native.Nat.{ℕ, suc, ◌≤◌, ◌<◌}
+use mathlib.Core.List.{List, [], ◌∷◌, ◌++◌}
+use Prim.Native.Nat.{ℕ, suc, ◌-◌, ◌≤◌, ◌<◌}
 use native.Mathlib.Omega.{arith}
-use lib.ListN.{length}
-use lib.Seq.{ext_get_or}
+use borrow.Rule.Slice.PartMut.{post_of}
+use lib.ListN.{length, take}
+use lib.Seq.{ext_get_or, length-take-le}
 use lib.Dec.{eqb, leb}
 use lib.IntN.{ℤ}
+use Rattle.lists.specs.Slice.{filled}
 use Rattle.lists.proofs.Tests.{and_iff, eqb_iff, leb_iff}
 use Rattle.lists.proofs.Blocks.{place_split}
 use Rattle.answers.specs.declared.Answer.{Answer}
@@ -16,8 +18,10 @@ use Rattle.answers.specs.Fault.{FirstFault}
 use Rattle.answers.proofs.Laws.{clear_iff, clear_second, numbered_second, decide_iff, ask_yes, ask_no, fault_pass, fault_stop, ask_nil, ask_all}
 use Rattle.instance.specs.declared.Sizes.{Sizes}
 use Rattle.instance.specs.Instance.{Instance}
+use Rattle.instance.specs.Limits.{Limits}
 use Rattle.formula.specs.Variables.{variable_count}
 use Rattle.formula.specs.Formula.{clauses, Formula}
+use Rattle.formula.proofs.Limits.{rows}
 use Rattle.plan.specs.Plan.{plan_bytes, plan_row}
 use Rattle.valuation.specs.Valuation.{right_entry, true?, named, named_plan}
 use Rattle.valuation.specs.Satisfying.{Valuation}
@@ -103,6 +107,23 @@ module _ (I : Instance) (F : Formula) (s : Sizes) (same : s ≡ I.sizes) (es : L
       let h = (clear_valuation F es).0 ((clear_second q14 q15 (q23 ∷ q24 ∷ []) o).0 t) in
       let l : bytes ≤ size = (leb_iff _ _).0 ((ask_nil (leb bytes size) (refuse 15 bytes)).0 ((clear_iff q15).0 o)) in
       record { valid = h.0; satisfies = h.1; fits = subst (λ (z : ℕ). z ≤ size) (sym bytes_same) l }
+
+  -- the accepted answer r holds the plan's bytes: they stand in an array of 528, and the slice has room for them
+  pub room : Limits s → (r : Answer) → r.number ≡ 0 → r ≡ asked → r.second ≡ plan_bytes s → (r.second ≤ 528) × (r.second ≤ size)
+  room w r e o d =
+      let y = accepted (sym (ap (λ (x : Answer). x.number) o) ∙ e) in
+      (omega (arith, rows s w), omega (arith, y.fits))
+
+-- ---- the first n of `vertices`, copied to the start of a slice with room for them
+module _ (vertices plan : List ℕ) (n : ℕ) (h : n ≤ length vertices) (l : n ≤ length plan) where
+  pub copy_fits : length (take (n - 0) plan) ≡ length (take (n - 0) vertices)
+  copy_fits = length-take-le (n - 0) plan (omega arith) ∙ sym (length-take-le (n - 0) vertices (omega arith))
+
+  pub copied : {now : List ℕ} → now ≡ take (n - 0) vertices → now ++ post_of 0 (n - 0) plan ≡ filled (take n vertices) plan
+  unfolding filled
+  copied e =
+      let z : n - 0 ≡ n = omega arith in
+      rw (e, z, length-take-le n vertices h)
 
 -- of entries that satisfy the base formula: the plan that the pass has read is the one named, and where the agents are
 module _ (I : Instance) (s : Sizes) (same : s ≡ I.sizes) (es : List ℤ) (h : Sat (true? es) (clauses I)) (p : List ℕ) (rd : Read s es p) where

@@ -91,6 +91,6 @@ pub fn decode(b: &[u8], m: usize, rule: usize, entries: &[i32], plan: &mut [u8])
         return answer;
     }
     let bytes = answer.second;
-    bytes::copy(&vertices[0..bytes], plan);
+    plan[0..bytes].copy_from_slice(&vertices[0..bytes]);
     answer
 }

@@ -1,0 +1,14 @@
+-- `added_satisfaction::tree::none_true` meets its contract. Assumes nothing.
+use mathlib.Core.Path.{◌≡◌}
+use mathlib.Core.Bool.{not}
+use Prim.Native.Nat.{◌+◌, ◌-◌, ◌≤◌}
+use Rattle.lists.specs.Loop.{every}
+use Rattle.valuation.specs.Valuation.{true?}
+use Rattle.ceiling.specs.Tree.{on}
+use Rattle.added_satisfaction.proofs.tree.none_true.Given as goal
+
+abbrev pub invariant-loop-j : goal.invariant-loop-j
+invariant-loop-j l = (l.j ≤ l.n) × (l.none ≡ every l.j (λ h. not (true? l.entries (on (l.z + (h + 1))))))
+
+abbrev pub decreases-loop-j : goal.decreases-loop-j
+decreases-loop-j l = l.n - l.j

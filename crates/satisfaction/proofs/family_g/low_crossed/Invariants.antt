@@ -1,0 +1,14 @@
+-- `satisfaction::family_g::low_crossed` meets its contract: the loop keeps that no vertex passed is exchanged with a higher one. Assumes nothing.
+use Prim.Native.Nat.{ℕ, suc, ◌-◌, ◌≤◌, ◌<◌}
+use mathlib.Core.Bool.{not}
+use lib.Dec.{T}
+use Rattle.lists.specs.Loop.{every}
+use Rattle.plan.specs.Plan.{plan_row}
+use Rattle.satisfaction.specs.Rows.{crossed}
+use Rattle.satisfaction.proofs.family_g.low_crossed.Given as goal
+
+abbrev pub invariant-loop-u : goal.invariant-loop-u
+invariant-loop-u l = (l.u ≤ l.n) × ((i : ℕ) → i < l.u → T (every l.n λ v. not (crossed l.s.k (plan_row l.s l.p l.t) (plan_row l.s l.p (suc l.t)) i v)))
+
+abbrev pub decreases-loop-u : goal.decreases-loop-u
+decreases-loop-u l = l.n - l.u
