@@ -2,11 +2,7 @@
 use native.Mathlib.Omega.{arith}
 use Rattle.tally.proofs.Laws.{passed_most}
 use Rattle.plan_tally.proofs.Laws.{within, room, full}
-use borrow.Author.Rules.{rules}
 use Rattle.plan_tally.proofs.takes_more.Goals as goal
-
-pub total_of-requires : goal.total_of-requires
-total_of-requires c = search rules
 
 pub overflow_mul-result : goal.overflow_mul-result
 overflow_mul-result c =

@@ -5,20 +5,13 @@ use Rattle.answers.specs.declared.Answer.{Answer}
 use Rattle.calls.proofs.Plan.{check_counts}
 use Rattle.calls.proofs.Tally.{check_below, tally_stops, record_stays, tally_asks, record_pass, record_refusal}
 use Rattle.plan_tally.proofs.Laws.{no_more, more, under_room, pass_room}
-use borrow.Author.Rules.{rules}
 use Rattle.plan_tally.proofs.tally_plan.Goals as goal
-
-pub takes_more-requires : goal.takes_more-requires
-takes_more-requires c = search rules
 
 pub returns-then-not-takes_more : goal.returns-then-not-takes_more
 returns-then-not-takes_more c =
     let a = c.args in
     let f = no_more a.t _ c.takes_more.ensures c.if-not-takes_more.true-raw in
     (sym (tally_stops a.b.now a.m a.rule a.p.now a.t f), sym (record_stays a.b.now a.m a.rule a.p.now a.t f))
-
-pub check_plan-answer-requires : goal.check_plan-answer-requires
-check_plan-answer-requires c = search rules
 
 pub with_refusal-requires : goal.with_refusal-requires
 with_refusal-requires c =
