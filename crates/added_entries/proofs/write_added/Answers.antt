@@ -36,7 +36,7 @@ offset_bounds-z-l c =
 pub slice_bounds-write_tree-count : goal.slice_bounds-write_tree-count
 slice_bounds-write_tree-count c =
     let known : Added c.args.s c.args.c = added c.args.s c.requires.limits c.args.c in
-    omega (arith, known, c.requires.p_len.1, c.z-1.given)
+    omega (arith, known, c.requires.p_len.1, c.write_inputs.auto.z)
 
 pub slice_bounds-write_tree-start : goal.slice_bounds-write_tree-start
 slice_bounds-write_tree-start c = slice_bounds-write_tree-count c
@@ -46,7 +46,7 @@ write_tree-requires c =
     let known : Added c.args.s c.args.c = added c.args.s c.requires.limits c.args.c in
     let k = known in
     let room = c.requires.p_len.1 in
-    let same = c.z-1.given in (
+    let same = c.write_inputs.auto.z in (
       c.requires.c_bound,
       omega (arith, c.if-l-eq0.false),
       omega arith,

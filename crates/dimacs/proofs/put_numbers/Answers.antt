@@ -16,7 +16,7 @@ put_positive-requires c =
     ((c.requires.0, i.1.0 ∙ c.requires.1), omega (arith, c.loop-x-test.true), i.1.1)
 
 pub loop-x-preserved : goal.loop-x-preserved
-loop-x-preserved c = (omega arith, (c.texts-1.given ∙ c.loop-x.invariant.1.0, c.put_positive.ensures))
+loop-x-preserved c = (omega arith, (c.put_positive.auto.texts ∙ c.loop-x.invariant.1.0, c.put_positive.ensures))
 
 pub shape_of-texts : goal.shape_of-texts
 shape_of-texts c = c.loop-x.invariant.1.0

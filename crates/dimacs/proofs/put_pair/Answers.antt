@@ -12,10 +12,10 @@ use Rattle.dimacs.proofs.Table.{begins_part, begins_set, pair_end}
 use Rattle.dimacs.proofs.put_pair.Goals as goal
 
 pub bounds-out-n-2 : goal.bounds-out-n-2
-bounds-out-n-2 c = simp length-set (omega (arith, c.put_word-m.ensures.1, c.put_word.ensures.1, c.out-1.given, c.out-2-1.given.1, c.requires.3))
+bounds-out-n-2 c = simp length-set (omega (arith, c.put_word-m.ensures.1, c.put_word.ensures.1, c.requires.3))
 
 pub shape_of-out : goal.shape_of-out
-shape_of-out c = simp length-set (c.out-2-1.given.1 ∙ c.out-1.given)
+shape_of-out c = simp length-set (omega arith)
 
 pub returns : goal.returns
 returns c =
@@ -29,7 +29,7 @@ returns c =
     let by : Begins (word_text y) ys n = rw (to_z-of_z c.ranges.y) at c.put_word.ensures.0 in
     let g : List ℕ = put_mid m (length f - m) f ys in
     let b : Begins (word_text x ++ word_text y) g (m + n) = begins_part f ys (word_text x) (word_text y) m n bx by in
-    let l : length g ≡ length c.args.out.now = c.out-2-1.given.1 ∙ c.out-1.given in
+    let l : length g ≡ length c.args.out.now = omega arith in
     let most : m + n ≤ 16 = omega (arith, c.put_word-m.ensures.1, c.put_word.ensures.1) in
     let b1 = begins_set (word_text x ++ word_text y) g (m + n) 48 b (omega (arith, c.requires.3)) in
     let b2 = begins_set ((word_text x ++ word_text y) ++ 48 ∷ []) (set g (m + n) 48) (m + n + 1) 10 b1 (simp length-set (omega (arith, c.requires.3))) in

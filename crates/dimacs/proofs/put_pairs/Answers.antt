@@ -9,7 +9,7 @@ use lib.Seq.{take_all}
 use mir.Syntax.{w32}
 use mir.Val.{SFits}
 use mir.Facts.{to_z-of_z}
-use borrow.Author.Rules.{sfits_of}
+use borrow.Author.Rules.{rules}
 use Rattle.lists.specs.Loop.{for, each}
 use Rattle.dimacs.specs.Text.{word_text, words_text}
 use Rattle.dimacs.specs.Table.{Begins}
@@ -23,8 +23,8 @@ pub put_pair-at-requires : goal.put_pair-at-requires
 put_pair-at-requires c =
     let ws = c.args.words.now in
     let i = c.loop-i.i in
-    let fx : SFits w32 (get_or ws (3 * i) (pos 0)) = sfits_of c.put_pair-arg-in-loop-i-1.given in
-    let fy : SFits w32 (get_or ws (3 * i + 1) (pos 0)) = sfits_of c.put_pair-arg-in-loop-i-2-1.given in
+    let fx : SFits w32 (get_or ws (3 * i) (pos 0)) = search rules in
+    let fy : SFits w32 (get_or ws (3 * i + 1) (pos 0)) = search rules in
     let p = c.requires.2 in (
       c.requires.0,
       rw (to_z-of_z fx) (within_at c.args.top ws (3 * i) c.requires.1 (omega (arith, c.loop-i-test.true))),
@@ -36,11 +36,11 @@ pub loop-i-preserved : goal.loop-i-preserved
 loop-i-preserved c =
     let ws = c.args.words.now in
     let i = c.loop-i.i in
-    let fx : SFits w32 (get_or ws (3 * i) (pos 0)) = sfits_of c.put_pair-arg-in-loop-i-1.given in
-    let fy : SFits w32 (get_or ws (3 * i + 1) (pos 0)) = sfits_of c.put_pair-arg-in-loop-i-2-1.given in
+    let fx : SFits w32 (get_or ws (3 * i) (pos 0)) = search rules in
+    let fy : SFits w32 (get_or ws (3 * i + 1) (pos 0)) = search rules in
     let l = c.loop-i in
     let b : Begins (pair_at ws i) c.put_pair-at.new.out c.put_pair-at.result = rw (to_z-of_z fx, to_z-of_z fy) at c.put_pair-at.ensures.0 in
-    (omega arith, (omega (arith, c.put_pair-at.ensures.1), (c.out-1.given.1 ∙ l.invariant.1.1.0, rw add-one (begins_part l.out c.put_pair-at.new.out (for i (pair_at ws)) (pair_at ws i) l.at c.put_pair-at.result l.invariant.1.1.1 b))))
+    (omega arith, (omega (arith, c.put_pair-at.ensures.1), (omega arith, rw add-one (begins_part l.out c.put_pair-at.new.out (for i (pair_at ws)) (pair_at ws i) l.at c.put_pair-at.result l.invariant.1.1.1 b))))
 
 pub shape_of-out : goal.shape_of-out
 shape_of-out c = c.loop-i.invariant.1.1.0

@@ -27,7 +27,7 @@ pub bounds-texts-at : goal.bounds-texts-at
 bounds-texts-at c = let e = rw (to_z-of_z c.ranges.w) at c.entry_of-at.ensures in omega (arith, e, entry_inside c.args.top c.args.texts.now c.args.w c.requires.0 c.requires.1, c.requires.0.sized)
 
 pub overflow_cast-result : goal.overflow_cast-result
-overflow_cast-result c = omega (arith, c.shared_slice_known-2-1.given (8 * c.entry_of-at.result + 7))
+overflow_cast-result c = omega (arith, c.type_inv.texts (8 * c.entry_of-at.result + 7))
 
 pub returns : goal.returns
 returns c =
