@@ -244,8 +244,8 @@ fn put_line(out: &mut [u8], label: &[u8], x: usize, y: usize) -> usize
     requires { length label.now + 42 ≤ length out.old }
     ensures { Wrote (label.now ++ (ended x 32 ++ ended y 10)) out.old out.new result × (result ≤ length label.now + 42) }
 {
-    bytes::copy(label, out);
     let n = label.len();
+    out[0..n].copy_from_slice(label);
     let to = n + put_ended(&mut out[n..], x, b' ');
     to + put_ended(&mut out[to..], y, b'\n')
 }

@@ -1,0 +1,59 @@
+-- `plan_check::rest_time` meets its contract. The loop keeps the time until rest in the rows passed, and that it is not after them (so
+-- that a count of moves is refused for its value alone). Assumes nothing.
+use mathlib.Core.Logic.{⊎_elim}
+use mathlib.Core.Path.{◌≡◌, ◌∙◌, ap}
+use Prim.Native.Nat.{ℕ, ◌-◌}
+use native.Mathlib.Omega.{arith}
+use Rattle.plan.specs.Plan.{plan_row, rest_time}
+use Rattle.plan.proofs.Rows.{Rows, rows}
+use Rattle.plan_check.proofs.Laws.{rest_begins, rest_same, rest_changed}
+use Rattle.plan_check.proofs.rest_time.Goals as goal
+
+pub loop-t-init : goal.loop-t-init
+loop-t-init c = (omega arith, (rest_begins c.args.s c.args.p.now c.args.a, omega arith))
+
+pub overflow_mul-row : goal.overflow_mul-row
+overflow_mul-row c =
+    let known : Rows c.args.s c.args.p.now c.loop-t.t = rows _ _ _ c.requires.0 (omega arith) in
+    omega (arith, known)
+
+pub overflow_add-next : goal.overflow_add-next
+overflow_add-next c =
+    let known : Rows c.args.s c.args.p.now c.loop-t.t = rows _ _ _ c.requires.0 (omega arith) in
+    omega (arith, known)
+
+pub overflow_add-row : goal.overflow_add-row
+overflow_add-row c =
+    let known : Rows c.args.s c.args.p.now c.loop-t.t = rows _ _ _ c.requires.0 (omega arith) in
+    omega (arith, known)
+
+pub bounds-p-row : goal.bounds-p-row
+bounds-p-row c =
+    let known : Rows c.args.s c.args.p.now c.loop-t.t = rows _ _ _ c.requires.0 (omega arith) in
+    omega (arith, known)
+
+pub overflow_add-next-in-loop-t : goal.overflow_add-next-in-loop-t
+overflow_add-next-in-loop-t c =
+    let known : Rows c.args.s c.args.p.now c.loop-t.t = rows _ _ _ c.requires.0 (omega arith) in
+    omega (arith, known)
+
+pub bounds-p-next : goal.bounds-p-next
+bounds-p-next c =
+    let known : Rows c.args.s c.args.p.now c.loop-t.t = rows _ _ _ c.requires.0 (omega arith) in
+    omega (arith, known)
+
+pub loop-t-preserved : goal.loop-t-preserved
+loop-t-preserved c =
+    let s = c.args in
+    let l = c.loop-t in
+    ⊎_elim
+    (λ w. (omega arith, (rw w.rest-is (omega (arith, rest_changed s.s s.p.now s.a l.t w.if-p-row.true)), omega arith)))
+    (λ w. (omega arith, (rw w.rest-is (rest_same s.s s.p.now s.a l.t l.rest l.invariant.1.0 w.if-p-row.false), omega arith)))
+    c.if-p-row.branch-raw
+
+pub returns : goal.returns
+returns c =
+    let s = c.args in
+    let l = c.loop-t in
+    let e : l.t ≡ s.rows - 1 = omega arith in
+    l.invariant.1.0 ∙ ap (λ (j : ℕ). rest_time j (plan_row s.s s.p.now) s.a) e

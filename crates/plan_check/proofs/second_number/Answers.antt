@@ -1,0 +1,13 @@
+-- `plan_check::second_number` meets its contract: by the rule. Assumes nothing.
+use mathlib.Core.Path.{sym, ◌∙◌}
+use Rattle.calls.proofs.Occupied.{number_leaves, number_exchange}
+use Rattle.plan_check.proofs.second_number.Goals as goal
+
+pub occupied_number-requires : goal.occupied_number-requires
+occupied_number-requires c = record { p_len = c.requires.p_len; rule_nonzero = (c.if-s-ne2.true, c.requires.fact) }
+
+pub returns-then-s-ne2 : goal.returns-then-s-ne2
+returns-then-s-ne2 c = c.occupied_number.ensures ∙ sym (number_leaves _ _ _ _ c.if-s-ne2.true)
+
+pub returns : goal.returns
+returns c = sym (number_exchange _ _ _ _ c.if-s-ne2.false)
