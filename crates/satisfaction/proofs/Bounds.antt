@@ -4,6 +4,8 @@ use native.Mathlib.Nat.{mul-le-mul, mul-le-mul_right, suc-mul}
 use native.Mathlib.Numerals.{add-one}
 use native.Mathlib.Omega.{arith}
 use mathlib.Core.Path.{◌≡◌}
+use mathlib.Core.List.{List}
+use lib.ListN.{length}
 use Rattle.instance.specs.declared.Sizes.{Sizes}
 use Rattle.instance.specs.Limits.{Limits}
 use Rattle.plan.specs.Plan.{plan_bytes}
@@ -47,6 +49,14 @@ row_fits s t l = let o : suc t ≤ suc s.m = omega arith in omega (arith, suc-mu
 
 pub two_fit : (s : Sizes) (t : ℕ) → t < s.m → t * s.k + s.k + s.k ≤ plan_bytes s
 two_fit s t l = omega (arith, row_fits s (suc t) l, suc-mul t s.k)
+
+-- row t stands within the plan's bytes p, and where t is a step, row t + 1 behind it
+module _ (s : Sizes) (w : Limits s) (p : List ℕ) (t : ℕ) (e : length p ≡ plan_bytes s) where
+  pub row_within : t ≤ s.m → (t * s.k + s.k ≤ length p) × (length p ≤ 528)
+  row_within h = (omega (arith, row_fits s t h), omega (arith, (products s w).cells))
+
+  pub rows_within : t < s.m → (t * s.k + s.k + s.k ≤ length p) × (length p ≤ 528)
+  rows_within h = (omega (arith, two_fit s t h), omega (arith, (products s w).cells))
 
 -- what stands before block i of c blocks of one size
 pub blocks_fit : (i c size : ℕ) → i ≤ c → i * size ≤ c * size

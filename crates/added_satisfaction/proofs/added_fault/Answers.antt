@@ -11,6 +11,7 @@ use Rattle.added_satisfaction.proofs.Trees.{fault_most}
 use Rattle.added_satisfaction.proofs.Added.{assigned, room, added_none, in_moves, in_chain, in_counted}
 use Rattle.added_satisfaction.proofs.added_fault.Goals as goal
 
+-- what is found is within the number of the clauses
 within : (s : Sizes) (c : ℕ) (es : List ℤ) (r : ℕ) → Fault es (added_clauses s c) r → Fault es (added_clauses s c) r × (r ≤ added_count s c)
 within s c es r f = (f, fault_most es _ (added_count s c) r (added_count_lem s c) f)
 
@@ -18,6 +19,7 @@ pub returns-then-s-eq0 : goal.returns-then-s-eq0
 returns-then-s-eq0 c =
     within c.args.s c.args.c c.args.entries.now 0 (added_none c.args.s c.args.c c.args.entries.now c.if-s-eq0.true)
 
+-- each added variable has an entry
 pub moves_fault-moves-requires : goal.moves_fault-moves-requires
 moves_fault-moves-requires c =
     let w = assigned c.args.s c.args.c c.args.entries.now c.requires.limits c.requires.valuation in

@@ -8,6 +8,7 @@ use Rattle.counting.proofs.Laws.{outputs_fit}
 use Rattle.added_satisfaction.proofs.Added.{inputs_some, counters_stop, counters_pass}
 use Rattle.added_satisfaction.proofs.counted_fault.Goals as goal
 
+-- how many inputs the tree has
 few : (s : Sizes) → Limits s → 1 ≤ s.m → (1 ≤ s.m * s.k) × (s.m * s.k ≤ 512)
 few s w h = (inputs_some s w h, agent_steps s w)
 
@@ -27,7 +28,10 @@ returns-then-t c =
 pub limit_fault-requires : goal.limit_fault-requires
 limit_fault-requires c =
     let e = c.tree_fault-t.ensures.next_value c.if-t.false in
-    record { assigned = c.requires.assigned.0; c_bound = (c.requires.limits.2, omega arith, omega arith, (λ h. omega (arith, outputs_fit c.args.c (c.args.s.m * c.args.s.k) 0 h))) }
+    record {
+      assigned = c.requires.assigned.0;
+      c_bound = (c.requires.limits.2, omega arith, omega arith, (λ h. omega (arith, outputs_fit c.args.c (c.args.s.m * c.args.s.k) 0 h)));
+    }
 
 pub returns : goal.returns
 returns c =

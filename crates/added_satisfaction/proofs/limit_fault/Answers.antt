@@ -25,7 +25,10 @@ overflow_add-before_outputs c =
 
 pub is_true-requires : goal.is_true-requires
 is_true-requires c =
-    record { assigned = c.requires.assigned; le_z = (omega arith, omega (arith, within c.args.c c.args.l c.args.x c.args.next (length c.args.entries.now) c.requires.c_bound.1 c.requires.c_bound.2 c.requires.c_bound.3 c.if-l-c.false, c.before_outputs.ensures)) }
+    record {
+      assigned = c.requires.assigned;
+      le_z = (omega arith, omega (arith, within c.args.c c.args.l c.args.x c.args.next (length c.args.entries.now) c.requires.c_bound.1 c.requires.c_bound.2 c.requires.c_bound.3 c.if-l-c.false, c.before_outputs.ensures));
+    }
 
 pub returns-then-is_true : goal.returns-then-is_true
 returns-then-is_true c =

@@ -38,4 +38,8 @@ loop-i-preserved c = (omega arith, below_more _ _ c.loop-i.invariant.1 (holds c.
 pub returns : goal.returns
 returns c =
     let most : c.args.s.m * c.args.s.k * c.args.s.n ≤ 32768 = moves_most c.args.s c.requires.limits in
-    let l = c.loop-i in record { s_len = (moves_size c.args.s, most); fault = moves_pass c.args.s c.args.entries.now c.args.p.now c.requires.p_len.1 l.i (omega arith) (rw c.variable_count-first.ensures.0 at l.invariant.1) }
+    let l = c.loop-i in
+    record {
+      s_len = (moves_size c.args.s, most);
+      fault = moves_pass c.args.s c.args.entries.now c.args.p.now c.requires.p_len.1 l.i (omega arith) (rw c.variable_count-first.ensures.0 at l.invariant.1);
+    }

@@ -24,20 +24,26 @@ use Rattle.ceiling_decoder.proofs.clause_fault.Goals as goal
 pub variable_count-n-requires : goal.variable_count-n-requires
 variable_count-n-requires c = c.requires.ready.limits
 
+-- `enough`: all entries are there
 pub slice_bounds-clause_fault-end : goal.slice_bounds-clause_fault-end
 unfolding ceiling_variables
 slice_bounds-clause_fault-end c =
     let enough : variable_count c.args.s ≤ length c.args.entries.now = let e = c.requires.valuation.0.size in omega arith in
     omega (arith, c.variable_count-n.ensures.0, enough)
 
+-- `lent_first`: the entries lent are the first N
 pub clause_fault-base-requires : goal.clause_fault-base-requires
 clause_fault-base-requires c =
     let lent_first : c.variable_count-n.result - 0 ≡ variable_count c.args.s = let e = c.variable_count-n.ensures.0 in omega arith in
-    record { ready = c.requires.ready; read = subst (λ (x : ℕ). Read c.args.s (take x c.args.entries.now) c.args.p.now) (sym lent_first) c.requires.valuation.1 }
+    record {
+      ready = c.requires.ready;
+      read = subst (λ (x : ℕ). Read c.args.s (take x c.args.entries.now) c.args.p.now) (sym lent_first) c.requires.valuation.1;
+    }
 
 pub clause_count-count-requires : goal.clause_count-count-requires
 clause_count-count-requires c = c.requires.ready.limits
 
+-- `found`: for an instance that is shown, what was found
 pub returns-then-base-count : goal.returns-then-base-count
 returns-then-base-count c =
     let lent_first : c.variable_count-n.result - 0 ≡ variable_count c.args.s = let e = c.variable_count-n.ensures.0 in omega arith in
@@ -54,7 +60,12 @@ added_fault-requires c =
     let I = i.instance in
     let g = i.shows in
     let q = passes_base I c.args.s g.graph.sizes i.ends i.edges c.args.c c.args.entries.now c.requires.valuation.0 c.clause_fault-base.result (found I g i.edges) (omega (arith, counted I g, c.if-base-count.false)) in
-    record { limits = c.requires.ready.limits; c_bound = c.requires.c_bound; valuation = c.requires.valuation.0; p_len = (c.requires.valuation.1.size, places_read I c.args.s g.graph.sizes i.ends i.edges c.args.c c.args.entries.now c.requires.valuation.0 q c.args.p.now c.requires.valuation.1) }
+    record {
+      limits = c.requires.ready.limits;
+      c_bound = c.requires.c_bound;
+      valuation = c.requires.valuation.0;
+      p_len = (c.requires.valuation.1.size, places_read I c.args.s g.graph.sizes i.ends i.edges c.args.c c.args.entries.now c.requires.valuation.0 q c.args.p.now c.requires.valuation.1);
+    }
 
 pub overflow_add-result : goal.overflow_add-result
 overflow_add-result c = omega (arith, c.clause_count-count.ensures, clauses_most _ c.requires.ready.limits, c.added_fault.ensures.1, added_most c.args.s c.requires.ready.limits c.args.c c.requires.c_bound)

@@ -47,6 +47,7 @@ ask_entries-answer-requires c =
       vertices_len = refl;
     }
 
+-- `o`: what was asked of the entries, and the plan that was read
 pub returns-then-answer-ne0 : goal.returns-then-answer-ne0
 unfolding ceiling_decode_answer ceiling_decode_slice
 returns-then-answer-ne0 c =

@@ -33,12 +33,14 @@ returns-then-refusal-ne0 c =
     let e = instance_refuses c.args.b.now c.args.m c.args.rule i.result.answer i.result.checked i.ensures.0 i.ensures.1 (asks c.args.entries.now (length c.args.plan.now)) count c.if-refusal-ne0.true in
     record { value = e; plan_after = slice_refused _ i.result.answer e _ c.args.plan.now c.if-refusal-ne0.true }
 
+-- `w`: the instance is accepted
 pub ask_entries-answer-requires : goal.ask_entries-answer-requires
 ask_entries-answer-requires c =
     let i = c.check_instance-inspection in
     let w = passed c.args.b.now c.args.m c.args.rule i.result.answer i.result.checked i.ensures.0 i.ensures.1 c.if-refusal-ne0.false in
     record { ready = ready _ _ w; vertices_len = refl }
 
+-- `o`: what was asked of the entries, and the plan that was read
 pub returns-then-answer-ne0 : goal.returns-then-answer-ne0
 unfolding decode_answer decode_slice
 returns-then-answer-ne0 c =

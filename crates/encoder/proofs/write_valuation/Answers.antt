@@ -1,7 +1,7 @@
 -- `encoder::write_valuation` meets its contract: before turn t of agent a the rows before theirs stand in the slice. Assumes nothing.
 use mathlib.Core.Path.{◌≡◌, refl, sym, ◌∙◌, ap}
 use mathlib.Core.List.{List, append-nil}
-use Prim.Native.Nat.{ℕ, suc, ◌+◌, ◌-◌, ◌*◌, ◌≤◌, ◌<◌}
+use Prim.Native.Nat.{ℕ, suc, ◌+◌, ◌-◌, ◌≤◌, ◌<◌}
 use native.Mathlib.Omega.{arith}
 use native.Mathlib.Nat.{suc-mul}
 use native.Mathlib.Numerals.{add-one}
@@ -10,25 +10,31 @@ use lib.ListN.{length, get_or, take, drop, length-take, length-drop}
 use Rattle.lists.specs.Slice.{filled}
 use Rattle.lists.proofs.Slices.{filled_nil}
 use Rattle.lists.proofs.Blocks.{place_lt}
-use Rattle.formula.specs.Variables.{index, variable_count}
+use Rattle.formula.specs.Variables.{variable_count}
 use Rattle.formula.proofs.Limits.{rows, variables_most}
 use Rattle.formula.proofs.Variables.{run_fits, first_run, next_run, next_agent}
 use Rattle.valuation.specs.Valuation.{plan_valuation}
 use Rattle.encoder.proofs.Laws.{before, row_is, next_row, next_history}
-use Rattle.instance.specs.declared.Sizes.{Sizes}
-use Rattle.instance.specs.Limits.{Limits}
-use Rattle.plan.specs.Plan.{plan_bytes}
 use Rattle.encoder.proofs.write_valuation.Goals as goal
+use Rattle.encoder.proofs.write_valuation.Goals.{In-loop-t}
 
--- agent a's byte of time t in the plan
-byte_within : (s : Sizes) (p : List ℕ) (t a b : ℕ) → Limits s → length p ≡ plan_bytes s → t < suc s.m → a < s.k → b ≡ t * s.k + a
-    → (b < length p) × (length p ≤ 528)
-byte_within s p t a b w e ht ha eb = (omega (arith, place_lt (suc s.m) s.k t a ht ha), omega (arith, rows s w))
+-- the agent's byte in the plan
+byte : (c : In-loop-t) → (c.loop-t.byte < length c.args.p.now) × (length c.args.p.now ≤ 528)
+byte c =
+    let e = c.requires.p_len.0 in (
+      omega (arith, c.loop-t.invariant.4, place_lt (suc c.args.s.m) c.args.s.k c.loop-t.t c.loop-a.a (omega (arith, c.loop-t-test.true)) c.loop-a-test.true),
+      omega (arith, rows c.args.s c.requires.limits),
+    )
 
 -- its row in the slice
-row_within : (s : Sizes) (z l : List ℤ) (t a i : ℕ) → Limits s → variable_count s ≤ length l → length z ≡ length l → t < suc s.m → a < s.k
-    → i ≡ index s t a 0 → (i + s.n ≤ variable_count s) × (variable_count s ≤ 33792) × (variable_count s ≤ length z)
-row_within s z l t a i w room e ht ha ei = (omega (arith, run_fits s t a ht ha), variables_most s w, omega arith)
+row : (c : In-loop-t) → (c.loop-t.at + c.args.s.n ≤ variable_count c.args.s) × (variable_count c.args.s ≤ 33792) × (variable_count c.args.s ≤ length c.loop-t.z)
+row c =
+    let e = c.loop-t.invariant.1 in
+    let l : length c.loop-t.z ≡ length c.args.z.now = c.loop-t.invariant.2 ∙ c.loop-a.invariant.2 in (
+      omega (arith, run_fits c.args.s c.loop-t.t c.loop-a.a (omega (arith, c.loop-t-test.true)) c.loop-a-test.true),
+      variables_most c.args.s c.requires.limits,
+      omega (arith, c.requires.p_len.1),
+    )
 
 pub overflow_add-rows : goal.overflow_add-rows
 overflow_add-rows c = omega (arith, c.requires.limits.m_most)
@@ -40,49 +46,37 @@ pub loop-t-init : goal.loop-t-init
 loop-t-init c = (omega arith, c.loop-a.invariant.1, refl, (λ z₀ l e. e), omega arith)
 
 pub overflow_add-first : goal.overflow_add-first
-overflow_add-first c =
-    let fits = row_within c.args.s c.loop-t.z c.args.z.now c.loop-t.t c.loop-a.a c.loop-t.at c.requires.limits c.requires.p_len.1 (c.loop-t.invariant.2 ∙ c.loop-a.invariant.2) (omega (arith, c.loop-t-test.true)) c.loop-a-test.true c.loop-t.invariant.1 in
-    omega (arith, fits)
+overflow_add-first c = omega (arith, row (goal.at.overflow_add-first c).In-loop-t)
 
 pub bounds-p-byte : goal.bounds-p-byte
-bounds-p-byte c = omega (arith, byte_within c.args.s c.args.p.now c.loop-t.t c.loop-a.a c.loop-t.byte c.requires.limits c.requires.p_len.0 (omega (arith, c.loop-t-test.true)) c.loop-a-test.true c.loop-t.invariant.4)
+bounds-p-byte c = omega (arith, byte (goal.at.bounds-p-byte c).In-loop-t)
 
 pub offset_bounds-z-at : goal.offset_bounds-z-at
-offset_bounds-z-at c =
-    let fits = row_within c.args.s c.loop-t.z c.args.z.now c.loop-t.t c.loop-a.a c.loop-t.at c.requires.limits c.requires.p_len.1 (c.loop-t.invariant.2 ∙ c.loop-a.invariant.2) (omega (arith, c.loop-t-test.true)) c.loop-a-test.true c.loop-t.invariant.1 in
-    omega (arith, fits)
+offset_bounds-z-at c = omega (arith, row (goal.at.offset_bounds-z-at c).In-loop-t)
 
 pub slice_bounds-write_agent-count : goal.slice_bounds-write_agent-count
-slice_bounds-write_agent-count c =
-    let fits = row_within c.args.s c.loop-t.z c.args.z.now c.loop-t.t c.loop-a.a c.loop-t.at c.requires.limits c.requires.p_len.1 (c.loop-t.invariant.2 ∙ c.loop-a.invariant.2) (omega (arith, c.loop-t-test.true)) c.loop-a-test.true c.loop-t.invariant.1 in
-    omega (arith, fits)
+slice_bounds-write_agent-count c = omega (arith, row (goal.at.slice_bounds-write_agent-count c).In-loop-t)
 
 pub slice_bounds-write_agent-start : goal.slice_bounds-write_agent-start
-slice_bounds-write_agent-start c =
-    let fits = row_within c.args.s c.loop-t.z c.args.z.now c.loop-t.t c.loop-a.a c.loop-t.at c.requires.limits c.requires.p_len.1 (c.loop-t.invariant.2 ∙ c.loop-a.invariant.2) (omega (arith, c.loop-t-test.true)) c.loop-a-test.true c.loop-t.invariant.1 in
-    omega (arith, fits)
+slice_bounds-write_agent-start c = omega (arith, row (goal.at.slice_bounds-write_agent-start c).In-loop-t)
 
 pub slice_bounds-write_agent-end : goal.slice_bounds-write_agent-end
-slice_bounds-write_agent-end c =
-    let fits = row_within c.args.s c.loop-t.z c.args.z.now c.loop-t.t c.loop-a.a c.loop-t.at c.requires.limits c.requires.p_len.1 (c.loop-t.invariant.2 ∙ c.loop-a.invariant.2) (omega (arith, c.loop-t-test.true)) c.loop-a-test.true c.loop-t.invariant.1 in
-    omega (arith, fits)
+slice_bounds-write_agent-end c = omega (arith, row (goal.at.slice_bounds-write_agent-end c).In-loop-t)
 
 pub write_agent-requires : goal.write_agent-requires
 write_agent-requires c =
-    let fits = row_within c.args.s c.loop-t.z c.args.z.now c.loop-t.t c.loop-a.a c.loop-t.at c.requires.limits c.requires.p_len.1 (c.loop-t.invariant.2 ∙ c.loop-a.invariant.2) (omega (arith, c.loop-t-test.true)) c.loop-a-test.true c.loop-t.invariant.1 in
+    let fits = row (goal.at.write_agent-requires c).In-loop-t in
     (omega (arith, fits), simp (length-take, length-drop) (omega (arith, fits)))
 
 pub overflow_add-at : goal.overflow_add-at
-overflow_add-at c =
-    let fits = row_within c.args.s c.loop-t.z c.args.z.now c.loop-t.t c.loop-a.a c.loop-t.at c.requires.limits c.requires.p_len.1 (c.loop-t.invariant.2 ∙ c.loop-a.invariant.2) (omega (arith, c.loop-t-test.true)) c.loop-a-test.true c.loop-t.invariant.1 in
-    omega (arith, fits)
+overflow_add-at c = omega (arith, row (goal.at.overflow_add-at c).In-loop-t)
 
 pub overflow_add-byte : goal.overflow_add-byte
-overflow_add-byte c = omega (arith, byte_within c.args.s c.args.p.now c.loop-t.t c.loop-a.a c.loop-t.byte c.requires.limits c.requires.p_len.0 (omega (arith, c.loop-t-test.true)) c.loop-a-test.true c.loop-t.invariant.4, c.requires.limits.k_most)
+overflow_add-byte c = omega (arith, byte (goal.at.overflow_add-byte c).In-loop-t, c.requires.limits.k_most)
 
 pub loop-t-preserved : goal.loop-t-preserved
 loop-t-preserved c =
-    let fits = row_within c.args.s c.loop-t.z c.args.z.now c.loop-t.t c.loop-a.a c.loop-t.at c.requires.limits c.requires.p_len.1 (c.loop-t.invariant.2 ∙ c.loop-a.invariant.2) (omega (arith, c.loop-t-test.true)) c.loop-a-test.true c.loop-t.invariant.1 in
+    let fits = row (goal.at.loop-t-preserved c).In-loop-t in
     let turn = c.loop-t in
     let s = c.args.s in
     let p = c.args.p.now in (

@@ -22,7 +22,12 @@ loop-t-init c = (omega arith, omega (arith, c.loop-which.invariant.1), omega (ar
 
 pub row_fault-r-requires : goal.row_fault-r-requires
 unfolding Before
-row_fault-r-requires c = record { ready = c.requires.ready; read = c.requires.read; which_bound = (c.loop-which-test.true, omega (arith, c.loop-t-test.true, c.times_of-count.ensures.0), (for_all (satisfied? c.args.entries.now) c.loop-which.which (family (held_in c.args.s c.args.starts.now c.args.goals.now c.args.near.now))).0 c.loop-which.invariant.3) }
+row_fault-r-requires c =
+    record {
+      ready = c.requires.ready;
+      read = c.requires.read;
+      which_bound = (c.loop-which-test.true, omega (arith, c.loop-t-test.true, c.times_of-count.ensures.0), (for_all (satisfied? c.args.entries.now) c.loop-which.which (family (held_in c.args.s c.args.starts.now c.args.goals.now c.args.near.now))).0 c.loop-which.invariant.3);
+    }
 
 pub overflow_add-result : goal.overflow_add-result
 overflow_add-result c = omega (arith, c.loop-t.invariant.0, c.loop-t.invariant.1, c.times_of-count.ensures.1, c.row_fault-r.ensures.t_len.1, c.loop-which-test.true, c.if-r.true)

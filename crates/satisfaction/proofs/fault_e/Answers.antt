@@ -1,14 +1,14 @@
 -- `satisfaction::fault_e` meets its contract: the first shared vertex, its first agent and the next. Assumes nothing.
-use Prim.Native.Nat.{ℕ, ◌+◌, ◌-◌, ◌*◌, ◌/◌, ◌≤◌, ◌<◌}
+use Prim.Native.Nat.{ℕ, ◌+◌, ◌-◌, ◌*◌, ◌/◌, ◌<◌}
 use mathlib.Core.Path.{◌≡◌, refl, ap}
 use native.Mathlib.Omega.{arith}
 use mathlib.Core.Bool.{not}
-use lib.ListN.{length, get_or}
+use lib.ListN.{get_or}
 use lib.Dec.{eqb}
 use Rattle.answers.specs.Fault.{FirstFault}
 use Rattle.answers.proofs.Faults.{fault_ext}
 use Rattle.plan.specs.Plan.{plan_row}
-use Rattle.satisfaction.proofs.Bounds.{Products, products, row_fits, blocks_fit}
+use Rattle.satisfaction.proofs.Bounds.{products, blocks_fit, row_within}
 use Rattle.satisfaction.proofs.Steps.{shared_agent}
 use Rattle.satisfaction.proofs.Truth.{none_E, here_E}
 use Rattle.satisfaction.proofs.fault_e.Goals as goal
@@ -16,21 +16,20 @@ use Rattle.satisfaction.proofs.fault_e.Goals as goal
 pub pair_count-size-requires : goal.pair_count-size-requires
 pair_count-size-requires c = omega (arith, c.requires.limits.k_most)
 
+-- `room`: row t stands within the plan
 pub overflow_mul-row : goal.overflow_mul-row
 overflow_mul-row c =
-    let known : Products c.args.s = products c.args.s c.requires.limits in
-    let room : (c.args.t * c.args.s.k + c.args.s.k ≤ length c.args.p.now) × (length c.args.p.now ≤ 528) = let e = c.requires.p_len.0 in (omega (arith, row_fits c.args.s c.args.t c.requires.p_len.1), omega (arith, known.cells)) in
+    let room = row_within c.args.s c.requires.limits c.args.p.now c.args.t c.requires.p_len.0 c.requires.p_len.1 in
     omega (arith, room)
 
 pub lowest_shared-v-requires : goal.lowest_shared-v-requires
 lowest_shared-v-requires c =
-    let known : Products c.args.s = products c.args.s c.requires.limits in
-    let room : (c.args.t * c.args.s.k + c.args.s.k ≤ length c.args.p.now) × (length c.args.p.now ≤ 528) = let e = c.requires.p_len.0 in (omega (arith, row_fits c.args.s c.args.t c.requires.p_len.1), omega (arith, known.cells)) in
+    let room = row_within c.args.s c.requires.limits c.args.p.now c.args.t c.requires.p_len.0 c.requires.p_len.1 in
     room.0
 
 pub overflow_mul-result : goal.overflow_mul-result
 overflow_mul-result c =
-    let known : Products c.args.s = products c.args.s c.requires.limits in
+    let known = products c.args.s c.requires.limits in
     rw c.pair_count-size.ensures.0 (omega (arith, known.E))
 
 pub returns-then-v-n : goal.returns-then-v-n
@@ -41,35 +40,31 @@ overflow_cast-v c = omega (arith, c.lowest_shared-v.ensures.within, c.requires.l
 
 pub first_on-a-requires : goal.first_on-a-requires
 first_on-a-requires c =
-    let known : Products c.args.s = products c.args.s c.requires.limits in
-    let room : (c.args.t * c.args.s.k + c.args.s.k ≤ length c.args.p.now) × (length c.args.p.now ≤ 528) = let e = c.requires.p_len.0 in (omega (arith, row_fits c.args.s c.args.t c.requires.p_len.1), omega (arith, known.cells)) in
+    let room = row_within c.args.s c.requires.limits c.args.p.now c.args.t c.requires.p_len.0 c.requires.p_len.1 in
     room.0
 
+-- `agent`: the first agent on that vertex
 pub overflow_add-row : goal.overflow_add-row
 overflow_add-row c =
-    let known : Products c.args.s = products c.args.s c.requires.limits in
-    let room : (c.args.t * c.args.s.k + c.args.s.k ≤ length c.args.p.now) × (length c.args.p.now ≤ 528) = let e = c.requires.p_len.0 in (omega (arith, row_fits c.args.s c.args.t c.requires.p_len.1), omega (arith, known.cells)) in
+    let room = row_within c.args.s c.requires.limits c.args.p.now c.args.t c.requires.p_len.0 c.requires.p_len.1 in
     let agent : c.first_on-a.result < c.args.s.k = shared_agent c.args.s.k _ c.args.s.n c.lowest_shared-v.result c.lowest_shared-v.ensures c.if-v-n.false c.lowest_shared-v.result c.first_on-a.result refl c.first_on-a.ensures in
     omega (arith, agent, room)
 
 pub overflow_add-row-2 : goal.overflow_add-row-2
 overflow_add-row-2 c =
-    let known : Products c.args.s = products c.args.s c.requires.limits in
-    let room : (c.args.t * c.args.s.k + c.args.s.k ≤ length c.args.p.now) × (length c.args.p.now ≤ 528) = let e = c.requires.p_len.0 in (omega (arith, row_fits c.args.s c.args.t c.requires.p_len.1), omega (arith, known.cells)) in
+    let room = row_within c.args.s c.requires.limits c.args.p.now c.args.t c.requires.p_len.0 c.requires.p_len.1 in
     let agent : c.first_on-a.result < c.args.s.k = shared_agent c.args.s.k _ c.args.s.n c.lowest_shared-v.result c.lowest_shared-v.ensures c.if-v-n.false c.lowest_shared-v.result c.first_on-a.result refl c.first_on-a.ensures in
     omega (arith, agent, room)
 
 pub overflow_sub-k : goal.overflow_sub-k
 overflow_sub-k c =
-    let known : Products c.args.s = products c.args.s c.requires.limits in
-    let room : (c.args.t * c.args.s.k + c.args.s.k ≤ length c.args.p.now) × (length c.args.p.now ≤ 528) = let e = c.requires.p_len.0 in (omega (arith, row_fits c.args.s c.args.t c.requires.p_len.1), omega (arith, known.cells)) in
+    let room = row_within c.args.s c.requires.limits c.args.p.now c.args.t c.requires.p_len.0 c.requires.p_len.1 in
     let agent : c.first_on-a.result < c.args.s.k = shared_agent c.args.s.k _ c.args.s.n c.lowest_shared-v.result c.lowest_shared-v.ensures c.if-v-n.false c.lowest_shared-v.result c.first_on-a.result refl c.first_on-a.ensures in
     omega (arith, agent, room)
 
 pub overflow_sub-k-2 : goal.overflow_sub-k-2
 overflow_sub-k-2 c =
-    let known : Products c.args.s = products c.args.s c.requires.limits in
-    let room : (c.args.t * c.args.s.k + c.args.s.k ≤ length c.args.p.now) × (length c.args.p.now ≤ 528) = let e = c.requires.p_len.0 in (omega (arith, row_fits c.args.s c.args.t c.requires.p_len.1), omega (arith, known.cells)) in
+    let room = row_within c.args.s c.requires.limits c.args.p.now c.args.t c.requires.p_len.0 c.requires.p_len.1 in
     let agent : c.first_on-a.result < c.args.s.k = shared_agent c.args.s.k _ c.args.s.n c.lowest_shared-v.result c.lowest_shared-v.ensures c.if-v-n.false c.lowest_shared-v.result c.first_on-a.result refl c.first_on-a.ensures in
     omega (arith, agent, room)
 
@@ -78,14 +73,13 @@ overflow_cast-v-2 c = omega (arith, c.lowest_shared-v.ensures.within, c.requires
 
 pub first_on-gap-requires : goal.first_on-gap-requires
 first_on-gap-requires c =
-    let known : Products c.args.s = products c.args.s c.requires.limits in
-    let room : (c.args.t * c.args.s.k + c.args.s.k ≤ length c.args.p.now) × (length c.args.p.now ≤ 528) = let e = c.requires.p_len.0 in (omega (arith, row_fits c.args.s c.args.t c.requires.p_len.1), omega (arith, known.cells)) in
+    let room = row_within c.args.s c.requires.limits c.args.p.now c.args.t c.requires.p_len.0 c.requires.p_len.1 in
     let agent : c.first_on-a.result < c.args.s.k = shared_agent c.args.s.k _ c.args.s.n c.lowest_shared-v.result c.lowest_shared-v.ensures c.if-v-n.false c.lowest_shared-v.result c.first_on-a.result refl c.first_on-a.ensures in
     omega (arith, agent, room)
 
 pub overflow_mul-result-2 : goal.overflow_mul-result-2
 overflow_mul-result-2 c =
-    let known : Products c.args.s = products c.args.s c.requires.limits in
+    let known = products c.args.s c.requires.limits in
     rw c.pair_count-size.ensures.0 (omega (arith, known.E, blocks_fit _ _ (c.args.s.k * (c.args.s.k - 1) / 2) c.lowest_shared-v.ensures.within))
 
 pub pair_at-requires : goal.pair_at-requires
@@ -95,9 +89,10 @@ pair_at-requires c =
 
 pub overflow_add-result : goal.overflow_add-result
 overflow_add-result c =
-    let known : Products c.args.s = products c.args.s c.requires.limits in
+    let known = products c.args.s c.requires.limits in
     rw c.pair_count-size.ensures.0 (omega (arith, known.E, blocks_fit _ _ (c.args.s.k * (c.args.s.k - 1) / 2) c.lowest_shared-v.ensures.within, c.pair_at.ensures.1))
 
+-- `next`: the agents behind the first, counted from there
 pub returns : goal.returns
 returns c =
     let next : FirstFault (c.args.s.k - c.first_on-a.result - 1) (λ i. not (eqb (plan_row c.args.s c.args.p.now c.args.t (c.first_on-a.result + 1 + i)) c.lowest_shared-v.result)) c.first_on-gap.result = fault_ext (λ i h.

@@ -89,4 +89,9 @@ returns c =
     let e : c.loop-a.a ≡ c.args.s.k = omega (arith, c.loop-a.invariant.0, c.loop-a-test.false) in
     let f : c.loop-a.base ≡ variable_count c.args.s = (rw e at c.loop-a.invariant.1) ∙ last_run c.args.s in
     let o : Sofar c.args.s c.args.entries.now c.loop-a.vertices (variable_count c.args.s) = rw f at c.loop-a.invariant.2 in
-    rw f record { first_fault = done_right c.args.s c.args.entries.now c.requires.entries_len.0 c.loop-a.vertices o; vertices_len = o.size; read = λ h. done_read c.args.s c.args.entries.now c.requires.entries_len.0 c.loop-a.vertices o c.requires.limits.n_least (products c.args.s c.requires.limits).cells }
+    rw f
+    record {
+      first_fault = done_right c.args.s c.args.entries.now c.requires.entries_len.0 c.loop-a.vertices o;
+      vertices_len = o.size;
+      read = λ h. done_read c.args.s c.args.entries.now c.requires.entries_len.0 c.loop-a.vertices o c.requires.limits.n_least (products c.args.s c.requires.limits).cells;
+    }

@@ -13,7 +13,12 @@ pub loop-j-init : goal.loop-j-init
 loop-j-init c = (omega arith, refl)
 
 pub implies-all-requires : goal.implies-all-requires
-implies-all-requires c = record { assigned = c.requires.assigned; le_z = (omega arith, omega (arith, c.requires.n_in_bounds.0)); le_w = (omega arith, omega (arith, c.requires.n_in_bounds.1)) }
+implies-all-requires c =
+    record {
+      assigned = c.requires.assigned;
+      le_z = (omega arith, omega (arith, c.requires.n_in_bounds.0));
+      le_w = (omega arith, omega (arith, c.requires.n_in_bounds.1));
+    }
 
 pub loop-j-preserved : goal.loop-j-preserved
 loop-j-preserved c = (omega arith, rw (add-one c.loop-j.j, c.loop-j.invariant.1, c.implies-all.ensures))

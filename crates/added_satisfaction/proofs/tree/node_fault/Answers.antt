@@ -20,7 +20,10 @@ overflow_sub-size c =
 pub returns-then-sum_reached : goal.returns-then-sum_reached
 returns-then-sum_reached c =
     let few : (1 ≤ (c.args.d.a + 1) * (c.args.d.b + 1)) × ((c.args.d.a + 1) * (c.args.d.b + 1) ≤ 16900) = few_pairs c.args.entries.now c.args.d c.requires.within in
-    record { d_len = (node_size c.args.entries.now c.args.d, omega (arith, few)); fault = node_passes c.args.entries.now c.args.d (c.args.d.a + 1) refl (λ u l v r. c.sum_reached.ensures c.if-sum_reached.true u v (omega arith) (omega arith)) }
+    record {
+      d_len = (node_size c.args.entries.now c.args.d, omega (arith, few));
+      fault = node_passes c.args.entries.now c.args.d (c.args.d.a + 1) refl (λ u l v r. c.sum_reached.ensures c.if-sum_reached.true u v (omega arith) (omega arith));
+    }
 
 pub loop-i-init : goal.loop-i-init
 loop-i-init c = (omega arith, below_none _)
@@ -42,7 +45,10 @@ overflow_sub-result c =
 pub returns-then-j-width : goal.returns-then-j-width
 returns-then-j-width c =
     let few : (1 ≤ (c.args.d.a + 1) * (c.args.d.b + 1)) × ((c.args.d.a + 1) * (c.args.d.b + 1) ≤ 16900) = few_pairs c.args.entries.now c.args.d c.requires.within in
-    record { d_len = (node_size c.args.entries.now c.args.d, omega (arith, few)); fault = node_stops c.args.entries.now c.args.d c.loop-i.i c.row_fault-j.result c.loop-i.invariant.1 c.row_fault-j.ensures c.if-j-width.true c.loop-i-test.true }
+    record {
+      d_len = (node_size c.args.entries.now c.args.d, omega (arith, few));
+      fault = node_stops c.args.entries.now c.args.d c.loop-i.i c.row_fault-j.result c.loop-i.invariant.1 c.row_fault-j.ensures c.if-j-width.true c.loop-i-test.true;
+    }
 
 pub loop-i-preserved : goal.loop-i-preserved
 loop-i-preserved c = (omega arith, below_more _ _ c.loop-i.invariant.1 (λ v l. c.row_fault-j.ensures.before v (omega arith)))
@@ -50,4 +56,7 @@ loop-i-preserved c = (omega arith, below_more _ _ c.loop-i.invariant.1 (λ v l. 
 pub returns : goal.returns
 returns c =
     let few : (1 ≤ (c.args.d.a + 1) * (c.args.d.b + 1)) × ((c.args.d.a + 1) * (c.args.d.b + 1) ≤ 16900) = few_pairs c.args.entries.now c.args.d c.requires.within in
-    record { d_len = (node_size c.args.entries.now c.args.d, omega (arith, few)); fault = node_passes c.args.entries.now c.args.d c.loop-i.i (omega arith) c.loop-i.invariant.1 }
+    record {
+      d_len = (node_size c.args.entries.now c.args.d, omega (arith, few));
+      fault = node_passes c.args.entries.now c.args.d c.loop-i.i (omega arith) c.loop-i.invariant.1;
+    }

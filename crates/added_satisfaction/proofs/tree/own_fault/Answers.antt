@@ -7,7 +7,11 @@ use Rattle.added_satisfaction.proofs.Trees.{before_within}
 use Rattle.added_satisfaction.proofs.tree.own_fault.Goals as goal
 
 pub node_over-requires : goal.node_over-requires
-node_over-requires c = record { c_bound = (c.requires.c_bound.0, c.requires.c_bound.1, omega (arith, c.requires.assigned.few)); c_bound_2 = c.requires.c_bound_2 }
+node_over-requires c =
+    record {
+      c_bound = (c.requires.c_bound.0, c.requires.c_bound.1, omega (arith, c.requires.assigned.few));
+      c_bound_2 = c.requires.c_bound_2;
+    }
 
 pub node_fault-requires : goal.node_fault-requires
 unfolding node_over

@@ -27,6 +27,7 @@ overflow_add-d c = omega (arith, c.requires.within.ceiling)
 pub loop-z-init : goal.loop-z-init
 loop-z-init c = (omega arith, below_none _)
 
+-- `fits`: the output of the loop has an entry
 pub overflow_add-d-in-loop-z : goal.overflow_add-d-in-loop-z
 overflow_add-d-in-loop-z c =
     let fits : c.args.d.o + (c.loop-z.z + 1) ≤ length c.args.entries.now = omega (arith, c.requires.within.own, c.last_true-i.ensures.0, c.last_true-j.ensures.0, c.smaller-sum.ensures) in

@@ -5,57 +5,49 @@ use native.Mathlib.Omega.{arith}
 use Rattle.lists.proofs.Tests.{not_iff}
 use Rattle.answers.proofs.Faults.{fault_first}
 use Rattle.instance.specs.Instance.{joined}
-use Rattle.instance.specs.Limits.{Limits}
 use Rattle.plan.specs.Plan.{plan_row}
 use Rattle.satisfaction.specs.Rows.{crossed}
-use Rattle.satisfaction.proofs.Bounds.{Products, products, blocks_fit}
+use Rattle.satisfaction.proofs.Bounds.{products, blocks_fit}
 use Rattle.satisfaction.proofs.Exchanges.{low_before, crossed_upward, here_exchange}
 use Rattle.satisfaction.proofs.family_g.exchange_place.Goals as goal
 
 pub overflow_sub-size : goal.overflow_sub-size
-overflow_sub-size c =
-    let limits : Limits c.args.s = c.requires.limits.0 in
-    omega (arith, limits.k_least)
+overflow_sub-size c = omega (arith, c.requires.limits.0.k_least)
 
 pub overflow_mul-size : goal.overflow_mul-size
 overflow_mul-size c =
-    let limits : Limits c.args.s = c.requires.limits.0 in
-    let known : Products c.args.s = products c.args.s limits in
+    let known = products c.args.s c.requires.limits.0 in
     omega (arith, known.twos)
 
+-- `edges_fit`: what stands before the edge
 pub overflow_mul-result : goal.overflow_mul-result
 overflow_mul-result c =
-    let limits : Limits c.args.s = c.requires.limits.0 in
-    let known : Products c.args.s = products c.args.s limits in
+    let known = products c.args.s c.requires.limits.0 in
     let edges_fit : c.place_of.result * (c.args.s.k * (c.args.s.k - 1)) ≤ 983040 = mul-le-mul {n₂ = 4096} {m₂ = 240} c.place_of.ensures.1 known.twos in
     omega (arith, edges_fit)
 
 pub overflow_sub-result : goal.overflow_sub-result
-overflow_sub-result c =
-    let limits : Limits c.args.s = c.requires.limits.0 in
-    omega (arith, limits.k_least)
+overflow_sub-result c = omega (arith, c.requires.limits.0.k_least)
 
+-- `agents_fit`: what stands before the agent
 pub overflow_mul-result-2 : goal.overflow_mul-result-2
 overflow_mul-result-2 c =
-    let limits : Limits c.args.s = c.requires.limits.0 in
-    let known : Products c.args.s = products c.args.s limits in
+    let known = products c.args.s c.requires.limits.0 in
     let agents_fit : c.first_from_to-a.result * (c.args.s.k - 1) ≤ 240 = omega (arith, blocks_fit c.first_from_to-a.result c.args.s.k (c.args.s.k - 1) c.first_from_to-a.ensures.within, known.twos) in
     omega (arith, agents_fit)
 
 pub overflow_add-result : goal.overflow_add-result
 overflow_add-result c =
-    let limits : Limits c.args.s = c.requires.limits.0 in
-    let known : Products c.args.s = products c.args.s limits in
+    let known = products c.args.s c.requires.limits.0 in
     let agents_fit : c.first_from_to-a.result * (c.args.s.k - 1) ≤ 240 = omega (arith, blocks_fit c.first_from_to-a.result c.args.s.k (c.args.s.k - 1) c.first_from_to-a.ensures.within, known.twos) in
-    omega (arith, agents_fit, c.other_at.ensures.2, c.first_from_to-b.ensures.within, limits.k_most)
+    omega (arith, agents_fit, c.other_at.ensures.2, c.first_from_to-b.ensures.within, c.requires.limits.0.k_most)
 
 pub overflow_add-result-2 : goal.overflow_add-result-2
 overflow_add-result-2 c =
-    let limits : Limits c.args.s = c.requires.limits.0 in
-    let known : Products c.args.s = products c.args.s limits in
+    let known = products c.args.s c.requires.limits.0 in
     let edges_fit : c.place_of.result * (c.args.s.k * (c.args.s.k - 1)) ≤ 983040 = mul-le-mul {n₂ = 4096} {m₂ = 240} c.place_of.ensures.1 known.twos in
     let agents_fit : c.first_from_to-a.result * (c.args.s.k - 1) ≤ 240 = omega (arith, blocks_fit c.first_from_to-a.result c.args.s.k (c.args.s.k - 1) c.first_from_to-a.ensures.within, known.twos) in
-    omega (arith, edges_fit, agents_fit, c.other_at.ensures.2, c.first_from_to-b.ensures.within, limits.k_most)
+    omega (arith, edges_fit, agents_fit, c.other_at.ensures.2, c.first_from_to-b.ensures.within, c.requires.limits.0.k_most)
 
 pub returns : goal.returns
 returns c = λ es w c'.

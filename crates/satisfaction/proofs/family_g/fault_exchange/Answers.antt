@@ -2,46 +2,45 @@
 use Prim.Native.Nat.{suc, ◌<◌}
 use native.Mathlib.Omega.{arith}
 use Rattle.instance.specs.Instance.{joined}
-use Rattle.instance.specs.Limits.{Limits}
 use Rattle.plan.specs.Plan.{plan_row}
-use Rattle.satisfaction.proofs.Bounds.{Products, products}
+use Rattle.satisfaction.proofs.Bounds.{products}
 use Rattle.satisfaction.proofs.Exchanges.{low_inside, high_inside, uncrossed, some_crossed, none_exchange}
 use Rattle.satisfaction.proofs.family_g.fault_exchange.Goals as goal
 
 pub overflow_sub-result : goal.overflow_sub-result
-overflow_sub-result c =
-    let limits : Limits c.args.s = c.requires.limits.0 in
-    omega (arith, limits.k_least)
+overflow_sub-result c = omega (arith, c.requires.limits.0.k_least)
 
 pub overflow_mul-result : goal.overflow_mul-result
 overflow_mul-result c =
-    let limits : Limits c.args.s = c.requires.limits.0 in
-    let known : Products c.args.s = products c.args.s limits in
+    let known = products c.args.s c.requires.limits.0 in
     omega (arith, known.twos)
 
 pub overflow_mul-result-then-step_fault-k : goal.overflow_mul-result-then-step_fault-k
 overflow_mul-result-then-step_fault-k c =
-    let limits : Limits c.args.s = c.requires.limits.0 in
-    let known : Products c.args.s = products c.args.s limits in
+    let known = products c.args.s c.requires.limits.0 in
     omega (arith, known.exchanges)
 
 pub returns-then-step_fault-k : goal.returns-then-step_fault-k
 returns-then-step_fault-k c = λ es w c'. none_exchange c.args.s es (plan_row c.args.s c.args.p.now) c' (joined c.args.near.now) c.args.t c.requires.sound.time c.requires.limits.1.edged (uncrossed c.args.s c.requires.limits.2 (joined c.args.near.now) (plan_row c.args.s c.args.p.now c.args.t) (plan_row c.args.s c.args.p.now (suc c.args.t)) c.step_fault.result c.step_fault.ensures c.if-step_fault-k.true)
 
+-- `low`: two agents do exchange an edge
 pub high_crossed-v-requires : goal.high_crossed-v-requires
 high_crossed-v-requires c =
-    let limits : Limits c.args.s = c.requires.limits.0 in
     let low : c.low_crossed-u.result < c.args.s.n = let (u, v, l, r, t) = some_crossed c.args.s c.requires.limits.2 (joined c.args.near.now) (plan_row c.args.s c.args.p.now c.args.t) (plan_row c.args.s c.args.p.now (suc c.args.t)) c.step_fault.result c.step_fault.ensures c.requires.sound.inside c.if-step_fault-k.false in
     low_inside c.args.s.n c.args.s.k (plan_row c.args.s c.args.p.now c.args.t) (plan_row c.args.s c.args.p.now (suc c.args.t)) c.low_crossed-u.result c.low_crossed-u.ensures u v l r t in
-    record { limits = (limits, low); sound = c.requires.sound }
+    record { limits = (c.requires.limits.0, low); sound = c.requires.sound }
 
 pub exchange_place-requires : goal.exchange_place-requires
 exchange_place-requires c =
-    let limits : Limits c.args.s = c.requires.limits.0 in
     let low : c.low_crossed-u.result < c.args.s.n = let (u, v, l, r, t) = some_crossed c.args.s c.requires.limits.2 (joined c.args.near.now) (plan_row c.args.s c.args.p.now c.args.t) (plan_row c.args.s c.args.p.now (suc c.args.t)) c.step_fault.result c.step_fault.ensures c.requires.sound.inside c.if-step_fault-k.false in
     low_inside c.args.s.n c.args.s.k (plan_row c.args.s c.args.p.now c.args.t) (plan_row c.args.s c.args.p.now (suc c.args.t)) c.low_crossed-u.result c.low_crossed-u.ensures u v l r t in
     let l = low in
-    record { limits = (limits, c.requires.limits.1); sound = c.requires.sound; first_fault = c.low_crossed-u.ensures; first_fault_2 = (c.high_crossed-v.ensures, l, high_inside c.args.s.n c.args.s.k (plan_row c.args.s c.args.p.now c.args.t) (plan_row c.args.s c.args.p.now (suc c.args.t)) c.low_crossed-u.result c.low_crossed-u.ensures l c.high_crossed-v.result c.high_crossed-v.ensures) }
+    record {
+      limits = (c.requires.limits.0, c.requires.limits.1);
+      sound = c.requires.sound;
+      first_fault = c.low_crossed-u.ensures;
+      first_fault_2 = (c.high_crossed-v.ensures, l, high_inside c.args.s.n c.args.s.k (plan_row c.args.s c.args.p.now c.args.t) (plan_row c.args.s c.args.p.now (suc c.args.t)) c.low_crossed-u.result c.low_crossed-u.ensures l c.high_crossed-v.result c.high_crossed-v.ensures);
+    }
 
 pub returns : goal.returns
 returns c = c.exchange_place.ensures

@@ -1,18 +1,18 @@
 -- `satisfaction::family_g::high_crossed` meets its contract: no two agents share a vertex, so only the first agent found on u can exchange it. Assumes nothing.
 use mathlib.Core.Path.{◌≡◌, sym, ◌∙◌, ap}
-use Prim.Native.Nat.{suc, ◌+◌, ◌*◌, ◌≤◌, ◌<◌}
+use Prim.Native.Nat.{suc, ◌<◌}
 use native.Mathlib.Omega.{arith}
-use lib.ListN.{length}
 use Rattle.plan.specs.Plan.{plan_row}
 use Rattle.satisfaction.specs.Rows.{crossed}
-use Rattle.satisfaction.proofs.Bounds.{products, two_fit}
+use Rattle.satisfaction.proofs.Bounds.{rows_within}
 use Rattle.satisfaction.proofs.Steps.{next_row}
 use Rattle.satisfaction.proofs.Exchanges.{high_nobody, high_off, high_none, high_one}
 use Rattle.satisfaction.proofs.family_g.high_crossed.Goals as goal
 
+-- `room`: rows t and t + 1 stand within the plan
 pub overflow_mul-row : goal.overflow_mul-row
 overflow_mul-row c =
-    let room : (c.args.t * c.args.s.k + c.args.s.k + c.args.s.k ≤ length c.args.p.now) × (length c.args.p.now ≤ 528) = let e = c.requires.sound.size in let h = c.requires.sound.time in (omega (arith, two_fit c.args.s c.args.t h), omega (arith, (products c.args.s c.requires.limits.0).cells)) in
+    let room = rows_within c.args.s c.requires.limits.0 c.args.p.now c.args.t c.requires.sound.size c.requires.sound.time in
     omega (arith, room)
 
 pub overflow_cast-u : goal.overflow_cast-u
@@ -20,7 +20,7 @@ overflow_cast-u c = omega (arith, c.requires.limits.1, c.requires.limits.0.n_mos
 
 pub first_on-a-requires : goal.first_on-a-requires
 first_on-a-requires c =
-    let room : (c.args.t * c.args.s.k + c.args.s.k + c.args.s.k ≤ length c.args.p.now) × (length c.args.p.now ≤ 528) = let e = c.requires.sound.size in let h = c.requires.sound.time in (omega (arith, two_fit c.args.s c.args.t h), omega (arith, (products c.args.s c.requires.limits.0).cells)) in
+    let room = rows_within c.args.s c.requires.limits.0 c.args.p.now c.args.t c.requires.sound.size c.requires.sound.time in
     omega (arith, room)
 
 pub returns-then-a-k : goal.returns-then-a-k
@@ -28,18 +28,18 @@ returns-then-a-k c = high_nobody c.args.s.k (plan_row c.args.s c.args.p.now c.ar
 
 pub overflow_add-row : goal.overflow_add-row
 overflow_add-row c =
-    let room : (c.args.t * c.args.s.k + c.args.s.k + c.args.s.k ≤ length c.args.p.now) × (length c.args.p.now ≤ 528) = let e = c.requires.sound.size in let h = c.requires.sound.time in (omega (arith, two_fit c.args.s c.args.t h), omega (arith, (products c.args.s c.requires.limits.0).cells)) in
+    let room = rows_within c.args.s c.requires.limits.0 c.args.p.now c.args.t c.requires.sound.size c.requires.sound.time in
     omega (arith, room)
 
 pub overflow_add-row-2 : goal.overflow_add-row-2
 overflow_add-row-2 c =
-    let room : (c.args.t * c.args.s.k + c.args.s.k + c.args.s.k ≤ length c.args.p.now) × (length c.args.p.now ≤ 528) = let e = c.requires.sound.size in let h = c.requires.sound.time in (omega (arith, two_fit c.args.s c.args.t h), omega (arith, (products c.args.s c.requires.limits.0).cells)) in
+    let room = rows_within c.args.s c.requires.limits.0 c.args.p.now c.args.t c.requires.sound.size c.requires.sound.time in
     let agent : c.first_on-a.result < c.args.s.k = omega (arith, c.first_on-a.ensures.within, c.if-a-k.false) in
     omega (arith, room, agent)
 
 pub bounds-p-row : goal.bounds-p-row
 bounds-p-row c =
-    let room : (c.args.t * c.args.s.k + c.args.s.k + c.args.s.k ≤ length c.args.p.now) × (length c.args.p.now ≤ 528) = let e = c.requires.sound.size in let h = c.requires.sound.time in (omega (arith, two_fit c.args.s c.args.t h), omega (arith, (products c.args.s c.requires.limits.0).cells)) in
+    let room = rows_within c.args.s c.requires.limits.0 c.args.p.now c.args.t c.requires.sound.size c.requires.sound.time in
     let agent : c.first_on-a.result < c.args.s.k = omega (arith, c.first_on-a.ensures.within, c.if-a-k.false) in
     omega (arith, room, agent)
 
@@ -50,7 +50,11 @@ returns-then-n-v c =
     high_off c.args.s.k (plan_row c.args.s c.args.p.now c.args.t) (plan_row c.args.s c.args.p.now (suc c.args.t)) c.args.s.n c.args.u c.first_on-a.result c.first_on-a.ensures c.requires.sound.apart agent (omega (arith, c.if-n-v.true, goes))
 
 pub is_crossed-requires : goal.is_crossed-requires
-is_crossed-requires c = record { limits = c.requires.limits.0; p_len = (c.requires.sound.size, c.requires.sound.time, c.requires.limits.1, omega (arith, c.if-n-v.false)) }
+is_crossed-requires c =
+    record {
+      limits = c.requires.limits.0;
+      p_len = (c.requires.sound.size, c.requires.sound.time, c.requires.limits.1, omega (arith, c.if-n-v.false));
+    }
 
 pub returns-then-is_crossed : goal.returns-then-is_crossed
 returns-then-is_crossed c =
