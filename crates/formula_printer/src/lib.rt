@@ -234,13 +234,20 @@ pub fn print_input(words: &mut [i32], text: &mut [u8], texts: &mut [u8], input: 
     print_answer(words, text, texts, &input[1..], m)
 }
 
+// So many zeros. A long array stands in a function of its own, which says no more than its length.
+pub fn zeros<const N: usize>() -> [u8; N]
+    ensures { length result ≡ N }
+{
+    [0; N]
+}
+
 // The same, with buffers of its own.
 pub fn print(input: &[u8]) -> u32
     ensures { Ends (input_status input.now) result }
 {
     let mut words = [0i32; 6048];
-    let mut text = [0u8; 113920];
-    let mut texts = [0u8; 540680];
+    let mut text = zeros::<113920>();
+    let mut texts = zeros::<540680>();
     print_input(&mut words, &mut text, &mut texts, input)
 }
 

@@ -1,0 +1,13 @@
+-- `formula_printer::print_families` meets its contract: both buffers keep their lengths, and less than a piece is gathered. Assumes nothing.
+use mathlib.Core.Path.{refl, ◌∙◌}
+use Prim.Native.Nat.{◌-◌}
+use native.Mathlib.Omega.{arith}
+use Rattle.formula_printer.proofs.Going.{Going, going_room}
+use borrow.Author.Rules.{rules}
+use Rattle.formula_printer.proofs.print_families.Given as goal
+
+abbrev pub invariant-loop-which : goal.invariant-loop-which
+invariant-loop-which l = Going l.initial.words l.words l.initial.text l.text l.which 7 l.at
+
+abbrev pub decreases-loop-which : goal.decreases-loop-which
+decreases-loop-which l = 7 - l.which
