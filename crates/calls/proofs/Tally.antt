@@ -1,5 +1,5 @@
 -- The plan check counted in a record: 34 decides, or the plan check's answer does, and is counted.
-use mathlib.Core.Path.{◌≡◌, refl, sym, ◌∙◌, ap, subst}
+use mathlib.Core.Path.{◌≡◌, sym, ◌∙◌, ap, subst}
 use mathlib.Core.Logic.{◌≢◌, ⊎_elim}
 use mathlib.Core.List.{List, [], append-nil}
 use mathlib.Core.Bool.{cond}

@@ -4,7 +4,7 @@ use mathlib.Core.Path.{◌≡◌, refl, sym, ◌∙◌, ap, subst}
 use mathlib.Core.Logic.Iff
 use mathlib.Core.Logic.{◌↔◌, by_cases}
 use mathlib.Core.List.{List, [], ◌∷◌, ◌++◌}
-use mathlib.Core.Bool.{Bool, true, false, not, cond}
+use mathlib.Core.Bool.{Bool, true, false, cond}
 use Prim.Native.Nat.{ℕ, zero, suc, ◌+◌, ◌*◌, ◌-◌, ◌/◌, ◌≤◌, ◌<◌}
 use native.Mathlib.Nat.{le_refl, add-zero, add-suc, zero-mul, suc-mul, div-add-mod'}
 use native.Mathlib.Decide.{ℕ_discrete, dec_lt}
@@ -14,7 +14,7 @@ use borrow.Author.Tests.{le-ltb}
 use lib.ListN.{length, length-append}
 use lib.Dec.{T, eqb}
 use lib.IntN.{ℤ}
-use Rattle.lists.specs.Loop.{for, any, all, sum}
+use Rattle.lists.specs.Loop.{for, any, sum}
 use Rattle.lists.proofs.Tests.{ltb_iff, leb_iff, eqb_iff, not_iff, or_imp}
 use Rattle.lists.proofs.Loops.{for_ext, for_all, when_all, one_all, all_append, any_one, any_two}
 use Rattle.lists.proofs.Blocks.{place_lt, place_split, for1_length, quotient, remainder, for_flat}

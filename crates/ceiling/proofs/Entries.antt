@@ -12,7 +12,7 @@ use lib.ListN.{length, get_or, length-append, get_or-append}
 use lib.Seq.{get_or-append-add}
 use lib.Dec.{T, leb}
 use lib.IntN.{ℤ, pos, negsuc, neg_ℤ, nat_abs}
-use Rattle.lists.specs.Loop.{for, any}
+use Rattle.lists.specs.Loop.{for}
 use Rattle.lists.proofs.Loops.{any_get_or}
 use Rattle.lists.proofs.Blocks.{for1_length, for1_get_or}
 use Rattle.valuation.specs.Valuation.{true?, same_number}

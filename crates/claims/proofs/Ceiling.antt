@@ -39,7 +39,7 @@ use Rattle.valuation.specs.Satisfying.{True, Valuation}
 use Rattle.valuation.specs.Places.{Places}
 use Rattle.valuation.proofs.Families.{Sat, satisfies_iff, places_unique}
 use Rattle.valuation.proofs.Entries.{named_size}
-use Rattle.ceiling.specs.Tree.{Tree, input, node, inputs, outputs, variables, before, tree_clauses, count, on, off}
+use Rattle.ceiling.specs.Tree.{Tree, input, node, inputs, variables, before, tree_clauses, count, on, off}
 use Rattle.ceiling.specs.Ceiling.{busy_number, root, moves, chain, counters, limit, added_clauses, added_variables, over_number, ceiling_variables, ceiling_count, ceiling_words, under_ceiling}
 use Rattle.ceiling.specs.Encoded.{busy, busy_at, ceiling_valuation}
 use Rattle.ceiling.proofs.Tree.{tree_one, tree_two, tree_inputs, count_same, Means}

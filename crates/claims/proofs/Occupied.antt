@@ -15,7 +15,7 @@ use Rattle.lists.proofs.Tests.{and_iff, or_iff, or_imp, not_iff, eqb_iff, ltb_if
 use Rattle.answers.specs.declared.Answer.{Answer}
 use Rattle.answers.specs.Answers.{Question, clear, decide}
 use Rattle.answers.specs.Fault.{FirstFault}
-use Rattle.answers.proofs.Laws.{clear_iff, each_all, each_nil, ask_all, ask_nil, decide_after}
+use Rattle.answers.proofs.Laws.{clear_iff, each_nil, ask_all, ask_nil, decide_after}
 use Rattle.answers.proofs.Faults.{fault_of, fault_first}
 use Rattle.instance.specs.declared.Sizes.{Sizes}
 use Rattle.instance.specs.Instance.{Instance, following, instance, adjacent, Edge, Endpoints}

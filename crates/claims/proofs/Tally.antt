@@ -3,7 +3,6 @@
 use mathlib.Core.Path.{◌≡◌, refl, sym, ◌∙◌, ap, subst}
 use mathlib.Core.Logic.{◌↔◌, ◌≢◌, ◌⊎◌, inl, inr, ⊎_elim, by_cases}
 use mathlib.Core.List.{List, [], ◌∷◌, ◌++◌, append-nil, append_assoc}
-use mathlib.Core.Bool.{Bool}
 use Prim.Native.Nat.{ℕ, zero, suc, ◌+◌, ◌*◌, ◌≤◌, ◌<◌, min, max, suc-le-suc}
 use native.Mathlib.Nat.{le_refl, not-suc-le-zero, le_of_suc-le-suc}
 use native.Mathlib.Decide.{dec_lt, dec_le, ℕ_discrete}
@@ -14,10 +13,10 @@ use lib.Seq.{get_or-set_same, get_or-set_other}
 use lib.Dec.{T}
 use Rattle.lists.proofs.Tests.{either}
 use Rattle.answers.specs.declared.Answer.{Answer}
-use Rattle.answers.specs.Answers.{ask, ask_each, decide, accept, by_number}
+use Rattle.answers.specs.Answers.{ask, ask_each, decide, accept}
 use Rattle.answers.proofs.Laws.{by_number_accepted, by_number_refused}
 use Rattle.tally.specs.declared.Tally.{Tally}
-use Rattle.tally.specs.Tally.{empty, under, total, takes_more, with_pass, with_refusal, counted}
+use Rattle.tally.specs.Tally.{empty, total, takes_more, with_pass, with_refusal, counted}
 use Rattle.tally.specs.History.{joined, States}
 use Rattle.tally.proofs.Laws.{takes_iff, total_pass, total_refusal}
 use Rattle.tally.proofs.History.{states_empty, states_34, states_counted}
@@ -25,7 +24,7 @@ use Rattle.instance.specs.Instance.{goal_count, instance, adjacent}
 use Rattle.instance.specs.Questions.{instance_questions}
 use Rattle.plan.specs.Plan.{condition1, condition2, condition3, occupant_leaves, rests, rest_time, cost}
 use Rattle.calls.specs.Questions.{occupied_number, second_number}
-use Rattle.calls.specs.Calls.{plan_questions, check_answer}
+use Rattle.calls.specs.Calls.{plan_questions}
 use Rattle.calls.specs.Tally.{tally_answer, tally_record, Call, answer_of, record_of, answers_of, after}
 use Rattle.calls.proofs.Plan.{check_counts}
 use Rattle.calls.proofs.Tally.{check_below, tally_stops, tally_asks, record_stays, record_pass, record_refusal, record_counts}

@@ -3,7 +3,7 @@ use mathlib.Core.Path.{◌≡◌, refl, sym, ◌∙◌, ap, ap₂, subst}
 use mathlib.Core.Logic.{◌≢◌, by_cases}
 use mathlib.Core.List.{List, [], ◌∷◌, ◌++◌, append-nil}
 use mathlib.Core.Bool.{Bool, true, false, not, cond}
-use Prim.Native.Nat.{ℕ, suc, ◌+◌, ◌*◌, ◌≤◌, ◌<◌, min, max}
+use Prim.Native.Nat.{ℕ, suc, ◌+◌, ◌<◌, min, max}
 use native.Mathlib.Nat.{add-zero}
 use native.Mathlib.Decide.{dec_lt, ℕ_discrete}
 use native.Mathlib.Omega.{arith}
@@ -16,7 +16,7 @@ use Rattle.lists.proofs.Sums.{ind}
 use Rattle.answers.specs.declared.Answer.{Answer}
 use Rattle.answers.proofs.Laws.{by_number_accepted, by_number_refused}
 use Rattle.tally.specs.declared.Tally.{Tally}
-use Rattle.tally.specs.Tally.{empty, under, total, counted, with_pass, with_refusal}
+use Rattle.tally.specs.Tally.{empty, total, counted, with_pass, with_refusal}
 use Rattle.tally.specs.History.{with_number, but34, costs, sum_of, joined, least_of, greatest_of, States}
 use Rattle.tally.proofs.Laws.{one_more, total_pass, total_refusal}
 

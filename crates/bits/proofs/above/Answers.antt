@@ -1,6 +1,5 @@
 -- `bits::above` meets its contract. Assumes nothing.
 use lib.Bits.{and_le_r}
-use borrow.Author.Rules.{rules}
 use Rattle.bits.proofs.Bits.{set_above}
 use Rattle.bits.proofs.above.Goals as goal
 

@@ -1,6 +1,5 @@
 -- `bits::bits_from` meets its contract: the lowest bits without those below. Assumes nothing.
 use native.Mathlib.Omega.{arith}
-use borrow.Author.Rules.{rules}
 use Rattle.bits.proofs.Bits.{word_between}
 use Rattle.bits.proofs.bits_from.Goals as goal
 

@@ -1,5 +1,4 @@
 -- `bits::others` meets its contract: `xor` with all of the bits. Assumes nothing.
-use borrow.Author.Rules.{rules}
 use Rattle.bits.proofs.Bits.{other_bits}
 use Rattle.bits.proofs.others.Goals as goal
 

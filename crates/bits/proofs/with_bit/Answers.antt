@@ -1,6 +1,5 @@
 -- `bits::with_bit` meets its contract: a shift below 64 places loses nothing. Assumes nothing.
 use mathlib.Core.Path.{ap}
-use borrow.Author.Rules.{rules}
 use lib.Bits.{bit_or}
 use Rattle.bits.proofs.Bits.{shifted}
 use Rattle.bits.proofs.with_bit.Goals as goal

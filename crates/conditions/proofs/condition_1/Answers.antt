@@ -2,7 +2,6 @@
 use mathlib.Core.Path.{ap₂, sym, ◌∙◌}
 use Rattle.instance.specs.Instance.{joined}
 use Rattle.conditions.proofs.Laws.{keeps_1, crosses_1}
-use borrow.Author.Rules.{rules}
 use Rattle.conditions.proofs.condition_1.Goals as goal
 
 pub returns-then-v-w : goal.returns-then-v-w

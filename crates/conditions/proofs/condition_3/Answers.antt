@@ -2,7 +2,6 @@
 use mathlib.Core.Path.{◌∙◌}
 use native.Mathlib.Omega.{arith}
 use Rattle.conditions.proofs.Laws.{shares_3, unset}
-use borrow.Author.Rules.{rules}
 use Rattle.conditions.proofs.condition_3.Goals as goal
 
 pub has_bit-requires : goal.has_bit-requires

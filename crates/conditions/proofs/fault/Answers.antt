@@ -1,15 +1,10 @@
 -- `conditions::fault` meets its contract. The loop keeps that every agent passed meets the condition, and the word of their vertices in the next row. Assumes nothing.
-use Prim.Native.Nat.{ℕ, ◌-◌, ◌≤◌, ◌<◌}
 use native.Mathlib.Omega.{arith}
-use lib.Dec.{T}
 use borrow.Author.Count.{below_more, below_none}
 use borrow.Author.Tests.{not-true, not-false}
 use Rattle.answers.proofs.Faults.{holds, fails, fault_at, fault_none}
-use Rattle.instance.specs.Instance.{joined}
-use Rattle.plan.specs.Plan.{row, condition}
-use Rattle.conditions.specs.Inside.{Standing}
+use Rattle.plan.specs.Plan.{row}
 use Rattle.conditions.proofs.Laws.{standing_none, standing_next}
-use borrow.Author.Rules.{rules}
 use Rattle.conditions.proofs.fault.Goals as goal
 
 pub loop-a-init : goal.loop-a-init

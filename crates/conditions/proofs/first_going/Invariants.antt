@@ -1,11 +1,7 @@
 -- `conditions::first_going` meets its contract. The loop keeps that no agent passed goes from x to y. Assumes nothing.
 use mathlib.Core.Bool.{not, ◌&&◌}
 use Prim.Native.Nat.{ℕ, ◌-◌, ◌≤◌, ◌<◌}
-use native.Mathlib.Omega.{arith}
 use lib.Dec.{T, eqb}
-use borrow.Author.Count.{below_more, below_none}
-use borrow.Author.Rules.{rules}
-use Rattle.answers.proofs.Faults.{fault_at, fault_none}
 use Rattle.plan.specs.Plan.{row}
 use Rattle.conditions.proofs.first_going.Given as goal
 

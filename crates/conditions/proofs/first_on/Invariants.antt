@@ -1,13 +1,8 @@
 -- `conditions::first_on` meets its contract. The loop keeps that no agent passed stands on x. Assumes nothing.
 use mathlib.Core.Bool.{not}
 use Prim.Native.Nat.{ℕ, ◌+◌, ◌-◌, ◌≤◌, ◌<◌}
-use native.Mathlib.Omega.{arith}
 use lib.ListN.{get_or}
 use lib.Dec.{T, eqb}
-use borrow.Author.Count.{below_more, below_none}
-use borrow.Author.Tests.{eq-eqb, ne_eqb}
-use borrow.Author.Rules.{rules}
-use Rattle.answers.proofs.Faults.{fault_at, fault_none}
 use Rattle.conditions.proofs.first_on.Given as goal
 
 abbrev pub invariant-loop-a : goal.invariant-loop-a

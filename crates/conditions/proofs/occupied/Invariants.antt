@@ -1,11 +1,7 @@
 -- `conditions::occupied` meets its contract. The loop keeps the word of the agents passed. Assumes nothing.
-use mathlib.Core.Path.{◌≡◌, subst}
-use Prim.Native.Nat.{ℕ, ◌-◌, ◌≤◌}
-use native.Mathlib.Omega.{arith}
+use Prim.Native.Nat.{◌-◌, ◌≤◌}
 use Rattle.plan.specs.Plan.{row}
 use Rattle.conditions.specs.Inside.{Standing}
-use Rattle.conditions.proofs.Laws.{standing_none, standing_next}
-use borrow.Author.Rules.{rules}
 use Rattle.conditions.proofs.occupied.Given as goal
 
 abbrev pub invariant-loop-a : goal.invariant-loop-a

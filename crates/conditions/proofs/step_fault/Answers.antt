@@ -3,7 +3,6 @@ use Prim.Native.Nat.{◌+◌, ◌*◌}
 use native.Mathlib.Omega.{arith}
 use Rattle.instance.specs.Instance.{joined}
 use Rattle.plan.proofs.Rows.{Rows, rows, part_length, part_below, step_fault}
-use borrow.Author.Rules.{rules}
 use Rattle.conditions.proofs.step_fault.Goals as goal
 
 pub overflow_mul-row : goal.overflow_mul-row
@@ -34,14 +33,16 @@ slice_bounds-fault-end-2 c =
 pub fault-requires : goal.fault-requires
 fault-requires c =
     let known : Rows c.args.s c.args.p.now c.args.t = rows _ _ _ c.requires.p_len.0 c.requires.p_len.1 in
-   
     let k = c.args.s.k in
     let at = c.args.t * k in
     let x = part_length c.args.p.now at (at + k) (omega arith) (omega (arith, known)) in
-    let y = part_length c.args.p.now (at + k) (at + k + k) (omega arith) (omega (arith, known)) in record { k_in_bounds = (omega (arith, x), omega (arith, y)); inside = (
+    let y = part_length c.args.p.now (at + k) (at + k + k) (omega arith) (omega (arith, known)) in record {
+      k_in_bounds = (omega (arith, x), omega (arith, y));
+      inside = (
         part_below c.args.p.now 64 c.requires.inside at (at + k) (omega arith) (omega (arith, known)),
         part_below c.args.p.now 64 c.requires.inside (at + k) (at + k + k) (omega arith) (omega (arith, known)),
-      ) }
+      );
+    }
 
 pub returns : goal.returns
 returns c =

@@ -63,6 +63,5 @@ overflow_add-result-10 c =
 pub returns : goal.returns
 returns c =
     let known : let args = c.args in Counted args.c args.l c.smaller-a.result c.smaller-b.result = counted _ _ _ _ c.requires.c_bound.0 c.requires.c_bound.1 c.requires.c_bound.2 c.smaller-a.ensures c.smaller-b.ensures in
-   
     let k = known in
     (omega arith, omega arith, rw (c.requires.variables_value.2, c.requires.variables_value_2.2) (sym k.words))

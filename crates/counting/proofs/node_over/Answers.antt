@@ -1,5 +1,4 @@
 -- `counting::node_over` meets its contract: the numbers are those of the definition. Assumes nothing.
-use borrow.Author.Rules.{rules}
 use Rattle.counting.specs.Over.{node_over}
 use Rattle.counting.proofs.node_over.Goals as goal
 

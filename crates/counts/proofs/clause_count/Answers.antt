@@ -1,5 +1,4 @@
 -- `counts::clause_count` meets its contract. It follows from the contracts of the functions called and the laws cited. Assumes nothing.
-use borrow.Author.Rules.{rules}
 use Rattle.formula.specs.Counts.{clause_count}
 use Rattle.counts.proofs.clause_count.Goals as goal
 

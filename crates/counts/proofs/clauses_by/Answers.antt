@@ -2,7 +2,6 @@
 use mathlib.Core.Path.{refl}
 use native.Mathlib.Omega.{arith}
 use native.Mathlib.Numerals.{add-one}
-use borrow.Author.Rules.{rules}
 use Rattle.counts.proofs.Laws.{products}
 use Rattle.counts.proofs.clauses_by.Goals as goal
 

@@ -2,7 +2,6 @@
 use native.Mathlib.Numerals.{add-one}
 use native.Mathlib.Omega.{arith}
 use Rattle.counts.proofs.Laws.{products}
-use borrow.Author.Rules.{rules}
 use Rattle.counts.proofs.plan_bytes.Goals as goal
 
 pub overflow_mul-result : goal.overflow_mul-result

@@ -2,7 +2,6 @@
 use native.Mathlib.Numerals.{add-one}
 use native.Mathlib.Omega.{arith}
 use Rattle.formula.proofs.Blocks.{times_ends, times_rows, times_steps}
-use borrow.Author.Rules.{rules}
 use Rattle.counts.proofs.times_of.Goals as goal
 
 pub returns-then-which-lt2 : goal.returns-then-which-lt2

@@ -3,7 +3,6 @@ use Prim.Native.Nat.{◌*◌, ◌≤◌}
 use native.Mathlib.Nat.{mul-le-mul}
 use native.Mathlib.Omega.{arith}
 use native.Mathlib.Numerals.{add-one}
-use borrow.Author.Rules.{rules}
 use Rattle.counts.proofs.Laws.{products}
 use Rattle.formula.specs.Counts.{word_count}
 use Rattle.counts.proofs.word_count.Goals as goal

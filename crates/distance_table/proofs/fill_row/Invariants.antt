@@ -1,10 +1,6 @@
 -- `distance_table::fill_row` meets its contract. The invariant: `Round`. Assumes nothing.
-use mathlib.Core.Path.{sym, ◌∙◌, ap}
 use Prim.Native.Nat.{◌-◌}
-use native.Mathlib.Omega.{arith}
-use lib.ListN.{length}
-use Rattle.distance_table.proofs.Laws.{Round, round_none, round_stop, round_all, round_next}
-use borrow.Author.Rules.{rules}
+use Rattle.distance_table.proofs.Laws.{Round}
 use Rattle.distance_table.proofs.fill_row.Given as goal
 
 abbrev pub invariant-loop-d : goal.invariant-loop-d

@@ -1,6 +1,5 @@
 -- `distance_table::goal_row` meets its contract. Assumes nothing.
 use mathlib.Core.Path.{sym, ◌∙◌}
-use borrow.Author.Rules.{rules}
 use lib.ListN.{get_or}
 use Rattle.instance.proofs.Goals.{told_goal}
 use Rattle.distance_table.proofs.goal_row.Goals as goal

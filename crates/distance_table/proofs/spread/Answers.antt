@@ -1,10 +1,10 @@
 -- `distance_table::spread` meets its contract. The invariant: for some `from`, the frontier's bits below it are done, and `rest` has those from it on. Assumes nothing.
 use mathlib.Core.Path.{sym, ◌∙◌}
-use Prim.Native.Nat.{ℕ, ◌+◌, ◌-◌, ◌<◌}
+use Prim.Native.Nat.{◌+◌, ◌-◌, ◌<◌}
 use native.Mathlib.Omega.{arith}
 use lib.Bits.{and_le_r}
 use lib.Count.{count_trailing_zeros}
-use Rattle.distance_table.proofs.Laws.{Spreading, spreading_none, spreading_below, spreading_next, spread_bytes, spread_bits}
+use Rattle.distance_table.proofs.Laws.{spreading_none, spreading_below, spreading_next, spread_bytes, spread_bits}
 use Rattle.distance_table.proofs.spread.Goals as goal
 
 pub loop-rest-init : goal.loop-rest-init

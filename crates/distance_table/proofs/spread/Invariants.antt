@@ -1,10 +1,6 @@
 -- `distance_table::spread` meets its contract. The invariant: for some `from`, the frontier's bits below it are done, and `rest` has those from it on. Assumes nothing.
-use mathlib.Core.Path.{sym, ◌∙◌}
-use Prim.Native.Nat.{ℕ, ◌+◌, ◌-◌, ◌<◌}
-use native.Mathlib.Omega.{arith}
-use lib.Bits.{and_le_r}
-use lib.Count.{count_trailing_zeros}
-use Rattle.distance_table.proofs.Laws.{Spreading, spreading_none, spreading_below, spreading_next, spread_bytes, spread_bits}
+use Prim.Native.Nat.{ℕ}
+use Rattle.distance_table.proofs.Laws.{Spreading}
 use Rattle.distance_table.proofs.spread.Given as goal
 
 abbrev pub invariant-loop-rest : goal.invariant-loop-rest

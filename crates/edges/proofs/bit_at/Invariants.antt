@@ -1,9 +1,6 @@
 -- `edges::bit_at` meets its contract. The loop keeps how many bits so far are set, and they are not more than the place. Assumes nothing.
-use mathlib.Core.Logic.{⊎_elim}
 use Prim.Native.Nat.{◌-◌}
-use native.Mathlib.Omega.{arith}
-use borrow.Author.Rules.{rules}
-use Rattle.lists.proofs.Passing.{Seeking, seeking_from, seeking_found, seeking_yes, seeking_no, seeking_done}
+use Rattle.lists.proofs.Passing.{Seeking}
 use Rattle.bits.specs.Bits.{set?}
 use Rattle.edges.proofs.bit_at.Given as goal
 

@@ -1,10 +1,7 @@
 -- `edges::bits_below` meets its contract. The loop keeps the count of the bits so far. Assumes nothing.
-use mathlib.Core.Path.{◌≡◌, refl, ◌∙◌, ap}
-use mathlib.Core.Logic.{⊎_elim}
+use mathlib.Core.Path.{◌≡◌}
 use Prim.Native.Nat.{◌-◌, ◌≤◌}
-use native.Mathlib.Omega.{arith}
-use borrow.Author.Rules.{rules}
-use Rattle.lists.proofs.Passing.{passing, passing_yes, passing_no}
+use Rattle.lists.proofs.Passing.{passing}
 use Rattle.bits.specs.Bits.{set?}
 use Rattle.edges.proofs.bits_below.Given as goal
 

@@ -1,12 +1,7 @@
 -- `edges::edge_at` meets its contract. The loop keeps how many edges stand between those with a lower low end and the place. Assumes nothing.
-use mathlib.Core.Path.{◌≡◌, ap, subst}
+use mathlib.Core.Path.{◌≡◌}
 use Prim.Native.Nat.{◌+◌, ◌-◌, ◌≤◌}
-use native.Mathlib.Omega.{arith}
-use native.Mathlib.Numerals.{add-one}
-use borrow.Author.Rules.{rules}
-use lib.Dec.{T}
-use Rattle.instance.specs.Instance.{edges_before}
-use Rattle.edges.proofs.Laws.{lower_edges, passing_higher}
+use Rattle.edges.proofs.Laws.{lower_edges}
 use Rattle.edges.proofs.edge_at.Given as goal
 
 abbrev pub invariant-loop-low : goal.invariant-loop-low

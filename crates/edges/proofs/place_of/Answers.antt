@@ -1,9 +1,8 @@
 -- `edges::place_of` meets its contract. The loop keeps the count of the edges with a lower low end. Assumes nothing.
 use mathlib.Core.Path.{◌≡◌, refl, ◌∙◌, ap, ap₂}
-use Prim.Native.Nat.{◌+◌, ◌*◌, ◌-◌, ◌≤◌}
+use Prim.Native.Nat.{◌+◌}
 use native.Mathlib.Omega.{arith}
 use native.Mathlib.Numerals.{add-one}
-use borrow.Author.Rules.{rules}
 use Rattle.instance.specs.Instance.{edges_before}
 use Rattle.edges.proofs.Laws.{lower_edges, passing_higher}
 use Rattle.edges.proofs.place_of.Goals as goal

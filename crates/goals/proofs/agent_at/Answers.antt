@@ -3,11 +3,10 @@
 use mathlib.Core.Path.{ap}
 use mathlib.Core.Logic.{⊎_elim}
 use mathlib.Core.Bool.{not}
-use Prim.Native.Nat.{ℕ, ◌-◌}
+use Prim.Native.Nat.{ℕ}
 use native.Mathlib.Omega.{arith}
-use borrow.Author.Rules.{rules}
 use lib.ListN.{get_or}
-use Rattle.lists.proofs.Passing.{Seeking, seeking_from, seeking_found, seeking_yes, seeking_no, seeking_done}
+use Rattle.lists.proofs.Passing.{seeking_from, seeking_found, seeking_yes, seeking_no, seeking_done}
 use Rattle.instance.specs.Instance.{goal_count}
 use Rattle.instance.proofs.Goals.{has, has_goal}
 use Rattle.goals.proofs.agent_at.Goals as goal

@@ -1,14 +1,8 @@
 -- `goals::count` meets its contract. The loop keeps the count of the agents so far. Assumes nothing.
-use mathlib.Core.Path.{◌≡◌, refl, ◌∙◌, ap}
-use mathlib.Core.Logic.{⊎_elim}
-use mathlib.Core.Bool.{not}
-use Prim.Native.Nat.{ℕ, ◌-◌, ◌≤◌}
-use native.Mathlib.Omega.{arith}
-use borrow.Author.Rules.{rules}
+use mathlib.Core.Path.{◌≡◌}
+use Prim.Native.Nat.{◌-◌, ◌≤◌}
 use lib.ListN.{get_or}
-use Rattle.lists.proofs.Passing.{passing_yes, passing_no}
 use Rattle.instance.specs.Instance.{goal_count}
-use Rattle.instance.proofs.Goals.{has}
 use Rattle.goals.proofs.count.Given as goal
 
 abbrev pub invariant-loop-a : goal.invariant-loop-a

@@ -1,11 +1,7 @@
 -- `instance_check::all_later` meets its contract. The invariant: the test of the edges so far. Assumes nothing.
-use mathlib.Core.Path.{◌≡◌, refl, ◌∙◌, ap}
-use Prim.Native.Nat.{ℕ, suc, ◌-◌, ◌≤◌}
-use native.Mathlib.Numerals.{add-one}
-use native.Mathlib.Omega.{arith}
-use borrow.Author.Rules.{rules}
+use mathlib.Core.Path.{◌≡◌}
+use Prim.Native.Nat.{suc, ◌-◌, ◌≤◌}
 use Rattle.lists.specs.Loop.{every}
-use Rattle.instance.specs.Instance.{edges}
 use Rattle.instance.specs.Questions.{later_edge}
 use Rattle.instance_check.proofs.all_later.Given as goal
 

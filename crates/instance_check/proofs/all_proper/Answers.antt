@@ -1,9 +1,8 @@
 -- `instance_check::all_proper` meets its contract. The invariant: the test of the edges so far. Assumes nothing.
 use mathlib.Core.Path.{◌≡◌, refl, ◌∙◌, ap}
-use Prim.Native.Nat.{ℕ, ◌-◌, ◌≤◌}
+use Prim.Native.Nat.{ℕ}
 use native.Mathlib.Numerals.{add-one}
 use native.Mathlib.Omega.{arith}
-use borrow.Author.Rules.{rules}
 use Rattle.lists.specs.Loop.{every}
 use Rattle.instance.specs.Instance.{edges}
 use Rattle.instance.specs.Questions.{proper_edge}

@@ -1,11 +1,7 @@
 -- `instance_check::all_proper` meets its contract. The invariant: the test of the edges so far. Assumes nothing.
-use mathlib.Core.Path.{◌≡◌, refl, ◌∙◌, ap}
-use Prim.Native.Nat.{ℕ, ◌-◌, ◌≤◌}
-use native.Mathlib.Numerals.{add-one}
-use native.Mathlib.Omega.{arith}
-use borrow.Author.Rules.{rules}
+use mathlib.Core.Path.{◌≡◌}
+use Prim.Native.Nat.{◌-◌, ◌≤◌}
 use Rattle.lists.specs.Loop.{every}
-use Rattle.instance.specs.Instance.{edges}
 use Rattle.instance.specs.Questions.{proper_edge}
 use Rattle.instance_check.proofs.all_proper.Given as goal
 

@@ -5,7 +5,6 @@ use mathlib.Core.List.{List, ◌∷◌}
 use Prim.Native.Nat.{ℕ, suc, ◌+◌, ◌-◌, ◌*◌}
 use native.Mathlib.Omega.{arith}
 use borrow.Author.Tests.{not-true, not-false}
-use borrow.Author.Rules.{rules}
 use Rattle.lists.specs.Loop.{every}
 use Rattle.answers.specs.Answers.{Question, decide}
 use Rattle.instance.specs.Instance.{edges, starts, goals}
@@ -26,7 +25,6 @@ returns-then-a-k c =
     let starts_same : 4 + 2 * c.args.s.e ≡ starts c.args.b.now = ap (λ (e : ℕ). 4 + 2 * e) c.requires.0.e_same in
     let both : c.all_proper.result && c.all_later.result ≡ every (edges c.args.b.now) (proper_edge c.args.b.now) && every (edges c.args.b.now - 1) (λ i. later_edge c.args.b.now (suc i) i) = ap₂ ◌&&◌ c.all_proper.ensures c.all_later.ensures in
     let edges_clear : (qs : List Question) → decide qs 0 ≡ decide (question6 c.args.b.now ∷ question7 c.args.b.now ∷ qs) 0 = λ qs. edges_pass c.args.b.now qs (sym both ∙ not-false _ c.if-not-all_proper-all_later.false-raw) in
-   
     c.refuse.ensures
     ∙ vertices_stop c.args.b.now false 8 _ starts_same c.vertex_fault-a.ensures (omega arith)
     ∙ edges_clear _
@@ -39,7 +37,6 @@ returns-then-c-k c =
     let edges_clear : (qs : List Question) → decide qs 0 ≡ decide (question6 c.args.b.now ∷ question7 c.args.b.now ∷ qs) 0 = λ qs. edges_pass c.args.b.now qs (sym both ∙ not-false _ c.if-not-all_proper-all_later.false-raw) in
     let starts_clear : (qs : List Question) → decide qs 0 ≡ decide (question6 c.args.b.now ∷ question7 c.args.b.now ∷ question8 c.args.b.now ∷ qs) 0 = λ qs. vertices_pass c.args.b.now false 8 qs starts_same c.vertex_fault-a.ensures (omega arith)
     ∙ edges_clear _ in
-   
     c.refuse-then-c-k.ensures
     ∙ vertices_stop c.args.b.now true 9 _ goals_same c.vertex_fault-c.ensures (omega arith)
     ∙ starts_clear _

@@ -5,7 +5,6 @@ use Prim.Native.Nat.{◌-◌, ◌*◌, ◌≤◌}
 use native.Mathlib.Omega.{arith}
 use native.Mathlib.Nat.{mul-le-mul}
 use borrow.Author.Tests.{not-true, not-false, le-leb, lt-leb, eq-eqb, ne_eqb}
-use borrow.Author.Rules.{rules}
 use lib.Dec.{leb}
 use Rattle.lists.proofs.Tests.{and_iff, leb_iff}
 use Rattle.answers.specs.Answers.{decide, ask}

@@ -3,7 +3,6 @@ use mathlib.Core.Path.{◌≡◌, ◌∙◌, ap₂}
 use mathlib.Core.List.{[], ◌∷◌}
 use Prim.Native.Nat.{ℕ, ◌+◌, ◌*◌, ◌≤◌}
 use native.Mathlib.Omega.{arith}
-use borrow.Author.Rules.{rules}
 use lib.ListN.{length}
 use Rattle.answers.specs.Answers.{refuse, decide}
 use Rattle.instance.specs.Instance.{vertices, agents, edges}
@@ -55,7 +54,6 @@ neighbour_words-near-requires c =
     c.ask_items-answer.ensures
     ∙ ap₂ (λ (m rule : ℕ). decide (question6 b ∷ question7 b ∷ question8 b ∷ question9 b ∷ question10 m ∷ question31 rule ∷ []) 0) c.sizes_of-sizes.ensures.1 c.sizes_of-sizes.ensures.2
     ∙ sizes_passed b c.args.m c.args.rule (omega arith) c.ask_sizes-first.result c.ask_sizes-first.ensures c.if-first-ne0.false in
-   
     let h = known in
     let r = c.sizes_of-sizes.ensures.0 in
     record { e_value = (r.e_same, omega arith, r.n_same, omega arith); edges = edges_checked c.args.b.now c.args.m c.args.rule c.ask_items-answer.result asked c.if-answer-ne0.false }
@@ -70,8 +68,7 @@ returns c =
     let asked : c.ask_items-answer.result ≡ instance_answer c.args.b.now c.args.m c.args.rule = let b = c.args.b.now in
     c.ask_items-answer.ensures
     ∙ ap₂ (λ (m rule : ℕ). decide (question6 b ∷ question7 b ∷ question8 b ∷ question9 b ∷ question10 m ∷ question31 rule ∷ []) 0) c.sizes_of-sizes.ensures.1 c.sizes_of-sizes.ensures.2
-    ∙ sizes_passed b c.args.m c.args.rule (omega arith) c.ask_sizes-first.result c.ask_sizes-first.ensures c.if-first-ne0.false in
-    (
-  asked,
-  made c.args.b.now c.args.m c.args.rule c.ask_items-answer.result asked c.sizes_of-sizes.result c.sizes_of-sizes.ensures.0 c.count-g.result c.for_agents-starts.result c.for_agents-goals.result c.neighbour_words-near.result c.for_agents-starts.ensures c.for_agents-goals.ensures (c.neighbour_words-near.ensures c.args.m c.args.rule) c.count-g.ensures.0 c.if-answer-ne0.false,
-)
+    ∙ sizes_passed b c.args.m c.args.rule (omega arith) c.ask_sizes-first.result c.ask_sizes-first.ensures c.if-first-ne0.false in (
+      asked,
+      made c.args.b.now c.args.m c.args.rule c.ask_items-answer.result asked c.sizes_of-sizes.result c.sizes_of-sizes.ensures.0 c.count-g.result c.for_agents-starts.result c.for_agents-goals.result c.neighbour_words-near.result c.for_agents-starts.ensures c.for_agents-goals.ensures (c.neighbour_words-near.ensures c.args.m c.args.rule) c.count-g.ensures.0 c.if-answer-ne0.false,
+    )

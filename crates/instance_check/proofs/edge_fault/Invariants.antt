@@ -1,11 +1,6 @@
 -- `instance_check::edge_fault` meets its contract. The invariant: every item so far passes the test. Assumes nothing.
 use Prim.Native.Nat.{ℕ, ◌-◌, ◌≤◌, ◌<◌}
-use native.Mathlib.Omega.{arith}
-use borrow.Author.Tests.{not-true, not-false}
-use borrow.Author.Count.{below_more, below_none}
-use borrow.Author.Rules.{rules}
 use lib.Dec.{T}
-use Rattle.answers.proofs.Faults.{holds, fails, fault_at}
 use Rattle.instance.specs.Questions.{proper_edge}
 use Rattle.instance_check.proofs.edge_fault.Given as goal
 

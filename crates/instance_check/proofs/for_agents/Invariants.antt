@@ -1,11 +1,8 @@
 -- `instance_check::for_agents` meets its contract. The invariant says what the turns so far have done. Assumes nothing.
-use mathlib.Core.Path.{◌≡◌, refl, ◌∙◌, ap}
-use Prim.Native.Nat.{ℕ, ◌-◌, ◌≤◌}
-use native.Mathlib.Omega.{arith}
-use borrow.Author.Rules.{rules}
-use lib.ListN.{length, take, drop, replicate, length-set}
+use mathlib.Core.Path.{◌≡◌}
+use Prim.Native.Nat.{◌-◌, ◌≤◌}
+use lib.ListN.{length, take, drop, replicate}
 use Rattle.lists.specs.Slice.{filled}
-use Rattle.instance_check.proofs.Laws.{filled_more}
 use Rattle.instance_check.proofs.for_agents.Given as goal
 
 abbrev pub invariant-loop-a : goal.invariant-loop-a

@@ -6,7 +6,6 @@ use lib.ListN.{get_or}
 use Rattle.instance.specs.Instance.{high_end, vertices}
 use Rattle.instance_check.proofs.Words.{ends_known}
 use Rattle.instance_check.proofs.Fan.{ends_in, marked_fan}
-use borrow.Author.Rules.{rules}
 use Rattle.instance_check.proofs.mark_edges.Goals as goal
 
 pub overflow_sub-to : goal.overflow_sub-to
@@ -23,7 +22,6 @@ mark_fan-requires c =
     let ends : (c.wide-low.result < c.wide-high.result) × (c.wide-high.result < c.args.n) = let (o, h) = ends_in c.args.b.now c.requires.edges.0 c.args.from (omega arith) in
     let x = high_is in
     (omega (arith, c.wide-low.ensures.0), omega arith) in
-   
     let h = ends in
     (h.0, omega arith, omega arith, c.requires.edges.1.long)
 
@@ -36,7 +34,6 @@ returns-then-wide-low c =
     let ends : (c.wide-low.result < c.wide-high.result) × (c.wide-high.result < c.args.n) = let (o, h) = ends_in c.args.b.now c.requires.edges.0 c.args.from (omega arith) in
     let x = high_is in
     (omega (arith, c.wide-low.ensures.0), omega arith) in
-   
     let h = ends in
     let x = high_is in
     let at : 4 + (c.args.from + (c.args.n - c.wide-high.result - 1)) ≡ 3 + (c.args.from + (c.args.n - c.wide-high.result)) = omega arith in

@@ -1,10 +1,9 @@
 -- `instance_check::mark_fan` meets its contract. The invariant: the high ends so far are marked. Assumes nothing.
 use mathlib.Core.Path.{◌≡◌, sym, ◌∙◌, subst}
-use Prim.Native.Nat.{ℕ, ◌-◌, ◌≤◌}
+use Prim.Native.Nat.{ℕ}
 use native.Mathlib.Omega.{arith}
 use lib.ListN.{length-set}
 use Rattle.instance_check.proofs.Fan.{Fanned, fanned_none, fanned_more, fanned_length, fanned_all}
-use borrow.Author.Rules.{rules}
 use Rattle.instance_check.proofs.mark_fan.Goals as goal
 
 pub loop-w-init : goal.loop-w-init

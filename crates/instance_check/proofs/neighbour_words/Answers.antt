@@ -1,9 +1,7 @@
 -- `instance_check::neighbour_words` meets its contract. The invariant: the edges before j are marked. Assumes nothing.
 use mathlib.Core.Path.{◌≡◌}
-use Prim.Native.Nat.{◌-◌, ◌≤◌}
 use native.Mathlib.Omega.{arith}
 use Rattle.instance.specs.Instance.{edges}
-use Rattle.instance_check.specs.Marked.{Marked}
 use Rattle.instance_check.proofs.Words.{marked_none, marked_all}
 use Rattle.instance_check.proofs.neighbour_words.Goals as goal
 

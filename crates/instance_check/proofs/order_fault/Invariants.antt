@@ -1,11 +1,6 @@
 -- `instance_check::order_fault` meets its contract. The invariant: every item so far passes the test. Assumes nothing.
 use Prim.Native.Nat.{ℕ, suc, ◌-◌, ◌≤◌, ◌<◌}
-use native.Mathlib.Omega.{arith}
-use borrow.Author.Tests.{not-true, not-false}
-use borrow.Author.Count.{below_more, below_none}
-use borrow.Author.Rules.{rules}
 use lib.Dec.{T}
-use Rattle.answers.proofs.Faults.{holds, fails, fault_at}
 use Rattle.instance.specs.Questions.{later_edge}
 use Rattle.instance_check.proofs.order_fault.Given as goal
 

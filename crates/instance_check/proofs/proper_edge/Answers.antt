@@ -1,5 +1,4 @@
 -- `instance_check::proper_edge` meets its contract: its comparisons are those of the definition. Assumes nothing.
-use borrow.Author.Rules.{rules}
 use Rattle.instance_check.proofs.proper_edge.Goals as goal
 
 pub returns : goal.returns

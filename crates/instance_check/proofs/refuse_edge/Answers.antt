@@ -2,7 +2,6 @@
 use mathlib.Core.Path.{◌≡◌, sym, ◌∙◌, ap}
 use Prim.Native.Nat.{suc, ◌+◌}
 use native.Mathlib.Omega.{arith}
-use borrow.Author.Rules.{rules}
 use Rattle.answers.specs.Answers.{refuse}
 use Rattle.answers.proofs.Laws.{fault_pass, fault_stop}
 use Rattle.instance_check.proofs.Laws.{order_fails}

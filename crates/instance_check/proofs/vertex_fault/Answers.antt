@@ -2,18 +2,17 @@
 use mathlib.Core.Path.{◌≡◌, refl}
 use mathlib.Core.Bool.{Bool, false, not, ◌&&◌, ◌||◌}
 use mathlib.Core.Logic.{⊎_elim}
-use Prim.Native.Nat.{ℕ, ◌+◌, ◌-◌, ◌≤◌, ◌<◌}
+use Prim.Native.Nat.{ℕ, ◌+◌}
 use native.Mathlib.Omega.{arith}
 use borrow.Author.Tests.{lt-ltb, le-ltb}
 use borrow.Author.Count.{below_more, below_none}
-use borrow.Author.Rules.{rules}
-use lib.ListN.{length, get_or, length-set}
+use lib.ListN.{get_or, length-set}
 use lib.Dec.{T, ltb}
 use Rattle.answers.proofs.Faults.{holds, fails, fault_at}
 use Rattle.instance.specs.Instance.{free, vertices}
 use Rattle.instance.specs.Questions.{new_vertex}
 use Rattle.instance.proofs.Goals.{was_free, over_passes, asked_iff}
-use Rattle.instance_check.proofs.Laws.{Seen, seen_none, seen_more, seen_free, seen_test}
+use Rattle.instance_check.proofs.Laws.{seen_none, seen_more, seen_free, seen_test}
 use Rattle.instance_check.proofs.vertex_fault.Goals as goal
 
 pub loop-a-init : goal.loop-a-init

@@ -1,19 +1,12 @@
 -- `instance_check::vertex_fault` meets its contract. The invariant: every item so far passes the test and is marked. Assumes nothing.
-use mathlib.Core.Path.{◌≡◌, refl}
-use mathlib.Core.Bool.{Bool, false, not, ◌&&◌, ◌||◌}
-use mathlib.Core.Logic.{⊎_elim}
+use mathlib.Core.Path.{◌≡◌}
+use mathlib.Core.Bool.{◌&&◌, ◌||◌}
 use Prim.Native.Nat.{ℕ, ◌+◌, ◌-◌, ◌≤◌, ◌<◌}
-use native.Mathlib.Omega.{arith}
-use borrow.Author.Tests.{lt-ltb, le-ltb}
-use borrow.Author.Count.{below_more, below_none}
-use borrow.Author.Rules.{rules}
-use lib.ListN.{length, get_or, length-set}
-use lib.Dec.{T, ltb}
-use Rattle.answers.proofs.Faults.{holds, fails, fault_at}
-use Rattle.instance.specs.Instance.{free, vertices}
+use lib.ListN.{length, get_or}
+use lib.Dec.{T}
+use Rattle.instance.specs.Instance.{free}
 use Rattle.instance.specs.Questions.{new_vertex}
-use Rattle.instance.proofs.Goals.{was_free, over_passes, asked_iff}
-use Rattle.instance_check.proofs.Laws.{Seen, seen_none, seen_more, seen_free, seen_test}
+use Rattle.instance_check.proofs.Laws.{Seen}
 use Rattle.instance_check.proofs.vertex_fault.Given as goal
 
 abbrev pub invariant-loop-a : goal.invariant-loop-a

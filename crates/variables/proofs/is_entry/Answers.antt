@@ -4,7 +4,6 @@ use mir.Syntax.{w32}
 use mir.Val.{of_z}
 use Rattle.variables.proofs.Laws.{pos_fits, neg_fits, same, same_true, same_false, bits_same}
 use mathlib.Core.Path.{◌≡◌, sym, ◌∙◌, ap}
-use borrow.Author.Rules.{rules}
 use Rattle.variables.proofs.is_entry.Goals as goal
 
 pub returns-then-entry-literal_of : goal.returns-then-entry-literal_of

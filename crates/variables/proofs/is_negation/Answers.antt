@@ -2,7 +2,6 @@
 use Prim.Native.Nat.{◌+◌}
 use lib.IntN.{pos, neg_ℤ}
 use Rattle.variables.proofs.Laws.{neg_fits, bits_same}
-use borrow.Author.Rules.{rules}
 use Rattle.variables.proofs.is_negation.Goals as goal
 
 pub returns : goal.returns

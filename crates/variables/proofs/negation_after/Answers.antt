@@ -2,7 +2,7 @@
 use native.Mathlib.Omega.{arith}
 use mir.Facts.{to_z-of_z}
 use Rattle.variables.proofs.Laws.{neg_less, neg_fits}
-use borrow.Author.Rules.{rules, sfits_of}
+use borrow.Author.Rules.{sfits_of}
 use Rattle.variables.proofs.negation_after.Goals as goal
 
 pub negation_of-requires : goal.negation_of-requires

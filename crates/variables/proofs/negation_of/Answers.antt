@@ -1,7 +1,6 @@
 -- `variables::negation_of` meets its contract: a variable number is small, so its negative fits. Assumes nothing.
 use mir.Facts.{to_z-of_z}
 use Rattle.variables.proofs.Laws.{neg_is, neg_fits}
-use borrow.Author.Rules.{rules}
 use Rattle.variables.proofs.negation_of.Goals as goal
 
 pub overflow_sub-result : goal.overflow_sub-result

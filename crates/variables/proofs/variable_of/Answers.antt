@@ -14,8 +14,7 @@ pub overflow_add-result-2 : goal.overflow_add-result-2
 overflow_add-result-2 c = omega (arith, c.first_entry.ensures.1, c.requires.t_le_m.2, variables_most c.args.s c.requires.limits)
 
 pub returns : goal.returns
-returns c =
-    (
-      omega (arith, c.first_entry.ensures.0, vertices_run c.args.s c.args.t.0 c.args.a.0 c.args.v.0),
-      omega (arith, c.first_entry.ensures.1, c.requires.t_le_m.2, variables_most c.args.s c.requires.limits),
-    )
+returns c = (
+  omega (arith, c.first_entry.ensures.0, vertices_run c.args.s c.args.t.0 c.args.a.0 c.args.v.0),
+  omega (arith, c.first_entry.ensures.1, c.requires.t_le_m.2, variables_most c.args.s c.requires.limits),
+)
