@@ -1,7 +1,6 @@
 -- `program_runs::run` is safe and ends: the buffers keep their lengths; the measure is how many inputs may follow. Assumes nothing.
 use mathlib.Core.Path.{◌≡◌}
 use lib.ListN.{length}
-use borrow.Author.Rules.{rules}
 use Rattle.program_runs.proofs.run.Given as goal
 
 abbrev pub invariant-loop-left : goal.invariant-loop-left
