@@ -94,11 +94,18 @@ fn run(input: &mut [u8], words: &mut [i32], plan: &mut [u8])
     }
 }
 
+// So many zeros.
+fn zeros<const N: usize>() -> [u8; N]
+    ensures { length result ≡ N }
+{
+    [0; N]
+}
+
 // The arrays stand in functions of their own, which say no more than their lengths.
 fn input_space() -> [u8; 540672]
     ensures { 540672 ≡ length result }
 {
-    [0; 540672]
+    zeros::<540672>()
 }
 
 fn word_space() -> [i32; 65536]

@@ -50,7 +50,7 @@ fn run(input: &mut [u8], words: &mut [i32], text: &mut [u8], texts: &mut [u8])
 fn main() {
     let mut input = [0u8; 4070];
     let mut words = [0i32; 6048];
-    let mut text = [0u8; 113920];
-    let mut texts = [0u8; 540680];
+    let mut text = formula_printer::zeros::<113920>();
+    let mut texts = formula_printer::zeros::<540680>();
     run(&mut input, &mut words, &mut text, &mut texts);
 }

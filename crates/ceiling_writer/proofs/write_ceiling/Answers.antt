@@ -19,7 +19,6 @@ use Rattle.calls.specs.Ceiling.{ceiling_questions, ceiling_answer, ceiling_write
 use Rattle.calls.proofs.Size.{fits_12, write_refuses, write_stops, write_fills}
 use Rattle.calls.proofs.Ceiling.{numbered_ceiling, passed, low, horizon}
 use Rattle.ceiling_size.proofs.Laws.{words_held}
-use borrow.Author.Rules.{rules}
 use Rattle.ceiling_writer.proofs.write_ceiling.Goals as goal
 
 pub returns-then-first-ne0 : goal.returns-then-first-ne0
@@ -54,8 +53,12 @@ write_all-requires c =
     let parts : words (under_ceiling c.args.c (instance_of c.args.b.now c.check_ceiling-i.result.checked)) ≡ each line (for 7 (family (held c.check_ceiling-i.result.checked)) ++ added_clauses c.check_ceiling-i.result.checked.sizes c.args.c) = ap (each line)
     (ap₂ (λ (k l : List Clause). k ++ l) (families_held c.args.b.now c.check_ceiling-i.result.checked known)
     (ap (λ (s : Sizes). added_clauses s c.args.c) (sym (sizes_same _ _ known)))) in
-    let w = known in record { ready = ready _ _ w; c_bound = omega (arith, small); c_in_bounds = rw (← parts)
-            (omega (arith, words_held _ _ w c.args.c, c.words-needed.ensures, fits_12 c.words-needed.result (length c.args.f.now) c.ask_room-answer.result c.ask_room-answer.ensures c.if-answer-ne0.false)) }
+    let w = known in record {
+      ready = ready _ _ w;
+      c_bound = omega (arith, small);
+      c_in_bounds = rw (← parts)
+          (omega (arith, words_held _ _ w c.args.c, c.words-needed.ensures, fits_12 c.words-needed.result (length c.args.f.now) c.ask_room-answer.result c.ask_room-answer.ensures c.if-answer-ne0.false));
+    }
 
 pub returns : goal.returns
 unfolding ceiling_write_answer ceiling_write_slice ceiling_answer words

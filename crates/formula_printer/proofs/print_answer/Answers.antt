@@ -6,7 +6,6 @@ use Rattle.answers.proofs.Laws.{by_number_accepted, by_number_refused}
 use Rattle.instance.specs.Questions.{instance_answer}
 use Rattle.instance.proofs.Accepted.{ready, accepted, rule_of}
 use Rattle.formula_printer.specs.Output.{answer_status}
-use borrow.Author.Rules.{rules}
 use Rattle.formula_printer.proofs.print_answer.Goals as goal
 
 pub returns-then-answer-ne0 : goal.returns-then-answer-ne0
@@ -16,10 +15,13 @@ returns-then-answer-ne0 c = rw (by_number_refused {A = ℕ} (instance_answer c.a
 pub print_formula-requires : goal.print_formula-requires
 print_formula-requires c =
     let b = c.args.b.now in
-    let e : (instance_answer b c.args.m 1).number ≡ 0 = sym (ap (λ (x : Answer). x.number) c.check_instance-i.ensures.0) ∙ c.if-answer-ne0.false in record { room = c.requires; ready = (
+    let e : (instance_answer b c.args.m 1).number ≡ 0 = sym (ap (λ (x : Answer). x.number) c.check_instance-i.ensures.0) ∙ c.if-answer-ne0.false in record {
+      room = c.requires;
+      ready = (
         ready _ _ (accepted b c.args.m 1 c.check_instance-i.result.checked c.check_instance-i.ensures.1 e),
         rule_of b c.args.m 1 c.check_instance-i.result.checked c.check_instance-i.ensures.1 e,
-      ) }
+      );
+    }
 
 pub returns : goal.returns
 unfolding answer_status

@@ -6,7 +6,6 @@ use borrow.Rule.Slice.PartMut.{put_mid, mid_len}
 use lib.ListN.{length, take}
 use lib.Seq.{take_at}
 use Rattle.formula.specs.Variables.{variable_count}
-use borrow.Author.Rules.{rules}
 use Rattle.formula_printer.proofs.print_formula.Goals as goal
 
 pub variable_count-variables-requires : goal.variable_count-variables-requires
@@ -23,8 +22,11 @@ print_families-requires c =
     let fit : end ≤ length c.args.texts.now = omega (arith, c.variable_count-variables.ensures.1, c.requires.room.texts_room) in
     let size : length ys ≡ end - 0 = c.texts-1.given.0 ∙ mid_len 0 end c.args.texts.now fit in
     let e : take (end - 0) (put_mid 0 (end - 0) c.args.texts.now ys) ≡ ys = take_at ys _ (end - 0) size in
-    let top : n ≡ variable_count c.args.c.sizes = c.variable_count-variables.ensures.0 in record { block = (
+    let top : n ≡ variable_count c.args.c.sizes = c.variable_count-variables.ensures.0 in record {
+      block = (
         record { words_room = c.requires.room.words_room; text_room = omega (arith, c.text-1.given, c.requires.room.text_room) },
         rw (e, ← top) c.put_texts.ensures,
         omega (arith, c.put_header-header.ensures.1),
-      ); ready = c.requires.ready }
+      );
+      ready = c.requires.ready;
+    }

@@ -6,7 +6,6 @@ use native.Mathlib.Omega.{arith}
 use lib.ListN.{length, get_or, take, drop, length-drop}
 use lib.Seq.{take_all}
 use Rattle.formula_printer.specs.Output.{answer_status, Ends, input_status}
-use borrow.Author.Rules.{rules}
 use Rattle.formula_printer.proofs.print_input.Goals as goal
 
 -- an empty input, and one that has a byte m

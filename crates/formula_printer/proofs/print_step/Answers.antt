@@ -1,9 +1,7 @@
 -- `formula_printer::print_step` meets its contract: both buffers keep their lengths, and less than a piece is gathered. Assumes nothing.
 use mathlib.Core.Path.{refl, ◌∙◌}
-use Prim.Native.Nat.{◌-◌}
 use native.Mathlib.Omega.{arith}
-use Rattle.formula_printer.proofs.Going.{Going, going_room}
-use borrow.Author.Rules.{rules}
+use Rattle.formula_printer.proofs.Going.{going_room}
 use Rattle.formula_printer.proofs.print_step.Goals as goal
 
 pub blocks_at-end-requires : goal.blocks_at-end-requires

@@ -1,7 +1,6 @@
 -- `formula_printer::put_block` meets its contract: where the clauses have two literals each, their words come in threes. Assumes nothing.
 use mathlib.Core.Path.{sym, ◌∙◌, subst}
 use lib.Dec.{T}
-use borrow.Author.Rules.{rules}
 use Rattle.formula_printer.proofs.put_block.Goals as goal
 
 pub put_pairs-requires : goal.put_pairs-requires
