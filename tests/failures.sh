@@ -1,7 +1,7 @@
 #!/usr/bin/env bash
 # The formula program where reading or writing fails: tests/failures.sh. What fails and what is asked of the program
 # stands in tests/independent/failures.py. First the program with a status of its own, then the one of the language
-# alone, which says the same words and ends with 0.
+# alone, which ends with the error that its main returns.
 # RUNGLAET_PROGRAM: a formula program with a status, to be tested alone.
 set -eu
 cd "$(dirname "$0")/.."

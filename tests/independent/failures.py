@@ -2,8 +2,9 @@
 """The formula program where reading or writing fails: failures.py [--no-status] FORMULA_TEXT PROGRAM.
 
 A failure must be told on standard error, nothing may be missing before it, and the status says what happened: 0 for a
-formula printed whole, 1 for a refusal, 2 for a failure. A program of the language itself has no status of its own;
-with --no-status it must end with 0 each time. What should be printed comes from FORMULA_TEXT, the independent program.
+formula printed whole, 1 for a refusal, 2 for a failure. A program of the language itself has no status of its own; with
+--no-status it must end with 0 for a formula and for a refusal, and with 1 and the error that its `main` returns for a
+failure. What should be printed comes from FORMULA_TEXT, the independent program.
 """
 
 import errno
@@ -92,12 +93,17 @@ class Run:
 
 def require_status(status, expected):
     if not STATUS:
-        expected = 0
+        expected = 1 if expected == FAILED else 0
     require(status == expected, f"status {status}, not {expected}")
 
 
 def require_told(errors, words, number):
-    """One line: the words, then the reason as the system calls it."""
+    """One line: the words, then the reason as the system calls it; or what `main` returned, with the reason of a read."""
+    if not STATUS:
+        reason = os.strerror(number) if words == READ else "the output cannot be written"
+        told = errors.startswith("Error: ") and reason in errors and errors.count("\n") == 1
+        require(told, f"standard error has {errors!r}, not an error with {reason!r}")
+        return
     line = f"{words}{os.strerror(number)}\n"
     require(errors == line, f"standard error has {errors!r}, not {line!r}")
 
