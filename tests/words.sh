@@ -859,6 +859,7 @@ expect Output 2 small 9 with "$plan" "$solve" "$root/examples/grid4.txt"
 solves 0 '' "$shuttles" "$root/tools/shuttles/build.sh"
 mkdir copy
 (cd "$root" && tar -c --exclude target tools examples) | tar -x -C copy
+mkdir -p copy/crates/runglaet copy/crates/formula_printer_c
 build=copy/tools/shuttles/build.sh
 builds() { expect "$1" 2 env PATH="$folder/extra:$folder/fake:$folder/bare" RUNGLAET_LIB="$2" "${@:3}"; }
 mkdir extra

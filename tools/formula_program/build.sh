@@ -24,7 +24,7 @@ mkdir -p "$root/target/formula_program" 2>/dev/null ||
 
 cc=${CC:-cc}
 no_compiler="no C compiler of this name, and the program is yet to be linked: $cc"
-if older "$library"; then
+if older "$library" || [ "$here/program.c" -nt "$library" ]; then
     log=$root/target/formula_printer.log
     command -v rt >/dev/null || stop "rt is missing on the path, and the program is yet to be proved: $library"
     command -v "$cc" >/dev/null || stop "$no_compiler"
@@ -34,7 +34,7 @@ if older "$library"; then
 fi
 
 # A sum over the source, the library and the program.
-sum() { cat "$here/main.c" "$library" "$program" 2>/dev/null | cksum; }
+sum() { cat "$here/main.c" "$here/program.c" "$library" "$program" 2>/dev/null | cksum; }
 
 if [ ! -x "$program" ] || [ "$(sum)" != "$(cat "$stamp" 2>/dev/null)" ]; then
     log=$root/target/formula_program.log

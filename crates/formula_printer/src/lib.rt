@@ -1,8 +1,8 @@
 // The formula program: the text of what stands in standard input, to standard output, under movement rule 1. It is gathered and
-// written in pieces of 64 KiB or more; the first write that fails ends the program.
+// written in pieces of 64 KiB or more; the first write that fails ends the program, and so does a read that fails.
 #![tactic(auto)]
 
-ghost use Rattle.std.specs.Prelude.{◌≡◌, ◌*◌, ◌≤◌, ◌<◌, T, length};
+ghost use Rattle.std.specs.Prelude.{◌≡◌, ◌*◌, ◌≤◌, ◌<◌, T, length, IfOk};
 ghost use Rattle.instance.specs.Ready.{Ready};
 ghost use Rattle.formula.specs.Variables.{variable_count};
 ghost use Rattle.formula.specs.Blocks.{times, blocks_at, paired};
@@ -12,6 +12,7 @@ ghost use Rattle.formula_printer.specs.Room.{Room, Block};
 ghost use Rattle.formula_printer.specs.Output.{answer_status, Ends, input_status};
 
 use instance::{Checked, Sizes};
+use std::io::Read;
 
 // The exit status: the formula was printed, the instance was refused, or a read or a write failed.
 pub const DONE: u32 = 0;
@@ -251,10 +252,24 @@ pub fn print(input: &[u8]) -> u32
     print_input(&mut words, &mut text, &mut texts, input)
 }
 
-// The whole program, where no runtime is at hand: reads at most 4,070 bytes, the byte m and an instance, and prints. A read that
-// fails counts as the end. Answers the exit status.
-pub fn run() -> u32 {
+// Reads until the slice is full, or to the end.
+fn read_input<R: Read>(reader: &mut R, input: &mut [u8]) -> std::io::Result<usize>
+    ensures { IfOk result (λ n. n ≤ length input.new) }
+{
+    let mut at: usize = 0;
+    while at < input.len() {
+        let n = reader.read(&mut input[at..])?;
+        if n == 0 {
+            break;
+        }
+        at += n;
+    }
+    Ok(at)
+}
+
+// The whole program: reads at most 4,070 bytes, the byte m and an instance, and prints. Answers the exit status, or why a read failed.
+pub fn run<R: Read>(reader: &mut R) -> std::io::Result<u32> {
     let mut input = [0u8; 4070];
-    let n = io::read_full(0, &mut input);
-    print(&input[0..n])
+    let n = read_input(reader, &mut input)?;
+    Ok(print(&input[0..n]))
 }
