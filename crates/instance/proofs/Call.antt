@@ -1,12 +1,15 @@
 -- What every call shares: it asks 1 to 10 and 31 by the instance check, which answers a and gives c, and where that accepts, its own
 -- questions qs of the instance that c stands for. An acceptance holds the count, and fills a slice that held s with out.
-use mathlib.Core.Path.{◌≡◌, sym, ◌∙◌, ap, ap₂, subst}
+use mathlib.Core.Path.{◌≡◌, refl, sym, ◌∙◌, ap, ap₂, subst}
 use mathlib.Core.Logic.{◌≢◌}
 use mathlib.Core.List.{List, ◌++◌}
 use Prim.Native.Nat.{ℕ}
 use Rattle.lists.specs.Slice.{filled}
 use Rattle.answers.specs.declared.Answer.{Answer}
 use Rattle.answers.specs.Answers.{Question, decide, lent}
+use Rattle.answers.specs.declared.Refusal.{Refusal}
+use Rattle.answers.specs.Returned.{refused}
+use Rattle.answers.proofs.Returned.{refusal_numbered}
 use Rattle.answers.proofs.Laws.{lent_accepted, lent_refused}
 use Rattle.instance.specs.declared.Checked.{Checked}
 use Rattle.instance.specs.Instance.{Instance, instance}
@@ -36,6 +39,11 @@ module _ (b : List ℕ) (m rule : ℕ) (a : Answer) (c : Checked) (ea : a ≡ in
     pub call_answers : a.number ≡ 0 → (r : Answer) → r ≡ decide (qs (instance_of b c)) (count (instance_of b c)) → r ≡ answer
     call_answers o r er =
         er ∙ ap (λ (I : Instance). decide (qs I) (count I)) (horizon o) ∙ first_passed b m rule a ea (qs (instance b m rule)) (count (instance b m rule)) o
+
+-- A refusal of the instance check is the call's answer. (An acceptance is `accept 0`, of which the laws above speak too.)
+pub call_refused : (b : List ℕ) (m rule : ℕ) (e : Refusal) → refused e ≡ instance_answer b m rule → (qs : Instance → List Question) (count : Instance → ℕ)
+    → refused e ≡ decide (instance_questions b m rule ++ qs (instance b m rule)) (count (instance b m rule))
+call_refused b m rule e h qs count = instance_refuses b m rule (refused e) (instance_checked b m rule) h refl qs count (refusal_numbered e)
 
 -- the lent slice, where the call's answer is known
 module _ {A : Type 0} (whole r : Answer) (e : r ≡ whole) (out s : List A) where

@@ -5,3 +5,4 @@ pub mod Ready
 pub mod Shows
 pub mod Questions
 pub mod Accepted
+pub mod Problem

@@ -1,6 +1,10 @@
 // The instance as it travels after the check.
 #![tactic(auto)]
 
+mod problem;
+
+pub use problem::{Problem, Shape};
+
 // Vertices, agents, edges, the horizon and the movement rule that were given beside the instance, and how many agents have a goal.
 #[derive(Clone, Copy)]
 pub struct Sizes {

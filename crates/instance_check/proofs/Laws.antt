@@ -1,6 +1,6 @@
 -- What the answers of this crate share.
 use mathlib.Core.Path.{◌≡◌, refl, sym, ◌∙◌, ap}
-use mathlib.Core.Logic.{◌≢◌, by_cases}
+use mathlib.Core.Logic.{by_cases}
 use mathlib.Core.List.{List, [], ◌∷◌, ◌++◌}
 use mathlib.Core.Bool.{Bool, true, false, not, ◌&&◌, ◌||◌, and-true, and-false}
 use Prim.Native.Nat.{ℕ, suc, ◌+◌, ◌-◌, ◌*◌, ◌≤◌, ◌<◌}
@@ -17,17 +17,20 @@ use Rattle.lists.proofs.Tests.{and_iff, eqb_iff, leb_iff, every_iff}
 use Rattle.lists.proofs.Slices.{get_or_alike, filled_set}
 use Rattle.answers.specs.declared.Answer.{Answer}
 use Rattle.answers.specs.Answers.{Question, refuse, accept, decide, clear, ask, ask_each}
+use Rattle.answers.specs.declared.Refusal.{Refusal}
+use Rattle.answers.specs.Returned.{refused}
+use Rattle.answers.proofs.Returned.{refused_after}
 use Rattle.answers.specs.Fault.{FirstFault}
 use Rattle.answers.proofs.Faults.{holds, fails}
-use Rattle.answers.proofs.Laws.{clear_iff, decide_iff, decide_front, decide_after, decide_pass, fault_pass, fault_stop, by_number_accepted, by_number_refused, ask_nil, ask_all}
+use Rattle.answers.proofs.Laws.{clear_iff, decide_iff, decide_after, decide_pass, fault_pass, fault_stop, by_number_accepted, ask_nil, ask_all}
 use Rattle.instance.specs.declared.Sizes.{Sizes}
 use Rattle.instance.specs.declared.Checked.{Checked}
 use Rattle.instance.specs.Instance.{no_goal, free, goal_count, vertices, agents, edges, goals, goal_of, instance, neighbour_words, for_agents, checked, unchecked, Edges}
 use Rattle.instance.proofs.Goals.{goal_count_ext}
 use Rattle.instance.proofs.Instance.{instance_iff, edges_known, length_known, limits}
-use Rattle.instance.proofs.Accepted.{for_agents_at}
+use Rattle.instance.specs.Accepted.{Accepted}
+use Rattle.instance.proofs.Accepted.{for_agents_at, accepted}
 use Rattle.instance.specs.Questions.{question2, question3, question4, question5, question6, question7, question8, question9, question10, question31, proper_edge, later_edge, new_vertex, instance_questions, instance_answer, instance_checked}
-use Rattle.instance_check.specs.declared.Inspection.{Inspection}
 use Rattle.instance_check.specs.Read.{Read}
 
 -- one more byte in an array that is filled from a slice
@@ -121,10 +124,10 @@ module _ (b : List ℕ) (m rule : ℕ) where
     unfolding instance_answer instance_questions decide ask
     from_sizes = rw (le-leb 4 (length b) long)
 
-    module _ (r : Answer) (er : r ≡ decide size_questions 0) where
-      pub sizes_refused : r.number ≢ 0 → r ≡ instance_answer b m rule
-      sizes_refused d = er ∙ sym (decide_front size_questions item_questions 0 (λ e. d (ap (λ (a : Answer). a.number) er ∙ e))) ∙ from_sizes
+    pub sizes_refused : (e : Refusal) → refused e ≡ decide size_questions 0 → refused e ≡ instance_answer b m rule
+    sizes_refused e h = refused_after e size_questions item_questions 0 0 h ∙ from_sizes
 
+    module _ (r : Answer) (er : r ≡ decide size_questions 0) where
       module _ (e : r.number ≡ 0) where
         sizes_clear : T (all clear size_questions)
         sizes_clear =
@@ -149,14 +152,6 @@ module _ (b : List ℕ) (m rule : ℕ) where
   fields s g w eg = rw (w.n_same, w.k_same, w.e_same, eg)
 
   module _ (r : Answer) (er : r ≡ instance_answer b m rule) where
-    pub is_refused : r.number ≢ 0 → (i : Inspection) → (i.answer ≡ r) × (i.checked ≡ unchecked)
-        → (i.answer ≡ instance_answer b m rule) × (i.checked ≡ instance_checked b m rule)
-    unfolding instance_checked
-    is_refused d i h = (
-      h.0 ∙ er,
-      h.1 ∙ sym (by_number_refused (instance_answer b m rule).number (checked b m rule) unchecked (λ e. d (ap (λ (a : Answer). a.number) er ∙ e))),
-    )
-
     pub is_checked : r.number ≡ 0 → checked b m rule ≡ instance_checked b m rule
     unfolding instance_checked
     is_checked e =
@@ -183,3 +178,18 @@ module _ (b : List ℕ) (m rule : ℕ) where
     edges_checked e =
         let g = edges_known b m rule ((instance_iff b m rule).0 (sym (ap (λ (a : Answer). a.number) er) ∙ e)) in
         record { ends = g.ends; order = g.order }
+
+  -- the problem that the code makes is the checked instance, and that of the bytes, which are accepted
+  module _ (er : accept 0 ≡ instance_answer b m rule) (s : Sizes) (w : Read b s) (g : ℕ) (first second near : List ℕ)
+      (e₁ : first ≡ filled (take s.k (drop (4 + 2 * s.e) b)) (replicate 16 0))
+      (e₂ : second ≡ filled (take s.k (drop (4 + 2 * s.e + s.k) b)) (replicate 16 0))
+      (e₃ : near ≡ neighbour_words (instance b m rule))
+      (e₄ : g ≡ goal_count s.k (λ a. get_or second a 0)) where
+    abbrev held : Checked
+    held = record { sizes = completed s g; starts = first; goals = second; near = near }
+
+    pub held_checked : held ≡ instance_checked b m rule
+    held_checked = made (accept 0) er s w g first second near e₁ e₂ e₃ e₄ refl
+
+    pub held_accepted : Accepted b held
+    held_accepted = accepted b m rule held held_checked (sym (ap (λ (a : Answer). a.number) er))

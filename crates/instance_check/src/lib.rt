@@ -1,35 +1,20 @@
 // The instance check: questions 1 to 10 and 31, of any bytes and any numbers given as horizon and rule.
 #![tactic(auto)]
 
-ghost use Rattle.std.specs.Prelude.{◌≡◌, false, ◌&&◌, ◌||◌, List, [], ◌∷◌, ℕ, suc, ◌+◌, ◌-◌, ◌*◌, ◌<◌, ◌≤◌, length, get_or, take, drop, replicate};
+ghost use Rattle.std.specs.Prelude.{◌≡◌, false, ◌&&◌, ◌||◌, List, [], ◌∷◌, ℕ, suc, ◌+◌, ◌-◌, ◌*◌, ◌<◌, ◌≤◌, length, get_or, take, drop, replicate, IfOk};
 ghost use Rattle.lists.specs.Loop.{every};
 ghost use Rattle.lists.specs.Slice.{filled};
-ghost use Rattle.answers.specs.Answers.{Question, refuse, decide};
+ghost use Rattle.answers.specs.Answers.{Question, decide};
+ghost use Rattle.answers.specs.Returned.{asked, refused};
 ghost use Rattle.answers.specs.Fault.{FirstFault};
-ghost use Rattle.instance.specs.Instance.{free, instance, vertices, agents, edges, neighbour_words, joined, unchecked, Edges};
+ghost use Rattle.instance.specs.Instance.{free, instance, vertices, agents, edges, neighbour_words, joined, Edges};
 ghost use Rattle.instance.specs.Questions.{question2, question3, question4, question5, question6, question7, question8, question9, question10, question31, proper_edge, later_edge, new_vertex, instance_answer, instance_checked};
+ghost use Rattle.instance.specs.Problem.{checked_of};
 ghost use Rattle.instance_check.specs.Read.{Read};
 ghost use Rattle.instance_check.specs.Marked.{Ends, Marked, fan};
 
-use answers::Answer;
-use instance::{Checked, Sizes};
-
-// The answer to the questions, and beside it the checked instance, of zeros at a refusal.
-#[derive(Clone, Copy)]
-pub struct Inspection {
-    pub answer: Answer,
-    pub checked: Checked,
-}
-
-// The refusal with this number and this place.
-fn refuse(number: u32, place: usize) -> Answer
-    ensures { result ≡ refuse number place }
-{
-    Answer {
-        number,
-        second: place,
-    }
-}
+use answers::{Reason, Refusal};
+use instance::{Problem, Shape, Sizes};
 
 // The sizes, where there are bytes for them: n, k, and e in two bytes, low byte first. No goal is looked at yet.
 fn sizes_of(b: &[u8], m: usize, rule: usize) -> Sizes
@@ -50,30 +35,25 @@ fn sizes_of(b: &[u8], m: usize, rule: usize) -> Sizes
 }
 
 // Questions 2 to 5: the sizes and the length.
-fn ask_sizes(b: &[u8], s: Sizes) -> Answer
+fn ask_sizes(b: &[u8], s: Sizes) -> Result<(), Refusal>
     requires { Read b.now s }
-    ensures { result ≡ decide (question2 b.now ∷ question3 b.now ∷ question4 b.now ∷ question5 b.now ∷ []) 0 }
+    ensures { asked result ≡ decide (question2 b.now ∷ question3 b.now ∷ question4 b.now ∷ question5 b.now ∷ []) 0 }
 {
-    let len = b.len();
-    let n = s.n;
-    let k = s.k;
-    let e = s.e;
+    let Sizes { n, k, e, .. } = s;
     if !((1 <= n) & (n <= 64)) {
-        return refuse(2, 0);
+        return Err(Reason::VertexCount.at(0));
     }
     if !((1 <= k) & (k <= 16) & (k <= n)) {
-        return refuse(3, 1);
+        return Err(Reason::AgentCount.at(1));
     }
     if n * (n - 1) / 2 < e {
-        return refuse(4, 2);
+        return Err(Reason::EdgeCount.at(2));
     }
+    let len = b.len();
     if len != 4 + 2 * e + 2 * k {
-        return refuse(5, len);
+        return Err(Reason::InstanceLength.at(len));
     }
-    Answer {
-        number: 0,
-        second: 0,
-    }
+    Ok(())
 }
 
 // Edge j: low end < high end < n?
@@ -150,16 +130,15 @@ fn order_fault(b: &[u8], e: usize) -> usize
 }
 
 // Questions 6 and 7, where some edge fails one of them: the refusal, whatever is asked later.
-fn refuse_edge(b: &[u8], e: usize) -> Answer
+fn edge_refusal(b: &[u8], e: usize) -> Refusal
     requires { (4 + e + e ≤ length b.now) × (e ≡ edges b.now) × (every (edges b.now) (proper_edge b.now) && every (edges b.now - 1) (λ i. later_edge b.now (suc i) i) ≡ false) }
-    ensures { (later : List Question) → result ≡ decide (question6 b.now ∷ question7 b.now ∷ later) 0 }
+    ensures { (later : List Question) → refused result ≡ decide (question6 b.now ∷ question7 b.now ∷ later) 0 }
 {
     let j = edge_fault(b, e);
     if j < e {
-        return refuse(6, 4 + j);
+        return Reason::ImproperEdge.at(4 + j);
     }
-    let i = order_fault(b, e);
-    refuse(7, 5 + i)
+    Reason::EdgeOrder.at(5 + order_fault(b, e))
 }
 
 // The first of k bytes, from an offset on, that is no vertex or like an earlier one, or k. Where `optional`, as for goals, 255 is passed
@@ -187,35 +166,31 @@ fn vertex_fault(b: &[u8], offset: usize, k: usize, optional: bool) -> usize
 }
 
 // Questions 6 to 10 and 31, where the length is right.
-fn ask_items(b: &[u8], s: Sizes) -> Answer
+fn ask_items(b: &[u8], s: Sizes) -> Result<(), Refusal>
     requires { Read b.now s × (length b.now ≡ 4 + 2 * s.e + 2 * s.k) × (s.n ≤ 64) }
-    ensures { result ≡ decide (question6 b.now ∷ question7 b.now ∷ question8 b.now ∷ question9 b.now ∷ question10 s.m ∷ question31 s.rule ∷ []) 0 }
+    ensures { asked result ≡ decide (question6 b.now ∷ question7 b.now ∷ question8 b.now ∷ question9 b.now ∷ question10 s.m ∷ question31 s.rule ∷ []) 0 }
 {
-    let k = s.k;
-    let e = s.e;
+    let Sizes { k, e, .. } = s;
     if !(all_proper(b, e) & all_later(b, e)) {
-        return refuse_edge(b, e);
+        return Err(edge_refusal(b, e));
     }
     let starts = 4 + 2 * e;
     let a = vertex_fault(b, starts, k, false);
     if a < k {
-        return refuse(8, starts + a);
+        return Err(Reason::BadStart.at(starts + a));
     }
     let goals = starts + k;
     let c = vertex_fault(b, goals, k, true);
     if c < k {
-        return refuse(9, goals + c);
+        return Err(Reason::BadGoal.at(goals + c));
     }
     if 32 < s.m {
-        return refuse(10, 0);
+        return Err(Reason::Horizon.at(0));
     }
     if !((s.rule == 1) | (s.rule == 2)) {
-        return refuse(31, 0);
+        return Err(Reason::Rule.at(0));
     }
-    Answer {
-        number: 0,
-        second: 0,
-    }
+    Ok(())
 }
 
 // k bytes from an offset on, 0 beyond them.
@@ -297,67 +272,38 @@ fn neighbour_words(b: &[u8], n: usize, e: usize) -> [u64; 64]
     near
 }
 
-// A refusal, with zeros beside it.
-fn refused(answer: Answer) -> Inspection
-    ensures { (result.answer ≡ answer) × (result.checked ≡ unchecked) }
-{
-    let none = [0u8; 16];
-    let alone = [0u64; 64];
-    Inspection {
-        answer,
-        checked: Checked {
-            sizes: Sizes {
-                n: 0,
-                k: 0,
-                e: 0,
-                m: 0,
-                rule: 0,
-                g: 0,
-            },
-            starts: none,
-            goals: none,
-            near: alone,
-        },
-    }
-}
-
 // The check, for every byte string and every two numbers.
-pub fn check_instance(b: &[u8], m: usize, rule: usize) -> Inspection
-    ensures { (result.answer ≡ instance_answer b.now m rule) × (result.checked ≡ instance_checked b.now m rule) }
+pub fn check_instance(b: &[u8], m: usize, rule: usize) -> Result<Problem, Refusal>
+    ensures answer { asked result ≡ instance_answer b.now m rule }
+    ensures problem { IfOk result (λ p. (checked_of p ≡ instance_checked b.now m rule)) }
 {
     let len = b.len();
     if len < 4 {
-        return refused(refuse(1, len));
+        return Err(Reason::CutShort.at(len));
     }
     let sizes = sizes_of(b, m, rule);
-    let first = ask_sizes(b, sizes);
-    if first.number != 0 {
-        return refused(first);
-    }
-    let answer = ask_items(b, sizes);
-    if answer.number != 0 {
-        return refused(answer);
-    }
-    let k = sizes.k;
-    let at = 4 + 2 * sizes.e;
+    ask_sizes(b, sizes)?;
+    ask_items(b, sizes)?;
+    let Sizes { n, k, e, .. } = sizes;
+    let at = 4 + 2 * e;
     let starts = for_agents(b, at, k);
     let goals = for_agents(b, at + k, k);
-    let near = neighbour_words(b, sizes.n, sizes.e);
+    let near = neighbour_words(b, n, e);
     let g = goals::count(&goals, k);
-    Inspection {
-        answer,
-        checked: Checked {
-            sizes: Sizes {
-                n: sizes.n,
-                k,
-                e: sizes.e,
-                m,
-                rule,
-                g,
-            },
-            starts,
-            goals,
-            near,
+    let shape = Shape {
+        sizes: Sizes {
+            n,
+            k,
+            e,
+            m,
+            rule,
+            g,
         },
-    }
+    };
+    Ok(Problem {
+        shape,
+        starts,
+        goals,
+        near,
+    })
 }

@@ -13,13 +13,13 @@ use Rattle.instance_check.proofs.ask_sizes.Goals as goal
 
 pub returns-then-not-n : goal.returns-then-not-n
 unfolding decide ask
-returns-then-not-n c = rw (c.refuse.ensures, ← c.requires.n_same, not-true (leb 1 c.args.s.n && leb c.args.s.n 64) c.if-not-n.true-raw)
+returns-then-not-n c = rw (c.at.ensures, ← c.requires.n_same, not-true (leb 1 c.args.s.n && leb c.args.s.n 64) c.if-not-n.true-raw)
 
 pub returns-then-not-k-n : goal.returns-then-not-k-n
 unfolding decide ask
 returns-then-not-k-n c =
     let vertices_fit : leb 1 c.args.s.n && leb c.args.s.n 64 ≡ true = not-false _ c.if-not-n.false-raw in
-    rw (c.refuse-then-not-k-n.ensures, ← c.requires.n_same, ← c.requires.k_same, vertices_fit, not-true (leb 1 c.args.s.k && leb c.args.s.k 16 && leb c.args.s.k c.args.s.n) c.if-not-k-n.true-raw)
+    rw (c.at-then-not-k-n.ensures, ← c.requires.n_same, ← c.requires.k_same, vertices_fit, not-true (leb 1 c.args.s.k && leb c.args.s.k 16 && leb c.args.s.k c.args.s.n) c.if-not-k-n.true-raw)
 
 pub overflow_sub-n : goal.overflow_sub-n
 overflow_sub-n c =
@@ -38,14 +38,14 @@ unfolding decide ask
 returns-then-n-e c =
     let vertices_fit : leb 1 c.args.s.n && leb c.args.s.n 64 ≡ true = not-false _ c.if-not-n.false-raw in
     let agents_fit : leb 1 c.args.s.k && leb c.args.s.k 16 && leb c.args.s.k c.args.s.n ≡ true = not-false _ c.if-not-k-n.false-raw in
-    rw (c.refuse-then-n-e.ensures, ← c.requires.n_same, ← c.requires.k_same, ← c.requires.e_same, vertices_fit, agents_fit, lt-leb _ _ c.if-n-e.true)
+    rw (c.at-then-n-e.ensures, ← c.requires.n_same, ← c.requires.k_same, ← c.requires.e_same, vertices_fit, agents_fit, lt-leb _ _ c.if-n-e.true)
 
 pub returns-then-len-e : goal.returns-then-len-e
 unfolding decide ask
 returns-then-len-e c =
     let vertices_fit : leb 1 c.args.s.n && leb c.args.s.n 64 ≡ true = not-false _ c.if-not-n.false-raw in
     let agents_fit : leb 1 c.args.s.k && leb c.args.s.k 16 && leb c.args.s.k c.args.s.n ≡ true = not-false _ c.if-not-k-n.false-raw in
-    rw (c.refuse-then-len-e.ensures, ← c.requires.n_same, ← c.requires.k_same, ← c.requires.e_same, vertices_fit, agents_fit, le-leb _ _ c.if-n-e.false, ne_eqb _ _ c.if-len-e.true)
+    rw (c.at-then-len-e.ensures, ← c.requires.n_same, ← c.requires.k_same, ← c.requires.e_same, vertices_fit, agents_fit, le-leb _ _ c.if-n-e.false, ne_eqb _ _ c.if-len-e.true)
 
 pub returns : goal.returns
 unfolding decide ask

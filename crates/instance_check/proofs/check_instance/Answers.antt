@@ -1,74 +1,95 @@
 -- `instance_check::check_instance` meets its contract: the first question answered no decides. Assumes nothing.
-use mathlib.Core.Path.{◌≡◌, ◌∙◌, ap₂}
+use mathlib.Core.Path.{◌≡◌, refl, ◌∙◌, ap, ap₂}
 use mathlib.Core.List.{[], ◌∷◌}
 use Prim.Native.Nat.{ℕ, ◌+◌, ◌*◌, ◌≤◌}
 use native.Mathlib.Omega.{arith}
 use lib.ListN.{length}
-use Rattle.answers.specs.Answers.{refuse, decide}
+use Rattle.answers.specs.Answers.{accept, decide}
+use Rattle.answers.specs.Returned.{refused}
+use Rattle.answers.proofs.Returned.{passed_on}
 use Rattle.instance.specs.Instance.{vertices, agents, edges}
 use Rattle.instance.specs.Questions.{question6, question7, question8, question9, question10, question31, instance_answer}
-use Rattle.instance_check.proofs.Laws.{short, sizes_refused, sizes_passed, sizes_known, is_refused, made, edges_checked}
+use Rattle.instance.proofs.Accepted.{limits_known, ready}
+use Rattle.instance_check.proofs.Laws.{short, sizes_refused, sizes_passed, sizes_known, held_checked, held_accepted, edges_checked}
 use Rattle.instance_check.proofs.check_instance.Goals as goal
 
-pub returns-then-len-lt4 : goal.returns-then-len-lt4
-returns-then-len-lt4 c =
+pub returns-then-len-lt4-clause-answer : goal.returns-then-len-lt4-clause-answer
+returns-then-len-lt4-clause-answer c = ap refused c.at.ensures ∙ short c.args.b.now c.args.m c.args.rule c.if-len-lt4.true
+
+pub returns-in_err-ask_sizes-clause-answer : goal.returns-in_err-ask_sizes-clause-answer
+returns-in_err-ask_sizes-clause-answer c =
+    passed_on _ _ c.from_residual.result c.from_residual.ensures.1 (sizes_refused c.args.b.now c.args.m c.args.rule (omega arith) _ c.in_err-ask_sizes.ensures)
+
+pub ask_items-requires : goal.ask_items-requires
+ask_items-requires c =
+    let h : (vertices c.args.b.now ≤ 64) × ((agents c.args.b.now ≤ 16) × (length c.args.b.now ≡ 4 + 2 * edges c.args.b.now + 2 * agents c.args.b.now)) = sizes_known c.args.b.now c.args.m c.args.rule (omega arith) (accept 0) c.in_ok-ask_sizes.ensures refl in
+    (c.sizes_of-sizes.ensures.0, omega arith, omega arith)
+
+pub returns-in_err-ask_items-clause-answer : goal.returns-in_err-ask_items-clause-answer
+returns-in_err-ask_items-clause-answer c =
     let b = c.args.b.now in
-    let m = c.args.m in
-    let rule = c.args.rule in
-    is_refused b m rule (refuse 1 (length b)) (short b m rule c.if-len-lt4.true) (λ e. omega arith) c.refused.result
-    (c.refused.ensures.0 ∙ c.refuse.ensures, c.refused.ensures.1)
-
-pub returns-then-first-ne0 : goal.returns-then-first-ne0
-returns-then-first-ne0 c =
-    is_refused c.args.b.now c.args.m c.args.rule c.ask_sizes-first.result
-    (sizes_refused c.args.b.now c.args.m c.args.rule (omega arith) c.ask_sizes-first.result c.ask_sizes-first.ensures c.if-first-ne0.true)
-    c.if-first-ne0.true c.refused-then-first-ne0.result c.refused-then-first-ne0.ensures
-
-pub ask_items-answer-requires : goal.ask_items-answer-requires
-ask_items-answer-requires c =
-    let known : (vertices c.args.b.now ≤ 64) × ((agents c.args.b.now ≤ 16) × (length c.args.b.now ≡ 4 + 2 * edges c.args.b.now + 2 * agents c.args.b.now)) = sizes_known c.args.b.now c.args.m c.args.rule (omega arith) c.ask_sizes-first.result c.ask_sizes-first.ensures c.if-first-ne0.false in
-    let h = known in (c.sizes_of-sizes.ensures.0, omega arith, omega arith)
-
-pub returns-then-answer-ne0 : goal.returns-then-answer-ne0
-returns-then-answer-ne0 c =
-    let asked : c.ask_items-answer.result ≡ instance_answer c.args.b.now c.args.m c.args.rule = let b = c.args.b.now in
-    c.ask_items-answer.ensures
+    passed_on _ _ c.from_residual-in_err-ask_items.result c.from_residual-in_err-ask_items.ensures.1
+    (c.in_err-ask_items.ensures
     ∙ ap₂ (λ (m rule : ℕ). decide (question6 b ∷ question7 b ∷ question8 b ∷ question9 b ∷ question10 m ∷ question31 rule ∷ []) 0) c.sizes_of-sizes.ensures.1 c.sizes_of-sizes.ensures.2
-    ∙ sizes_passed b c.args.m c.args.rule (omega arith) c.ask_sizes-first.result c.ask_sizes-first.ensures c.if-first-ne0.false in
-    is_refused c.args.b.now c.args.m c.args.rule c.ask_items-answer.result asked c.if-answer-ne0.true c.refused-then-answer-ne0.result c.refused-then-answer-ne0.ensures
+    ∙ sizes_passed b c.args.m c.args.rule (omega arith) (accept 0) c.in_ok-ask_sizes.ensures refl)
 
 pub for_agents-starts-requires : goal.for_agents-starts-requires
 for_agents-starts-requires c =
-    let known : (vertices c.args.b.now ≤ 64) × ((agents c.args.b.now ≤ 16) × (length c.args.b.now ≡ 4 + 2 * edges c.args.b.now + 2 * agents c.args.b.now)) = sizes_known c.args.b.now c.args.m c.args.rule (omega arith) c.ask_sizes-first.result c.ask_sizes-first.ensures c.if-first-ne0.false in
-    let h = known in (omega arith, omega arith)
+    let h : (vertices c.args.b.now ≤ 64) × ((agents c.args.b.now ≤ 16) × (length c.args.b.now ≡ 4 + 2 * edges c.args.b.now + 2 * agents c.args.b.now)) = sizes_known c.args.b.now c.args.m c.args.rule (omega arith) (accept 0) c.in_ok-ask_sizes.ensures refl in
+    (omega arith, omega arith)
 
 pub for_agents-goals-requires : goal.for_agents-goals-requires
 for_agents-goals-requires c =
-    let known : (vertices c.args.b.now ≤ 64) × ((agents c.args.b.now ≤ 16) × (length c.args.b.now ≡ 4 + 2 * edges c.args.b.now + 2 * agents c.args.b.now)) = sizes_known c.args.b.now c.args.m c.args.rule (omega arith) c.ask_sizes-first.result c.ask_sizes-first.ensures c.if-first-ne0.false in
-    let h = known in (omega arith, omega arith)
+    let h : (vertices c.args.b.now ≤ 64) × ((agents c.args.b.now ≤ 16) × (length c.args.b.now ≡ 4 + 2 * edges c.args.b.now + 2 * agents c.args.b.now)) = sizes_known c.args.b.now c.args.m c.args.rule (omega arith) (accept 0) c.in_ok-ask_sizes.ensures refl in
+    (omega arith, omega arith)
 
-pub neighbour_words-near-requires : goal.neighbour_words-near-requires
-neighbour_words-near-requires c =
-    let known : (vertices c.args.b.now ≤ 64) × ((agents c.args.b.now ≤ 16) × (length c.args.b.now ≡ 4 + 2 * edges c.args.b.now + 2 * agents c.args.b.now)) = sizes_known c.args.b.now c.args.m c.args.rule (omega arith) c.ask_sizes-first.result c.ask_sizes-first.ensures c.if-first-ne0.false in
-    let asked : c.ask_items-answer.result ≡ instance_answer c.args.b.now c.args.m c.args.rule = let b = c.args.b.now in
-    c.ask_items-answer.ensures
-    ∙ ap₂ (λ (m rule : ℕ). decide (question6 b ∷ question7 b ∷ question8 b ∷ question9 b ∷ question10 m ∷ question31 rule ∷ []) 0) c.sizes_of-sizes.ensures.1 c.sizes_of-sizes.ensures.2
-    ∙ sizes_passed b c.args.m c.args.rule (omega arith) c.ask_sizes-first.result c.ask_sizes-first.ensures c.if-first-ne0.false in
-    let h = known in
+pub neighbour_words-near-requires-clause-e_value : goal.neighbour_words-near-requires-clause-e_value
+neighbour_words-near-requires-clause-e_value c =
+    let h : (vertices c.args.b.now ≤ 64) × ((agents c.args.b.now ≤ 16) × (length c.args.b.now ≡ 4 + 2 * edges c.args.b.now + 2 * agents c.args.b.now)) = sizes_known c.args.b.now c.args.m c.args.rule (omega arith) (accept 0) c.in_ok-ask_sizes.ensures refl in
     let r = c.sizes_of-sizes.ensures.0 in
-    record { e_value = (r.e_same, omega arith, r.n_same, omega arith); edges = edges_checked c.args.b.now c.args.m c.args.rule c.ask_items-answer.result asked c.if-answer-ne0.false }
+    (r.e_same, omega arith, r.n_same, omega arith)
+
+pub neighbour_words-near-requires-clause-edges : goal.neighbour_words-near-requires-clause-edges
+neighbour_words-near-requires-clause-edges c =
+    let asked : accept 0 ≡ instance_answer c.args.b.now c.args.m c.args.rule = let b = c.args.b.now in
+    c.in_ok-ask_items.ensures
+    ∙ ap₂ (λ (m rule : ℕ). decide (question6 b ∷ question7 b ∷ question8 b ∷ question9 b ∷ question10 m ∷ question31 rule ∷ []) 0) c.sizes_of-sizes.ensures.1 c.sizes_of-sizes.ensures.2
+    ∙ sizes_passed b c.args.m c.args.rule (omega arith) (accept 0) c.in_ok-ask_sizes.ensures refl in
+    edges_checked c.args.b.now c.args.m c.args.rule (accept 0) asked refl
 
 pub count-g-requires : goal.count-g-requires
 count-g-requires c =
-    let known : (vertices c.args.b.now ≤ 64) × ((agents c.args.b.now ≤ 16) × (length c.args.b.now ≡ 4 + 2 * edges c.args.b.now + 2 * agents c.args.b.now)) = sizes_known c.args.b.now c.args.m c.args.rule (omega arith) c.ask_sizes-first.result c.ask_sizes-first.ensures c.if-first-ne0.false in
-    let h = known in omega arith
+    let h : (vertices c.args.b.now ≤ 64) × ((agents c.args.b.now ≤ 16) × (length c.args.b.now ≡ 4 + 2 * edges c.args.b.now + 2 * agents c.args.b.now)) = sizes_known c.args.b.now c.args.m c.args.rule (omega arith) (accept 0) c.in_ok-ask_sizes.ensures refl in
+    omega arith
 
-pub returns : goal.returns
-returns c =
-    let asked : c.ask_items-answer.result ≡ instance_answer c.args.b.now c.args.m c.args.rule = let b = c.args.b.now in
-    c.ask_items-answer.ensures
+pub invariant_of-shape : goal.invariant_of-shape
+invariant_of-shape c =
+    let asked : accept 0 ≡ instance_answer c.args.b.now c.args.m c.args.rule = let b = c.args.b.now in
+    c.in_ok-ask_items.ensures
     ∙ ap₂ (λ (m rule : ℕ). decide (question6 b ∷ question7 b ∷ question8 b ∷ question9 b ∷ question10 m ∷ question31 rule ∷ []) 0) c.sizes_of-sizes.ensures.1 c.sizes_of-sizes.ensures.2
-    ∙ sizes_passed b c.args.m c.args.rule (omega arith) c.ask_sizes-first.result c.ask_sizes-first.ensures c.if-first-ne0.false in (
-      asked,
-      made c.args.b.now c.args.m c.args.rule c.ask_items-answer.result asked c.sizes_of-sizes.result c.sizes_of-sizes.ensures.0 c.count-g.result c.for_agents-starts.result c.for_agents-goals.result c.neighbour_words-near.result c.for_agents-starts.ensures c.for_agents-goals.ensures (c.neighbour_words-near.ensures c.args.m c.args.rule) c.count-g.ensures.0 c.if-answer-ne0.false,
-    )
+    ∙ sizes_passed b c.args.m c.args.rule (omega arith) (accept 0) c.in_ok-ask_sizes.ensures refl in
+    record { limits = limits_known _ _ (held_accepted c.args.b.now c.args.m c.args.rule asked c.sizes_of-sizes.result c.sizes_of-sizes.ensures.0 c.count-g.result c.for_agents-starts.result c.for_agents-goals.result c.neighbour_words-near.result c.for_agents-starts.ensures c.for_agents-goals.ensures (c.neighbour_words-near.ensures c.args.m c.args.rule) c.count-g.ensures.0) }
+
+pub invariant_of-result : goal.invariant_of-result
+invariant_of-result c =
+    let asked : accept 0 ≡ instance_answer c.args.b.now c.args.m c.args.rule = let b = c.args.b.now in
+    c.in_ok-ask_items.ensures
+    ∙ ap₂ (λ (m rule : ℕ). decide (question6 b ∷ question7 b ∷ question8 b ∷ question9 b ∷ question10 m ∷ question31 rule ∷ []) 0) c.sizes_of-sizes.ensures.1 c.sizes_of-sizes.ensures.2
+    ∙ sizes_passed b c.args.m c.args.rule (omega arith) (accept 0) c.in_ok-ask_sizes.ensures refl in
+    record { ready = ready _ _ (held_accepted c.args.b.now c.args.m c.args.rule asked c.sizes_of-sizes.result c.sizes_of-sizes.ensures.0 c.count-g.result c.for_agents-starts.result c.for_agents-goals.result c.neighbour_words-near.result c.for_agents-starts.ensures c.for_agents-goals.ensures (c.neighbour_words-near.ensures c.args.m c.args.rule) c.count-g.ensures.0) }
+
+pub returns-clause-answer : goal.returns-clause-answer
+returns-clause-answer c =
+    let asked : accept 0 ≡ instance_answer c.args.b.now c.args.m c.args.rule = let b = c.args.b.now in
+    c.in_ok-ask_items.ensures
+    ∙ ap₂ (λ (m rule : ℕ). decide (question6 b ∷ question7 b ∷ question8 b ∷ question9 b ∷ question10 m ∷ question31 rule ∷ []) 0) c.sizes_of-sizes.ensures.1 c.sizes_of-sizes.ensures.2
+    ∙ sizes_passed b c.args.m c.args.rule (omega arith) (accept 0) c.in_ok-ask_sizes.ensures refl in
+    asked
+
+pub returns-clause-problem : goal.returns-clause-problem
+returns-clause-problem c =
+    let asked : accept 0 ≡ instance_answer c.args.b.now c.args.m c.args.rule = let b = c.args.b.now in
+    c.in_ok-ask_items.ensures
+    ∙ ap₂ (λ (m rule : ℕ). decide (question6 b ∷ question7 b ∷ question8 b ∷ question9 b ∷ question10 m ∷ question31 rule ∷ []) 0) c.sizes_of-sizes.ensures.1 c.sizes_of-sizes.ensures.2
+    ∙ sizes_passed b c.args.m c.args.rule (omega arith) (accept 0) c.in_ok-ask_sizes.ensures refl in
+    held_checked c.args.b.now c.args.m c.args.rule asked c.sizes_of-sizes.result c.sizes_of-sizes.ensures.0 c.count-g.result c.for_agents-starts.result c.for_agents-goals.result c.neighbour_words-near.result c.for_agents-starts.ensures c.for_agents-goals.ensures (c.neighbour_words-near.ensures c.args.m c.args.rule) c.count-g.ensures.0
