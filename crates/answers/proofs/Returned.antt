@@ -4,16 +4,15 @@ use mathlib.Core.Logic.{◌≢◌}
 use Prim.Native.Nat.{ℕ, ◌≤◌}
 use native.Mathlib.Omega.{arith}
 use mathlib.Core.List.{List, ◌++◌}
-use Rattle.std.specs.Prelude.{Result, Ok, Err, IsErrAnd}
+use Rattle.std.specs.Prelude.{Result, Err, IsErrAnd}
 use Rattle.std.proofs.lemmas.Result.{err_from_is_err_and}
-use Rattle.lists.specs.Slice.{filled}
 use Rattle.answers.specs.declared.Answer.{Answer}
 use Rattle.answers.specs.declared.Reason.{Reason}
 use Rattle.answers.specs.declared.Reason.TheVariants.{CutShort, VertexCount, AgentCount, EdgeCount, InstanceLength, ImproperEdge, EdgeOrder, BadStart, BadGoal, Horizon, ClauseNumber, FormulaRoom, PlanLength, ValuationLength, PlanRoom, ValuationRoom, NoVertex, NotAtStart, Jump, Occupied, Shared, NotAtGoal, WrongEntry, FalseClause, Exchange, ClosingUp, TextForm, Verdict, VariableCount, Unreachable, Rule, Ceiling, TooDear, FullRecord}
 use Rattle.answers.specs.declared.Refusal.{Refusal}
 use Rattle.answers.specs.declared.Extent.{Extent}
 use Rattle.answers.specs.declared.Size.{Size}
-use Rattle.answers.specs.Answers.{Question, accept, decide, by_number, lent, with_clauses}
+use Rattle.answers.specs.Answers.{Question, decide, by_number, lent, with_clauses}
 use Rattle.answers.specs.Returned.{number_of, refused, answered, size_of}
 use Rattle.answers.proofs.Laws.{decide_refused, lent_refused, by_number_refused}
 

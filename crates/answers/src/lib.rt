@@ -72,7 +72,10 @@ impl Reason {
     pub fn at(self, place: usize) -> Refusal
         ensures { result ≡ record { reason = self; place = place } }
     {
-        Refusal { reason: self, place }
+        Refusal {
+            reason: self,
+            place,
+        }
     }
 }
 

@@ -10,9 +10,34 @@ ghost use Rattle.formula.specs.Counts.{clauses_by, clause_count, word_count};
 ghost use Rattle.lists.specs.Loop.{pairs};
 ghost use Rattle.lists.specs.Pairs.{pairs_below};
 ghost use Rattle.instance.specs.Instance.{following};
-ghost use Rattle.instance.specs.Limits.{Limits};
+ghost use Rattle.counts.specs.Families.{place_of};
 
-use instance::Sizes;
+use instance::{Shape, Sizes};
+
+// The families of clauses, in their order.
+#[derive(Clone, Copy, PartialEq, Eq)]
+pub enum Family {
+    A,
+    B,
+    C,
+    D,
+    E,
+    F,
+    G,
+}
+
+impl Family {
+    // All of them.
+    pub const ALL: [Family; 7] = [
+        Family::A,
+        Family::B,
+        Family::C,
+        Family::D,
+        Family::E,
+        Family::F,
+        Family::G,
+    ];
+}
 
 // A number for each family.
 #[derive(Clone, Copy)]
@@ -27,51 +52,49 @@ pub struct Families {
 }
 
 // The bytes of a plan, (m+1)·k.
-pub fn plan_bytes(s: Sizes) -> usize
-    requires { Limits s }
-    ensures { (result ≡ plan_bytes s) × (result ≤ 528) }
+pub fn plan_bytes(s: Shape) -> usize
+    ensures { (result ≡ plan_bytes s.sizes) × (result ≤ 528) }
 {
-    (s.m + 1) * s.k
+    (s.sizes.m + 1) * s.sizes.k
 }
 
 // The variables of the formula, N.
-pub fn variable_count(s: Sizes) -> usize
-    requires { Limits s }
-    ensures { (result ≡ variable_count s) × (result ≤ 33792) }
+pub fn variable_count(s: Shape) -> usize
+    ensures { (result ≡ variable_count s.sizes) × (result ≤ 33792) }
 {
-    s.n * s.k * (s.m + 1)
+    s.sizes.n * s.sizes.k * (s.sizes.m + 1)
 }
 
-// How many times t a family has, A 0 to G 6.
-pub fn times_of(s: Sizes, which: usize) -> usize
-    requires limits { Limits s }
-    requires which_bound { which < 7 }
-    ensures { (result ≡ times s which) × (result ≤ 33) }
+// How many times t a family has.
+pub fn times_of(s: Shape, family: Family) -> usize
+    ensures { (result ≡ times s.sizes (place_of family)) × (result ≤ 33) }
 {
-    if which < 2 {
-        return 1;
+    match family {
+        Family::A | Family::B => 1,
+        Family::C | Family::D | Family::E => s.sizes.m + 1,
+        Family::F | Family::G => s.sizes.m,
     }
-    if which < 5 {
-        return s.m + 1;
+}
+
+// How many blocks G has for each time: of an agent, or under rule 2 of a low end.
+fn ends_at(s: Shape) -> usize
+    ensures { (result ≡ cond (following s.sizes) s.sizes.n s.sizes.k) × (result ≤ 64) }
+{
+    if s.sizes.rule == 2 {
+        return s.sizes.n;
     }
-    s.m
+    s.sizes.k
 }
 
 // How many blocks it has for each: of an agent; of a vertex in E, and in G under rule 2.
-pub fn blocks_at(s: Sizes, which: usize) -> usize
-    requires limits { Limits s }
-    requires which_bound { which < 7 }
-    ensures { (result ≡ blocks_at s which) × (result ≤ 64) }
+pub fn blocks_at(s: Shape, family: Family) -> usize
+    ensures { (result ≡ blocks_at s.sizes (place_of family)) × (result ≤ 64) }
 {
-    if which == 4 {
-        return s.n;
+    match family {
+        Family::E => s.sizes.n,
+        Family::G => ends_at(s),
+        Family::A | Family::B | Family::C | Family::D | Family::F => s.sizes.k,
     }
-    if which == 6 {
-        if s.rule == 2 {
-            return s.n;
-        }
-    }
-    s.k
 }
 
 // Pairs of two different numbers below n.
@@ -94,14 +117,13 @@ pub fn pairs_below(n: usize, v: usize) -> usize
 }
 
 // Clauses of G: under rule 2 for each edge and two agents, under rule 1 for each two agents and vertex.
-fn clauses_of_g(s: Sizes) -> usize
-    requires { Limits s }
-    ensures { (result ≡ (clauses_by s).G) × (result ≤ 15482880) }
+fn clauses_of_g(s: Shape) -> usize
+    ensures { (result ≡ (clauses_by s.sizes).G) × (result ≤ 15482880) }
 {
-    if s.rule == 2 {
-        return s.m * s.e * (s.k * (s.k - 1));
+    if s.sizes.rule == 2 {
+        return s.sizes.m * s.sizes.e * (s.sizes.k * (s.sizes.k - 1));
     }
-    s.m * s.k * (s.k - 1) * s.n
+    s.sizes.m * s.sizes.k * (s.sizes.k - 1) * s.sizes.n
 }
 
 // The words of one of them.
@@ -115,19 +137,16 @@ fn words_in_g(s: Sizes) -> usize
 }
 
 // Clauses by family.
-pub fn clauses_by(s: Sizes) -> Families
-    requires { Limits s }
-    ensures a_value { (result.a ≡ (clauses_by s).A) × (result.b ≡ (clauses_by s).B) × (result.c ≡ (clauses_by s).C) × (result.d ≡ (clauses_by s).D) × (result.e ≡ (clauses_by s).E) × (result.f ≡ (clauses_by s).F) × (result.g ≡ (clauses_by s).G) }
+pub fn clauses_by(s: Shape) -> Families
+    ensures a_value { (result.a ≡ (clauses_by s.sizes).A) × (result.b ≡ (clauses_by s.sizes).B) × (result.c ≡ (clauses_by s.sizes).C) × (result.d ≡ (clauses_by s.sizes).D) × (result.e ≡ (clauses_by s.sizes).E) × (result.f ≡ (clauses_by s.sizes).F) × (result.g ≡ (clauses_by s.sizes).G) }
     ensures a_bound { (result.a ≤ 16) × (result.b ≤ 16) × (result.c ≤ 528) × (result.d ≤ 1064448) × (result.e ≤ 253440) × (result.f ≤ 32768) × (result.g ≤ 15482880) }
 {
-    let n = s.n;
-    let k = s.k;
-    let m = s.m;
+    let Sizes { n, k, m, g, .. } = s.sizes;
     let vertex_pairs = pair_count(n);
     let agent_pairs = pair_count(k);
     Families {
         a: k,
-        b: s.g,
+        b: g,
         c: (m + 1) * k,
         d: (m + 1) * k * vertex_pairs,
         e: (m + 1) * n * agent_pairs,
@@ -137,25 +156,24 @@ pub fn clauses_by(s: Sizes) -> Families
 }
 
 // Clauses in all.
-pub fn clause_count(s: Sizes) -> usize
-    requires { Limits s }
-    ensures { result ≡ clause_count s }
+pub fn clause_count(s: Shape) -> usize
+    ensures { result ≡ clause_count s.sizes }
 {
     let c = clauses_by(s);
     c.a + c.b + c.c + c.d + c.e + c.f + c.g
 }
 
 // Words in all, zeros included.
-pub fn word_count(s: Sizes) -> usize
-    requires { Limits s }
-    ensures { result ≡ word_count s }
+pub fn word_count(s: Shape) -> usize
+    ensures { result ≡ word_count s.sizes }
 {
+    let Sizes { n, k, e, m, g, .. } = s.sizes;
     let c = clauses_by(s);
-    2 * s.k
-        + 2 * s.g
-        + (s.m + 1) * s.k * (s.n + 1)
+    2 * k
+        + 2 * g
+        + (m + 1) * k * (n + 1)
         + 3 * c.d
         + 3 * c.e
-        + s.m * s.k * (3 * s.n + 2 * s.e)
-        + words_in_g(s) * c.g
+        + m * k * (3 * n + 2 * e)
+        + words_in_g(s.sizes) * c.g
 }

@@ -1,6 +1,5 @@
 -- A problem as the definitions see it.
-use Rattle.std.specs.Prelude.{◌≡◌, List, ℕ}
-use Rattle.instance.specs.declared.Sizes.{Sizes}
+use Rattle.std.specs.Prelude.{List, ℕ}
 use Rattle.instance.specs.declared.Checked.{Checked}
 use Rattle.instance.specs.declared.problem.Problem.{Problem}
 use Rattle.instance.specs.Instance.{Instance}

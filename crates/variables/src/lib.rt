@@ -3,10 +3,9 @@
 
 ghost use Rattle.std.specs.Prelude.{◌≡◌, ◌||◌, suc, ◌+◌, ◌≤◌, ◌<◌, pos, neg_ℤ};
 ghost use Rattle.formula.specs.Variables.{index, variable_count, highest};
-ghost use Rattle.instance.specs.Limits.{Limits};
 ghost use Rattle.valuation.specs.Valuation.{same_number};
 
-use instance::Sizes;
+use instance::Shape;
 
 #[derive(Clone, Copy)]
 pub struct Vertex(pub usize);
@@ -21,20 +20,18 @@ pub struct Step(pub usize);
 pub struct Variable(pub usize);
 
 // The index of the entry of X(t,a,0); those of the agent's other vertices at that time follow it.
-pub fn first_entry(s: Sizes, t: Step, a: Agent) -> usize
-    requires limits { Limits s }
-    requires t_le_m { (t.0 ≤ s.m) × (a.0 < s.k) }
-    ensures { (result ≡ index s t.0 a.0 0) × (result + s.n ≤ variable_count s) }
+pub fn first_entry(s: Shape, t: Step, a: Agent) -> usize
+    requires { (t.0 ≤ s.sizes.m) × (a.0 < s.sizes.k) }
+    ensures { (result ≡ index s.sizes t.0 a.0 0) × (result + s.sizes.n ≤ variable_count s.sizes) }
 {
-    let rows = s.m + 1;
-    (a.0 * rows + t.0) * s.n
+    let rows = s.sizes.m + 1;
+    (a.0 * rows + t.0) * s.sizes.n
 }
 
 // The variable of X(t,a,v).
-pub fn variable_of(s: Sizes, t: Step, a: Agent, v: Vertex) -> Variable
-    requires limits { Limits s }
-    requires t_le_m { (t.0 ≤ s.m) × (a.0 < s.k) × (v.0 < s.n) }
-    ensures { (result.0 ≡ suc (index s t.0 a.0 v.0)) × (result.0 ≤ highest) }
+pub fn variable_of(s: Shape, t: Step, a: Agent, v: Vertex) -> Variable
+    requires { (t.0 ≤ s.sizes.m) × (a.0 < s.sizes.k) × (v.0 < s.sizes.n) }
+    ensures { (result.0 ≡ suc (index s.sizes t.0 a.0 v.0)) × (result.0 ≤ highest) }
 {
     Variable(first_entry(s, t, a) + v.0 + 1)
 }

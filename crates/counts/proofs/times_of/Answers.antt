@@ -1,18 +1,23 @@
--- `counts::times_of` meets its contract: by the number. Assumes nothing.
+-- `counts::times_of` meets its contract: family by family. Assumes nothing.
+use mathlib.Core.Path.{refl}
+use mathlib.Core.Logic.{inl, inr}
 use native.Mathlib.Numerals.{add-one}
 use native.Mathlib.Omega.{arith}
-use Rattle.formula.proofs.Blocks.{times_ends, times_rows, times_steps}
+use Rattle.formula.specs.Blocks.{times}
 use Rattle.counts.proofs.times_of.Goals as goal
 
-pub returns-then-which-lt2 : goal.returns-then-which-lt2
-returns-then-which-lt2 c = (times_ends c.args.s c.args.which c.if-which-lt2.true, omega arith)
+pub returns-in-A : goal.returns-in-A
+unfolding times
+returns-in-A c = elim c.in-A.is [ inl e ↦ rw e (refl, omega arith) | inr e ↦ rw e (refl, omega arith) ]
 
-pub returns-then-which-lt5 : goal.returns-then-which-lt5
-returns-then-which-lt5 c =
-    let s = c in
-    (rw add-one (times_rows s.args.s s.args.which (omega arith) c.if-which-lt5.true), omega (arith, s.requires.limits.m_most))
+pub returns-in-C : goal.returns-in-C
+unfolding times
+returns-in-C c =
+    let few = c.args.s.limits.m_most in
+    elim c.in-C.is [ inl e ↦ rw (e, add-one) (refl, omega (arith, few)) | inr f ↦ elim f [ inl e ↦ rw (e, add-one) (refl, omega (arith, few)) | inr e ↦ rw (e, add-one) (refl, omega (arith, few)) ] ]
 
-pub returns : goal.returns
-returns c =
-    let s = c in
-    (times_steps s.args.s s.args.which (omega arith) s.requires.which_bound, omega (arith, s.requires.limits.m_most))
+pub returns-in-F : goal.returns-in-F
+unfolding times
+returns-in-F c =
+    let few = c.args.s.limits.m_most in
+    elim c.in-F.is [ inl e ↦ rw e (refl, omega (arith, few)) | inr e ↦ rw e (refl, omega (arith, few)) ]

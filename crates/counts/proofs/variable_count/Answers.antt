@@ -5,10 +5,10 @@ use Rattle.counts.proofs.Laws.{products}
 use Rattle.counts.proofs.variable_count.Goals as goal
 
 pub overflow_mul-result : goal.overflow_mul-result
-overflow_mul-result c = let s = c in omega (arith, (products s.args.s s.requires).places)
+overflow_mul-result c = let s = c in omega (arith, (products s.args.s.sizes s.args.s.limits).places)
 
 pub overflow_mul-result-2 : goal.overflow_mul-result-2
-overflow_mul-result-2 c = let s = c in omega (arith, (products s.args.s s.requires).variables)
+overflow_mul-result-2 c = let s = c in omega (arith, (products s.args.s.sizes s.args.s.limits).variables)
 
 pub returns : goal.returns
-returns c = let s = c in (rw add-one, (products s.args.s s.requires).variables)
+returns c = let s = c in (rw add-one, (products s.args.s.sizes s.args.s.limits).variables)

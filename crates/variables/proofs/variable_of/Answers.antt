@@ -5,16 +5,16 @@ use Rattle.formula.proofs.Variables.{vertices_run}
 use Rattle.variables.proofs.variable_of.Goals as goal
 
 pub first_entry-requires : goal.first_entry-requires
-first_entry-requires c = record { limits = c.requires.limits; t_le_m = (c.requires.t_le_m.0, c.requires.t_le_m.1) }
+first_entry-requires c = (c.requires.0, c.requires.1)
 
 pub overflow_add-result : goal.overflow_add-result
-overflow_add-result c = omega (arith, c.first_entry.ensures.1, c.requires.t_le_m.2, variables_most c.args.s c.requires.limits)
+overflow_add-result c = omega (arith, c.first_entry.ensures.1, c.requires.2, variables_most c.args.s.sizes c.args.s.limits)
 
 pub overflow_add-result-2 : goal.overflow_add-result-2
-overflow_add-result-2 c = omega (arith, c.first_entry.ensures.1, c.requires.t_le_m.2, variables_most c.args.s c.requires.limits)
+overflow_add-result-2 c = omega (arith, c.first_entry.ensures.1, c.requires.2, variables_most c.args.s.sizes c.args.s.limits)
 
 pub returns : goal.returns
 returns c = (
-  omega (arith, c.first_entry.ensures.0, vertices_run c.args.s c.args.t.0 c.args.a.0 c.args.v.0),
-  omega (arith, c.first_entry.ensures.1, c.requires.t_le_m.2, variables_most c.args.s c.requires.limits),
+  omega (arith, c.first_entry.ensures.0, vertices_run c.args.s.sizes c.args.t.0 c.args.a.0 c.args.v.0),
+  omega (arith, c.first_entry.ensures.1, c.requires.2, variables_most c.args.s.sizes c.args.s.limits),
 )
