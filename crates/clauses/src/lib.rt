@@ -6,25 +6,22 @@ ghost use Rattle.lists.specs.Slice.{filled, Wrote};
 ghost use Rattle.bits.specs.Bits.{set?};
 ghost use Rattle.formula.specs.Variables.{X, ¬X};
 ghost use Rattle.formula.specs.Formula.{line, somewhere, nearby, onward};
-ghost use Rattle.instance.specs.Limits.{Limits};
 
-use instance::Sizes;
+use instance::Shape;
 use variables::{Agent, Step, Vertex};
 
 // The literal X(t,a,v).
-pub fn positive(s: Sizes, t: Step, a: Agent, v: Vertex) -> i32
-    requires limits { Limits s }
-    requires t_le_m { (t.0 ≤ s.m) × (a.0 < s.k) × (v.0 < s.n) }
-    ensures { result ≡ X s t.0 a.0 v.0 }
+pub fn positive(s: Shape, t: Step, a: Agent, v: Vertex) -> i32
+    requires { (t.0 ≤ s.sizes.m) × (a.0 < s.sizes.k) × (v.0 < s.sizes.n) }
+    ensures { result ≡ X s.sizes t.0 a.0 v.0 }
 {
     variables::literal_of(variables::variable_of(s, t, a, v))
 }
 
 // The literal not X(t,a,v).
-pub fn negative(s: Sizes, t: Step, a: Agent, v: Vertex) -> i32
-    requires limits { Limits s }
-    requires t_le_m { (t.0 ≤ s.m) × (a.0 < s.k) × (v.0 < s.n) }
-    ensures { result ≡ ¬X s t.0 a.0 v.0 }
+pub fn negative(s: Shape, t: Step, a: Agent, v: Vertex) -> i32
+    requires { (t.0 ≤ s.sizes.m) × (a.0 < s.sizes.k) × (v.0 < s.sizes.n) }
+    ensures { result ≡ ¬X s.sizes t.0 a.0 v.0 }
 {
     variables::negation_of(variables::variable_of(s, t, a, v))
 }
@@ -64,13 +61,12 @@ pub fn put_four(f: &mut [i32], w: i32, x: i32, y: i32, z: i32) -> usize
 }
 
 // A clause of family C: agent a is at some vertex at time t.
-pub fn put_somewhere(f: &mut [i32], s: Sizes, t: Step, a: Agent) -> usize
-    requires limits { Limits s }
-    requires t_le_m { (t.0 ≤ s.m) × (a.0 < s.k) }
-    requires a_in_bounds { length (line (somewhere s t.0 a.0)) ≤ length f.old }
-    ensures { Wrote (line (somewhere s t.0 a.0)) f.old f.new result }
+pub fn put_somewhere(f: &mut [i32], s: Shape, t: Step, a: Agent) -> usize
+    requires t_le_m { (t.0 ≤ s.sizes.m) × (a.0 < s.sizes.k) }
+    requires a_in_bounds { length (line (somewhere s.sizes t.0 a.0)) ≤ length f.old }
+    ensures { Wrote (line (somewhere s.sizes t.0 a.0)) f.old f.new result }
 {
-    let n = s.n;
+    let n = s.sizes.n;
     for v in 0..n {
         f[v] = positive(s, t, a, Vertex(v));
     }
@@ -79,11 +75,10 @@ pub fn put_somewhere(f: &mut [i32], s: Sizes, t: Step, a: Agent) -> usize
 }
 
 // X(t,a,w) for each bit w of a word, rising, and the 0: from the lowest bit to the highest.
-fn put_few(f: &mut [i32], s: Sizes, word: u64, t: Step, a: Agent)
-    requires limits { Limits s }
-    requires t_le_m { (t.0 ≤ s.m) × (a.0 < s.k) × (word < 2 ^ s.n) }
-    requires a_in_bounds { length (line (nearby s (set? word) t.0 a.0)) ≤ length f.old }
-    ensures { f.new ≡ filled (line (nearby s (set? word) t.0 a.0)) f.old }
+fn put_few(f: &mut [i32], s: Shape, word: u64, t: Step, a: Agent)
+    requires t_le_m { (t.0 ≤ s.sizes.m) × (a.0 < s.sizes.k) × (word < 2 ^ s.sizes.n) }
+    requires a_in_bounds { length (line (nearby s.sizes (set? word) t.0 a.0)) ≤ length f.old }
+    ensures { f.new ≡ filled (line (nearby s.sizes (set? word) t.0 a.0)) f.old }
 {
     let mut rest = word;
     let mut at: usize = 0;
@@ -98,13 +93,12 @@ fn put_few(f: &mut [i32], s: Sizes, word: u64, t: Step, a: Agent)
 
 // The same, from one vertex that is no neighbour to the next: those between them are written by a loop without a test, which the
 // compiler takes several at a time.
-fn put_many(f: &mut [i32], s: Sizes, word: u64, t: Step, a: Agent)
-    requires limits { Limits s }
-    requires t_le_m { (t.0 ≤ s.m) × (a.0 < s.k) × (word < 2 ^ s.n) }
-    requires a_in_bounds { length (line (nearby s (set? word) t.0 a.0)) ≤ length f.old }
-    ensures { f.new ≡ filled (line (nearby s (set? word) t.0 a.0)) f.old }
+fn put_many(f: &mut [i32], s: Shape, word: u64, t: Step, a: Agent)
+    requires t_le_m { (t.0 ≤ s.sizes.m) × (a.0 < s.sizes.k) × (word < 2 ^ s.sizes.n) }
+    requires a_in_bounds { length (line (nearby s.sizes (set? word) t.0 a.0)) ≤ length f.old }
+    ensures { f.new ≡ filled (line (nearby s.sizes (set? word) t.0 a.0)) f.old }
 {
-    let n = s.n;
+    let n = s.sizes.n;
     let mut gaps = bits::others(word, n);
     let mut at: usize = 0;
     let mut w: usize = 0;
@@ -127,13 +121,12 @@ fn put_many(f: &mut [i32], s: Sizes, word: u64, t: Step, a: Agent)
 }
 
 // The same, by whichever is faster: where more than three of four vertices are neighbours on the average, or not.
-fn put_near(f: &mut [i32], s: Sizes, word: u64, t: Step, a: Agent)
-    requires limits { Limits s }
-    requires t_le_m { (t.0 ≤ s.m) × (a.0 < s.k) × (word < 2 ^ s.n) }
-    requires a_in_bounds { length (line (nearby s (set? word) t.0 a.0)) ≤ length f.old }
-    ensures { f.new ≡ filled (line (nearby s (set? word) t.0 a.0)) f.old }
+fn put_near(f: &mut [i32], s: Shape, word: u64, t: Step, a: Agent)
+    requires t_le_m { (t.0 ≤ s.sizes.m) × (a.0 < s.sizes.k) × (word < 2 ^ s.sizes.n) }
+    requires a_in_bounds { length (line (nearby s.sizes (set? word) t.0 a.0)) ≤ length f.old }
+    ensures { f.new ≡ filled (line (nearby s.sizes (set? word) t.0 a.0)) f.old }
 {
-    if 3 * s.n * s.n < 8 * s.e {
+    if 3 * s.sizes.n * s.sizes.n < 8 * s.sizes.e {
         put_many(f, s, word, t, a);
         return;
     }
@@ -142,11 +135,10 @@ fn put_near(f: &mut [i32], s: Sizes, word: u64, t: Step, a: Agent)
 
 // A clause of family F: agent a at v at time t keeps v or goes to a neighbour, that is to a vertex whose bit is set. The ones are the
 // degree of v, and so give the length.
-pub fn put_onward(f: &mut [i32], s: Sizes, word: u64, t: Step, a: Agent, v: Vertex) -> usize
-    requires limits { Limits s }
-    requires t_lt_m { (t.0 < s.m) × (a.0 < s.k) × (v.0 < s.n) × (word < 2 ^ s.n) }
-    requires v_in_bounds { length (line (onward s (set? word) t.0 a.0 v.0)) ≤ length f.old }
-    ensures { Wrote (line (onward s (set? word) t.0 a.0 v.0)) f.old f.new result }
+pub fn put_onward(f: &mut [i32], s: Shape, word: u64, t: Step, a: Agent, v: Vertex) -> usize
+    requires t_lt_m { (t.0 < s.sizes.m) × (a.0 < s.sizes.k) × (v.0 < s.sizes.n) × (word < 2 ^ s.sizes.n) }
+    requires v_in_bounds { length (line (onward s.sizes (set? word) t.0 a.0 v.0)) ≤ length f.old }
+    ensures { Wrote (line (onward s.sizes (set? word) t.0 a.0 v.0)) f.old f.new result }
 {
     let next = Step(t.0 + 1);
     f[0] = negative(s, t, a, v);

@@ -10,11 +10,10 @@ ghost use Rattle.bits.specs.Bits.{set?};
 ghost use Rattle.formula.specs.Formula.{line, no_two, block_b, block_d, block_e, block_f, no_following, no_exchange};
 ghost use Rattle.formula.specs.Blocks.{times, blocks_at, no_exchange_from, block_g, held_in, block, family};
 ghost use Rattle.instance.specs.Instance.{GoalBelow, joined};
-ghost use Rattle.instance.specs.Limits.{Limits};
 ghost use Rattle.instance.specs.Ready.{Ready};
 ghost use Rattle.families.specs.Runs.{nots, above, apart, exchanging};
 
-use instance::Sizes;
+use instance::{Shape, Sizes};
 use variables::{Agent, Step, Variable, Vertex};
 
 // Variables at one distance from each to the next.
@@ -33,10 +32,9 @@ fn vertex(x: u8) -> Vertex
 }
 
 // A, and B where there is a goal, of agent a: it is at time t where its byte of a row says.
-fn write_unit(f: &mut [i32], s: Sizes, t: Step, row: &[u8; 16], a: Agent) -> usize
-    requires limits { Limits s }
-    requires t_le_m { (t.0 ≤ s.m) × (a.0 < s.k) × (get_or row.now a.0 0 < s.n) × (2 ≤ length f.old) }
-    ensures { Wrote (line (X s t.0 a.0 (get_or row.now a.0 0) ∷ [])) f.old f.new result }
+fn write_unit(f: &mut [i32], s: Shape, t: Step, row: &[u8; 16], a: Agent) -> usize
+    requires { (t.0 ≤ s.sizes.m) × (a.0 < s.sizes.k) × (get_or row.now a.0 0 < s.sizes.n) × (2 ≤ length f.old) }
+    ensures { Wrote (line (X s.sizes t.0 a.0 (get_or row.now a.0 0) ∷ [])) f.old f.new result }
 {
     let i = a.0;
     let v = vertex(row[i]);
@@ -44,17 +42,16 @@ fn write_unit(f: &mut [i32], s: Sizes, t: Step, row: &[u8; 16], a: Agent) -> usi
 }
 
 // B, of agent a: at time m it is at its goal, if it has one.
-fn write_goal(f: &mut [i32], s: Sizes, goals: &[u8; 16], a: Agent) -> usize
-    requires limits { Limits s }
-    requires a_lt_k { (a.0 < s.k) × GoalBelow s.n (get_or goals.now a.0 0) }
-    requires a_in_bounds { length (each line (block_b s (λ i. get_or goals.now i 0) a.0)) ≤ length f.old }
-    ensures { Wrote (each line (block_b s (λ i. get_or goals.now i 0) a.0)) f.old f.new result }
+fn write_goal(f: &mut [i32], s: Shape, goals: &[u8; 16], a: Agent) -> usize
+    requires a_lt_k { (a.0 < s.sizes.k) × GoalBelow s.sizes.n (get_or goals.now a.0 0) }
+    requires a_in_bounds { length (each line (block_b s.sizes (λ i. get_or goals.now i 0) a.0)) ≤ length f.old }
+    ensures { Wrote (each line (block_b s.sizes (λ i. get_or goals.now i 0) a.0)) f.old f.new result }
 {
     let i = a.0;
     if goals::is_free(goals[i]) {
         return 0;
     }
-    write_unit(f, s, Step(s.m), goals, a)
+    write_unit(f, s, Step(s.sizes.m), goals, a)
 }
 
 // The negation of variable i of a run.
@@ -96,45 +93,43 @@ fn write_no_two(f: &mut [i32], run: Run) -> usize
 }
 
 // D, of time t and agent a: the vertices are a run.
-fn write_d(f: &mut [i32], s: Sizes, t: Step, a: Agent) -> usize
-    requires limits { Limits s }
-    requires t_le_m { (t.0 ≤ s.m) × (a.0 < s.k) }
-    requires a_in_bounds { length (each line (block_d s t.0 a.0)) ≤ length f.old }
-    ensures { Wrote (each line (block_d s t.0 a.0)) f.old f.new result }
+fn write_d(f: &mut [i32], s: Shape, t: Step, a: Agent) -> usize
+    requires t_le_m { (t.0 ≤ s.sizes.m) × (a.0 < s.sizes.k) }
+    requires a_in_bounds { length (each line (block_d s.sizes t.0 a.0)) ≤ length f.old }
+    ensures { Wrote (each line (block_d s.sizes t.0 a.0)) f.old f.new result }
 {
     let first = variables::variable_of(s, t, a, Vertex(0));
     let run = Run {
         first,
         stride: 1,
-        count: s.n,
+        count: s.sizes.n,
     };
     write_no_two(f, run)
 }
 
 // E, of time t and vertex v: the agents are a run, each a whole history after the one before.
-fn write_e(f: &mut [i32], s: Sizes, t: Step, v: Vertex) -> usize
-    requires limits { Limits s }
-    requires t_le_m { (t.0 ≤ s.m) × (v.0 < s.n) }
-    requires v_in_bounds { length (each line (block_e s t.0 v.0)) ≤ length f.old }
-    ensures { Wrote (each line (block_e s t.0 v.0)) f.old f.new result }
+fn write_e(f: &mut [i32], s: Shape, t: Step, v: Vertex) -> usize
+    requires t_le_m { (t.0 ≤ s.sizes.m) × (v.0 < s.sizes.n) }
+    requires v_in_bounds { length (each line (block_e s.sizes t.0 v.0)) ≤ length f.old }
+    ensures { Wrote (each line (block_e s.sizes t.0 v.0)) f.old f.new result }
 {
     let first = variables::variable_of(s, t, Agent(0), v);
     let run = Run {
         first,
-        stride: (s.m + 1) * s.n,
-        count: s.k,
+        stride: (s.sizes.m + 1) * s.sizes.n,
+        count: s.sizes.k,
     };
     write_no_two(f, run)
 }
 
 // F, of time t and agent a.
-fn write_f(f: &mut [i32], s: Sizes, near: &[u64; 64], t: Step, a: Agent) -> usize
-    requires limits { Limits s × ((v : ℕ) → v < 64 → get_or near.now v 0 < 2 ^ s.n) }
-    requires t_lt_m { (t.0 < s.m) × (a.0 < s.k) }
-    requires a_in_bounds { length (each line (block_f s (joined near.now) t.0 a.0)) ≤ length f.old }
-    ensures { Wrote (each line (block_f s (joined near.now) t.0 a.0)) f.old f.new result }
+fn write_f(f: &mut [i32], s: Shape, near: &[u64; 64], t: Step, a: Agent) -> usize
+    requires limits { ((v : ℕ) → v < 64 → get_or near.now v 0 < 2 ^ s.sizes.n) }
+    requires t_lt_m { (t.0 < s.sizes.m) × (a.0 < s.sizes.k) }
+    requires a_in_bounds { length (each line (block_f s.sizes (joined near.now) t.0 a.0)) ≤ length f.old }
+    ensures { Wrote (each line (block_f s.sizes (joined near.now) t.0 a.0)) f.old f.new result }
 {
-    let n = s.n;
+    let n = s.sizes.n;
     let mut at: usize = 0;
     for v in 0..n {
         at += clauses::put_onward(&mut f[at..], s, near[v], t, a, Vertex(v));
@@ -143,16 +138,15 @@ fn write_f(f: &mut [i32], s: Sizes, near: &[u64; 64], t: Step, a: Agent) -> usiz
 }
 
 // Of G under rule 1, time t and agents a and b: where they are two, a does not go where b was.
-fn write_apart(f: &mut [i32], s: Sizes, t: Step, a: Agent, b: Agent) -> usize
-    requires limits { Limits s }
-    requires t_lt_m { (t.0 < s.m) × (a.0 < s.k) × (b.0 < s.k) }
-    requires b_in_bounds { length (each line (apart s t.0 a.0 b.0)) ≤ length f.old }
-    ensures { Wrote (each line (apart s t.0 a.0 b.0)) f.old f.new result }
+fn write_apart(f: &mut [i32], s: Shape, t: Step, a: Agent, b: Agent) -> usize
+    requires t_lt_m { (t.0 < s.sizes.m) × (a.0 < s.sizes.k) × (b.0 < s.sizes.k) }
+    requires b_in_bounds { length (each line (apart s.sizes t.0 a.0 b.0)) ≤ length f.old }
+    ensures { Wrote (each line (apart s.sizes t.0 a.0 b.0)) f.old f.new result }
 {
     if a.0 == b.0 {
         return 0;
     }
-    let n = s.n;
+    let n = s.sizes.n;
     let next = Step(t.0 + 1);
     let mut at: usize = 0;
     for v in 0..n {
@@ -166,13 +160,12 @@ fn write_apart(f: &mut [i32], s: Sizes, t: Step, a: Agent, b: Agent) -> usize
 }
 
 // G under rule 1, of time t and agent a.
-fn write_following(f: &mut [i32], s: Sizes, t: Step, a: Agent) -> usize
-    requires limits { Limits s }
-    requires t_lt_m { (t.0 < s.m) × (a.0 < s.k) }
-    requires a_in_bounds { length (each line (no_following s t.0 a.0)) ≤ length f.old }
-    ensures { Wrote (each line (no_following s t.0 a.0)) f.old f.new result }
+fn write_following(f: &mut [i32], s: Shape, t: Step, a: Agent) -> usize
+    requires t_lt_m { (t.0 < s.sizes.m) × (a.0 < s.sizes.k) }
+    requires a_in_bounds { length (each line (no_following s.sizes t.0 a.0)) ≤ length f.old }
+    ensures { Wrote (each line (no_following s.sizes t.0 a.0)) f.old f.new result }
 {
-    let k = s.k;
+    let k = s.sizes.k;
     let mut at: usize = 0;
     for b in 0..k {
         at += write_apart(&mut f[at..], s, t, a, Agent(b));
@@ -183,7 +176,7 @@ fn write_following(f: &mut [i32], s: Sizes, t: Step, a: Agent) -> usize
 // Of G under rule 2, time t and agent b: the clause that begins with x and y, which say that another agent does not go from u to v.
 fn put_partner(
     f: &mut [i32],
-    s: Sizes,
+    s: Shape,
     t: Step,
     u: Vertex,
     v: Vertex,
@@ -191,9 +184,8 @@ fn put_partner(
     y: i32,
     b: usize,
 ) -> usize
-    requires limits { Limits s }
-    requires t_lt_m { (t.0 < s.m) × (u.0 < s.n) × (v.0 < s.n) × (b < s.k) × (5 ≤ length f.old) }
-    ensures { Wrote (line (x ∷ y ∷ ¬X s t.0 b v.0 ∷ ¬X s (suc t.0) b u.0 ∷ [])) f.old f.new result }
+    requires { (t.0 < s.sizes.m) × (u.0 < s.sizes.n) × (v.0 < s.sizes.n) × (b < s.sizes.k) × (5 ≤ length f.old) }
+    ensures { Wrote (line (x ∷ y ∷ ¬X s.sizes t.0 b v.0 ∷ ¬X s.sizes (suc t.0) b u.0 ∷ [])) f.old f.new result }
 {
     let next = Step(t.0 + 1);
     clauses::put_four(
@@ -207,13 +199,12 @@ fn put_partner(
 
 // Of G under rule 2, time t and agent a: with no other agent it exchanges u and v. Those below it and those above it have loops of their
 // own, without a test.
-fn write_exchanges(f: &mut [i32], s: Sizes, t: Step, u: Vertex, v: Vertex, a: Agent) -> usize
-    requires limits { Limits s }
-    requires t_lt_m { (t.0 < s.m) × (u.0 < s.n) × (v.0 < s.n) × (a.0 < s.k) }
-    requires a_in_bounds { length (each line (for s.k (exchanging s t.0 u.0 v.0 a.0))) ≤ length f.old }
-    ensures { Wrote (each line (for s.k (exchanging s t.0 u.0 v.0 a.0))) f.old f.new result }
+fn write_exchanges(f: &mut [i32], s: Shape, t: Step, u: Vertex, v: Vertex, a: Agent) -> usize
+    requires t_lt_m { (t.0 < s.sizes.m) × (u.0 < s.sizes.n) × (v.0 < s.sizes.n) × (a.0 < s.sizes.k) }
+    requires a_in_bounds { length (each line (for s.sizes.k (exchanging s.sizes t.0 u.0 v.0 a.0))) ≤ length f.old }
+    ensures { Wrote (each line (for s.sizes.k (exchanging s.sizes t.0 u.0 v.0 a.0))) f.old f.new result }
 {
-    let k = s.k;
+    let k = s.sizes.k;
     let next = Step(t.0 + 1);
     let x = clauses::negative(s, t, a, u);
     let y = clauses::negative(s, next, a, v);
@@ -230,13 +221,12 @@ fn write_exchanges(f: &mut [i32], s: Sizes, t: Step, u: Vertex, v: Vertex, a: Ag
 }
 
 // The same, of each agent.
-fn write_no_exchange(f: &mut [i32], s: Sizes, t: Step, u: Vertex, v: Vertex) -> usize
-    requires limits { Limits s }
-    requires t_lt_m { (t.0 < s.m) × (u.0 < s.n) × (v.0 < s.n) }
-    requires v_in_bounds { length (each line (no_exchange s t.0 u.0 v.0)) ≤ length f.old }
-    ensures { Wrote (each line (no_exchange s t.0 u.0 v.0)) f.old f.new result }
+fn write_no_exchange(f: &mut [i32], s: Shape, t: Step, u: Vertex, v: Vertex) -> usize
+    requires t_lt_m { (t.0 < s.sizes.m) × (u.0 < s.sizes.n) × (v.0 < s.sizes.n) }
+    requires v_in_bounds { length (each line (no_exchange s.sizes t.0 u.0 v.0)) ≤ length f.old }
+    ensures { Wrote (each line (no_exchange s.sizes t.0 u.0 v.0)) f.old f.new result }
 {
-    let k = s.k;
+    let k = s.sizes.k;
     let mut at: usize = 0;
     for a in 0..k {
         at += write_exchanges(&mut f[at..], s, t, u, v, Agent(a));
@@ -246,11 +236,10 @@ fn write_no_exchange(f: &mut [i32], s: Sizes, t: Step, u: Vertex, v: Vertex) -> 
 
 // G under rule 2, of time t and the edges with the low end u: each high end is a neighbour above it, and the neighbours of u are the
 // bits of a word.
-fn write_from(f: &mut [i32], s: Sizes, word: u64, t: Step, u: Vertex) -> usize
-    requires limits { Limits s }
-    requires t_lt_m { (t.0 < s.m) × (u.0 < s.n) × (word < 2 ^ s.n) }
-    requires u_in_bounds { length (each line (no_exchange_from s (λ _. set? word) t.0 u.0)) ≤ length f.old }
-    ensures { Wrote (each line (no_exchange_from s (λ _. set? word) t.0 u.0)) f.old f.new result }
+fn write_from(f: &mut [i32], s: Shape, word: u64, t: Step, u: Vertex) -> usize
+    requires t_lt_m { (t.0 < s.sizes.m) × (u.0 < s.sizes.n) × (word < 2 ^ s.sizes.n) }
+    requires u_in_bounds { length (each line (no_exchange_from s.sizes (λ _. set? word) t.0 u.0)) ≤ length f.old }
+    ensures { Wrote (each line (no_exchange_from s.sizes (λ _. set? word) t.0 u.0)) f.old f.new result }
 {
     let mut rest = bits::above(word, u.0);
     let mut at: usize = 0;
@@ -263,13 +252,13 @@ fn write_from(f: &mut [i32], s: Sizes, word: u64, t: Step, u: Vertex) -> usize
 }
 
 // G, of time t and x: an agent under rule 1, a low end under rule 2.
-fn write_g(f: &mut [i32], s: Sizes, near: &[u64; 64], t: Step, x: usize) -> usize
-    requires limits { Limits s × ((v : ℕ) → v < 64 → get_or near.now v 0 < 2 ^ s.n) }
-    requires t_lt_m { (t.0 < s.m) × (x < blocks_at s 6) }
-    requires x_in_bounds { length (each line (block_g s (joined near.now) t.0 x)) ≤ length f.old }
-    ensures { Wrote (each line (block_g s (joined near.now) t.0 x)) f.old f.new result }
+fn write_g(f: &mut [i32], s: Shape, near: &[u64; 64], t: Step, x: usize) -> usize
+    requires limits { ((v : ℕ) → v < 64 → get_or near.now v 0 < 2 ^ s.sizes.n) }
+    requires t_lt_m { (t.0 < s.sizes.m) × (x < blocks_at s.sizes 6) }
+    requires x_in_bounds { length (each line (block_g s.sizes (joined near.now) t.0 x)) ≤ length f.old }
+    ensures { Wrote (each line (block_g s.sizes (joined near.now) t.0 x)) f.old f.new result }
 {
-    if s.rule == 2 {
+    if s.sizes.rule == 2 {
         return write_from(f, s, near[x], t, Vertex(x));
     }
     write_following(f, s, t, Agent(x))

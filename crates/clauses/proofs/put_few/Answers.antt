@@ -21,28 +21,28 @@ use Rattle.clauses.proofs.put_few.Goals as goal
 
 pub loop-rest-init : goal.loop-rest-init
 loop-rest-init c =
-    let room : length (nearby c.args.s (set? c.args.word) c.args.t.0 c.args.a.0) + 1 ≤ length c.args.f.now = omega (arith, c.requires.a_in_bounds, line_length (nearby c.args.s (set? c.args.word) c.args.t.0 c.args.a.0)) in
+    let room : length (nearby c.args.s.sizes (set? c.args.word) c.args.t.0 c.args.a.0) + 1 ≤ length c.args.f.now = omega (arith, c.requires.a_in_bounds, line_length (nearby c.args.s.sizes (set? c.args.word) c.args.t.0 c.args.a.0)) in
     (0, (filling_from 0 (omega arith) refl (omega (arith, room)), left_all c.args.word c.ranges.word.fits))
 
 pub overflow_cast-w : goal.overflow_cast-w
 overflow_cast-w c =
-    let below : count_trailing_zeros 64 c.loop-rest.rest < c.args.s.n = low_below c.args.s.n c.args.word c.requires.t_le_m.2 c.loop-rest.rest c.loop-rest.invariant.0 c.loop-rest.invariant.1.1 (omega arith) in
-    omega (arith, below, c.requires.limits.n_most)
+    let below : count_trailing_zeros 64 c.loop-rest.rest < c.args.s.sizes.n = low_below c.args.s.sizes.n c.args.word c.requires.t_le_m.2 c.loop-rest.rest c.loop-rest.invariant.0 c.loop-rest.invariant.1.1 (omega arith) in
+    omega (arith, below, c.args.s.limits.n_most)
 
 pub positive-requires : goal.positive-requires
 positive-requires c =
-    let below : count_trailing_zeros 64 c.loop-rest.rest < c.args.s.n = low_below c.args.s.n c.args.word c.requires.t_le_m.2 c.loop-rest.rest c.loop-rest.invariant.0 c.loop-rest.invariant.1.1 (omega arith) in
-    record { limits = c.requires.limits; t_le_m = (c.requires.t_le_m.0, c.requires.t_le_m.1, below) }
+    let below : count_trailing_zeros 64 c.loop-rest.rest < c.args.s.sizes.n = low_below c.args.s.sizes.n c.args.word c.requires.t_le_m.2 c.loop-rest.rest c.loop-rest.invariant.0 c.loop-rest.invariant.1.1 (omega arith) in
+    (c.requires.t_le_m.0, c.requires.t_le_m.1, below)
 
 pub bounds-f-at : goal.bounds-f-at
 bounds-f-at c =
-    let literal : ℕ → Literal = X c.args.s c.args.t.0 c.args.a.0 in
+    let literal : ℕ → Literal = X c.args.s.sizes c.args.t.0 c.args.a.0 in
     let unset : (u : ℕ) → bit c.args.word u ≡ 0 → when (set? c.args.word u) (literal u ∷ []) ≡ [] = λ u e. ap (λ (b : ℕ). when (eqb b 1) (literal u ∷ [])) e in
-    let below : count_trailing_zeros 64 c.loop-rest.rest < c.args.s.n = low_below c.args.s.n c.args.word c.requires.t_le_m.2 c.loop-rest.rest c.loop-rest.invariant.0 c.loop-rest.invariant.1.1 (omega arith) in
-    let turn : Filling (λ w. when (set? c.args.word w) (literal w ∷ [])) c.args.s.n c.args.f.now (count_trailing_zeros 64 c.loop-rest.rest + 1) (c.loop-rest.at + 1) (set c.loop-rest.f c.loop-rest.at (literal (count_trailing_zeros 64 c.loop-rest.rest))) = filling_set
-    (filling_low c.args.s.n c.args.word unset c.loop-rest.invariant.1.0 c.loop-rest.invariant.1.1 c.requires.t_le_m.2 (omega arith))
+    let below : count_trailing_zeros 64 c.loop-rest.rest < c.args.s.sizes.n = low_below c.args.s.sizes.n c.args.word c.requires.t_le_m.2 c.loop-rest.rest c.loop-rest.invariant.0 c.loop-rest.invariant.1.1 (omega arith) in
+    let turn : Filling (λ w. when (set? c.args.word w) (literal w ∷ [])) c.args.s.sizes.n c.args.f.now (count_trailing_zeros 64 c.loop-rest.rest + 1) (c.loop-rest.at + 1) (set c.loop-rest.f c.loop-rest.at (literal (count_trailing_zeros 64 c.loop-rest.rest))) = filling_set
+    (filling_low c.args.s.sizes.n c.args.word unset c.loop-rest.invariant.1.0 c.loop-rest.invariant.1.1 c.requires.t_le_m.2 (omega arith))
     below (literal (count_trailing_zeros 64 c.loop-rest.rest))
-    (ap (λ (b : ℕ). when (eqb b 1) (literal (count_trailing_zeros 64 c.loop-rest.rest) ∷ [])) (low_set c.args.s.n c.args.word c.requires.t_le_m.2 c.loop-rest.rest c.loop-rest.invariant.0 c.loop-rest.invariant.1.1 (omega arith))) in
+    (ap (λ (b : ℕ). when (eqb b 1) (literal (count_trailing_zeros 64 c.loop-rest.rest) ∷ [])) (low_set c.args.s.sizes.n c.args.word c.requires.t_le_m.2 c.loop-rest.rest c.loop-rest.invariant.0 c.loop-rest.invariant.1.1 (omega arith))) in
     omega (arith, turn.fits, c.loop-rest.invariant.1.0.same)
 
 pub overflow_sub-rest : goal.overflow_sub-rest
@@ -53,39 +53,39 @@ loop-rest-smaller c = omega (arith, and_le_r c.loop-rest.rest (c.loop-rest.rest 
 
 pub loop-rest-preserved : goal.loop-rest-preserved
 loop-rest-preserved c =
-    let literal : ℕ → Literal = X c.args.s c.args.t.0 c.args.a.0 in
+    let literal : ℕ → Literal = X c.args.s.sizes c.args.t.0 c.args.a.0 in
     let unset : (u : ℕ) → bit c.args.word u ≡ 0 → when (set? c.args.word u) (literal u ∷ []) ≡ [] = λ u e. ap (λ (b : ℕ). when (eqb b 1) (literal u ∷ [])) e in
-    let below : count_trailing_zeros 64 c.loop-rest.rest < c.args.s.n = low_below c.args.s.n c.args.word c.requires.t_le_m.2 c.loop-rest.rest c.loop-rest.invariant.0 c.loop-rest.invariant.1.1 (omega arith) in
-    let turn : Filling (λ w. when (set? c.args.word w) (literal w ∷ [])) c.args.s.n c.args.f.now (count_trailing_zeros 64 c.loop-rest.rest + 1) (c.loop-rest.at + 1) (set c.loop-rest.f c.loop-rest.at (literal (count_trailing_zeros 64 c.loop-rest.rest))) = filling_set
-    (filling_low c.args.s.n c.args.word unset c.loop-rest.invariant.1.0 c.loop-rest.invariant.1.1 c.requires.t_le_m.2 (omega arith))
+    let below : count_trailing_zeros 64 c.loop-rest.rest < c.args.s.sizes.n = low_below c.args.s.sizes.n c.args.word c.requires.t_le_m.2 c.loop-rest.rest c.loop-rest.invariant.0 c.loop-rest.invariant.1.1 (omega arith) in
+    let turn : Filling (λ w. when (set? c.args.word w) (literal w ∷ [])) c.args.s.sizes.n c.args.f.now (count_trailing_zeros 64 c.loop-rest.rest + 1) (c.loop-rest.at + 1) (set c.loop-rest.f c.loop-rest.at (literal (count_trailing_zeros 64 c.loop-rest.rest))) = filling_set
+    (filling_low c.args.s.sizes.n c.args.word unset c.loop-rest.invariant.1.0 c.loop-rest.invariant.1.1 c.requires.t_le_m.2 (omega arith))
     below (literal (count_trailing_zeros 64 c.loop-rest.rest))
-    (ap (λ (b : ℕ). when (eqb b 1) (literal (count_trailing_zeros 64 c.loop-rest.rest) ∷ [])) (low_set c.args.s.n c.args.word c.requires.t_le_m.2 c.loop-rest.rest c.loop-rest.invariant.0 c.loop-rest.invariant.1.1 (omega arith))) in (
+    (ap (λ (b : ℕ). when (eqb b 1) (literal (count_trailing_zeros 64 c.loop-rest.rest) ∷ [])) (low_set c.args.s.sizes.n c.args.word c.requires.t_le_m.2 c.loop-rest.rest c.loop-rest.invariant.0 c.loop-rest.invariant.1.1 (omega arith))) in (
       count_trailing_zeros 64 c.loop-rest.rest + 1,
       (
         rw (to_z-of_z (sfits_of c.positive.type_inv), c.positive.ensures) turn,
-        left_next c.args.s.n c.args.word c.requires.t_le_m.2 c.loop-rest.rest c.loop-rest.invariant.0 c.loop-rest.invariant.1.1 (omega arith),
+        left_next c.args.s.sizes.n c.args.word c.requires.t_le_m.2 c.loop-rest.rest c.loop-rest.invariant.0 c.loop-rest.invariant.1.1 (omega arith),
       ),
     )
 
 pub slice_set_of-f : goal.slice_set_of-f
 slice_set_of-f c =
-    let room : length (nearby c.args.s (set? c.args.word) c.args.t.0 c.args.a.0) + 1 ≤ length c.args.f.now = omega (arith, c.requires.a_in_bounds, line_length (nearby c.args.s (set? c.args.word) c.args.t.0 c.args.a.0)) in
-    let literal : ℕ → Literal = X c.args.s c.args.t.0 c.args.a.0 in
+    let room : length (nearby c.args.s.sizes (set? c.args.word) c.args.t.0 c.args.a.0) + 1 ≤ length c.args.f.now = omega (arith, c.requires.a_in_bounds, line_length (nearby c.args.s.sizes (set? c.args.word) c.args.t.0 c.args.a.0)) in
+    let literal : ℕ → Literal = X c.args.s.sizes c.args.t.0 c.args.a.0 in
     let unset : (u : ℕ) → bit c.args.word u ≡ 0 → when (set? c.args.word u) (literal u ∷ []) ≡ [] = λ u e. ap (λ (b : ℕ). when (eqb b 1) (literal u ∷ [])) e in
-    let done : Filling (λ w. when (set? c.args.word w) (literal w ∷ [])) c.args.s.n c.args.f.now c.args.s.n c.loop-rest.at c.loop-rest.f = filling_end c.args.s.n c.args.word unset c.loop-rest.invariant.1.0 c.loop-rest.invariant.1.1 c.loop-rest-test.false in
+    let done : Filling (λ w. when (set? c.args.word w) (literal w ∷ [])) c.args.s.sizes.n c.args.f.now c.args.s.sizes.n c.loop-rest.at c.loop-rest.f = filling_end c.args.s.sizes.n c.args.word unset c.loop-rest.invariant.1.0 c.loop-rest.invariant.1.1 c.loop-rest-test.false in
     omega (arith, done.here, done.same, room)
 
 pub shape_of-f : goal.shape_of-f
 shape_of-f c =
-    let literal : ℕ → Literal = X c.args.s c.args.t.0 c.args.a.0 in
+    let literal : ℕ → Literal = X c.args.s.sizes c.args.t.0 c.args.a.0 in
     let unset : (u : ℕ) → bit c.args.word u ≡ 0 → when (set? c.args.word u) (literal u ∷ []) ≡ [] = λ u e. ap (λ (b : ℕ). when (eqb b 1) (literal u ∷ [])) e in
-    let done : Filling (λ w. when (set? c.args.word w) (literal w ∷ [])) c.args.s.n c.args.f.now c.args.s.n c.loop-rest.at c.loop-rest.f = filling_end c.args.s.n c.args.word unset c.loop-rest.invariant.1.0 c.loop-rest.invariant.1.1 c.loop-rest-test.false in
+    let done : Filling (λ w. when (set? c.args.word w) (literal w ∷ [])) c.args.s.sizes.n c.args.f.now c.args.s.sizes.n c.loop-rest.at c.loop-rest.f = filling_end c.args.s.sizes.n c.args.word unset c.loop-rest.invariant.1.0 c.loop-rest.invariant.1.1 c.loop-rest-test.false in
     length-set {A = ℤ} c.loop-rest.f c.loop-rest.at (pos 0) ∙ done.same
 
 pub returns : goal.returns
 returns c =
-    let room : length (nearby c.args.s (set? c.args.word) c.args.t.0 c.args.a.0) + 1 ≤ length c.args.f.now = omega (arith, c.requires.a_in_bounds, line_length (nearby c.args.s (set? c.args.word) c.args.t.0 c.args.a.0)) in
-    let literal : ℕ → Literal = X c.args.s c.args.t.0 c.args.a.0 in
+    let room : length (nearby c.args.s.sizes (set? c.args.word) c.args.t.0 c.args.a.0) + 1 ≤ length c.args.f.now = omega (arith, c.requires.a_in_bounds, line_length (nearby c.args.s.sizes (set? c.args.word) c.args.t.0 c.args.a.0)) in
+    let literal : ℕ → Literal = X c.args.s.sizes c.args.t.0 c.args.a.0 in
     let unset : (u : ℕ) → bit c.args.word u ≡ 0 → when (set? c.args.word u) (literal u ∷ []) ≡ [] = λ u e. ap (λ (b : ℕ). when (eqb b 1) (literal u ∷ [])) e in
-    let done : Filling (λ w. when (set? c.args.word w) (literal w ∷ [])) c.args.s.n c.args.f.now c.args.s.n c.loop-rest.at c.loop-rest.f = filling_end c.args.s.n c.args.word unset c.loop-rest.invariant.1.0 c.loop-rest.invariant.1.1 c.loop-rest-test.false in
-    ap (λ (l : List ℤ). set l c.loop-rest.at (pos 0)) done.slice ∙ filled_set (nearby c.args.s (set? c.args.word) c.args.t.0 c.args.a.0) c.args.f.now c.loop-rest.at (pos 0) (pos 0) (sym done.here) (omega (arith, done.here, room))
+    let done : Filling (λ w. when (set? c.args.word w) (literal w ∷ [])) c.args.s.sizes.n c.args.f.now c.args.s.sizes.n c.loop-rest.at c.loop-rest.f = filling_end c.args.s.sizes.n c.args.word unset c.loop-rest.invariant.1.0 c.loop-rest.invariant.1.1 c.loop-rest-test.false in
+    ap (λ (l : List ℤ). set l c.loop-rest.at (pos 0)) done.slice ∙ filled_set (nearby c.args.s.sizes (set? c.args.word) c.args.t.0 c.args.a.0) c.args.f.now c.loop-rest.at (pos 0) (pos 0) (sym done.here) (omega (arith, done.here, room))

@@ -10,7 +10,7 @@ use Rattle.clauses.proofs.put_few.Given as goal
 
 abbrev pub invariant-loop-rest : goal.invariant-loop-rest
 invariant-loop-rest l =
-    (from : ℕ) × (Filling (λ w. when (set? l.word w) (X l.s l.t.0 l.a.0 w ∷ [])) l.s.n l.initial.f from l.at l.f × Left l.word l.rest from)
+    (from : ℕ) × (Filling (λ w. when (set? l.word w) (X l.s.sizes l.t.0 l.a.0 w ∷ [])) l.s.sizes.n l.initial.f from l.at l.f × Left l.word l.rest from)
 
 abbrev pub decreases-loop-rest : goal.decreases-loop-rest
 decreases-loop-rest l = l.rest

@@ -24,55 +24,55 @@ use Rattle.clauses.proofs.put_onward.Goals as goal
 
 pub bounds-f-1 : goal.bounds-f-1
 bounds-f-1 c =
-    let near : Clause = nearby c.args.s (set? c.args.word) (c.args.t.0 + 1) c.args.a.0 in
-    let two : List ℤ = ¬X c.args.s c.args.t.0 c.args.a.0 c.args.v.0 ∷ X c.args.s (c.args.t.0 + 1) c.args.a.0 c.args.v.0 ∷ [] in
-    let clause : onward c.args.s (set? c.args.word) c.args.t.0 c.args.a.0 c.args.v.0 ≡ two ++ near = rw (add-one c.args.t.0) in
-    let degree : ones c.args.word ≡ length near = sym (ones_count c.args.s.n c.args.word (X c.args.s (c.args.t.0 + 1) c.args.a.0) c.requires.t_lt_m.3) in
+    let near : Clause = nearby c.args.s.sizes (set? c.args.word) (c.args.t.0 + 1) c.args.a.0 in
+    let two : List ℤ = ¬X c.args.s.sizes c.args.t.0 c.args.a.0 c.args.v.0 ∷ X c.args.s.sizes (c.args.t.0 + 1) c.args.a.0 c.args.v.0 ∷ [] in
+    let clause : onward c.args.s.sizes (set? c.args.word) c.args.t.0 c.args.a.0 c.args.v.0 ≡ two ++ near = rw (add-one c.args.t.0) in
+    let degree : ones c.args.word ≡ length near = sym (ones_count c.args.s.sizes.n c.args.word (X c.args.s.sizes (c.args.t.0 + 1) c.args.a.0) c.requires.t_lt_m.3) in
     let room : ones c.args.word + 3 ≤ length c.args.f.now = omega (arith, c.requires.v_in_bounds, ap (λ (c : Clause). length (line c)) clause, line_length near, degree) in
     simp length-set (omega (arith, room))
 
 pub slice_bounds-put_near-count : goal.slice_bounds-put_near-count
 slice_bounds-put_near-count c =
-    let near : Clause = nearby c.args.s (set? c.args.word) (c.args.t.0 + 1) c.args.a.0 in
-    let two : List ℤ = ¬X c.args.s c.args.t.0 c.args.a.0 c.args.v.0 ∷ X c.args.s (c.args.t.0 + 1) c.args.a.0 c.args.v.0 ∷ [] in
-    let clause : onward c.args.s (set? c.args.word) c.args.t.0 c.args.a.0 c.args.v.0 ≡ two ++ near = rw (add-one c.args.t.0) in
-    let degree : ones c.args.word ≡ length near = sym (ones_count c.args.s.n c.args.word (X c.args.s (c.args.t.0 + 1) c.args.a.0) c.requires.t_lt_m.3) in
+    let near : Clause = nearby c.args.s.sizes (set? c.args.word) (c.args.t.0 + 1) c.args.a.0 in
+    let two : List ℤ = ¬X c.args.s.sizes c.args.t.0 c.args.a.0 c.args.v.0 ∷ X c.args.s.sizes (c.args.t.0 + 1) c.args.a.0 c.args.v.0 ∷ [] in
+    let clause : onward c.args.s.sizes (set? c.args.word) c.args.t.0 c.args.a.0 c.args.v.0 ≡ two ++ near = rw (add-one c.args.t.0) in
+    let degree : ones c.args.word ≡ length near = sym (ones_count c.args.s.sizes.n c.args.word (X c.args.s.sizes (c.args.t.0 + 1) c.args.a.0) c.requires.t_lt_m.3) in
     let room : ones c.args.word + 3 ≤ length c.args.f.now = omega (arith, c.requires.v_in_bounds, ap (λ (c : Clause). length (line c)) clause, line_length near, degree) in
     simp length-set (omega (arith, room))
 
 pub slice_bounds-put_near-start : goal.slice_bounds-put_near-start
 slice_bounds-put_near-start c =
-    let near : Clause = nearby c.args.s (set? c.args.word) (c.args.t.0 + 1) c.args.a.0 in
-    let two : List ℤ = ¬X c.args.s c.args.t.0 c.args.a.0 c.args.v.0 ∷ X c.args.s (c.args.t.0 + 1) c.args.a.0 c.args.v.0 ∷ [] in
-    let clause : onward c.args.s (set? c.args.word) c.args.t.0 c.args.a.0 c.args.v.0 ≡ two ++ near = rw (add-one c.args.t.0) in
-    let degree : ones c.args.word ≡ length near = sym (ones_count c.args.s.n c.args.word (X c.args.s (c.args.t.0 + 1) c.args.a.0) c.requires.t_lt_m.3) in
+    let near : Clause = nearby c.args.s.sizes (set? c.args.word) (c.args.t.0 + 1) c.args.a.0 in
+    let two : List ℤ = ¬X c.args.s.sizes c.args.t.0 c.args.a.0 c.args.v.0 ∷ X c.args.s.sizes (c.args.t.0 + 1) c.args.a.0 c.args.v.0 ∷ [] in
+    let clause : onward c.args.s.sizes (set? c.args.word) c.args.t.0 c.args.a.0 c.args.v.0 ≡ two ++ near = rw (add-one c.args.t.0) in
+    let degree : ones c.args.word ≡ length near = sym (ones_count c.args.s.sizes.n c.args.word (X c.args.s.sizes (c.args.t.0 + 1) c.args.a.0) c.requires.t_lt_m.3) in
     let room : ones c.args.word + 3 ≤ length c.args.f.now = omega (arith, c.requires.v_in_bounds, ap (λ (c : Clause). length (line c)) clause, line_length near, degree) in
     simp length-set (omega (arith, room))
 
 pub put_near-requires : goal.put_near-requires
 put_near-requires c =
-    let near : Clause = nearby c.args.s (set? c.args.word) (c.args.t.0 + 1) c.args.a.0 in
-    let degree : ones c.args.word ≡ length near = sym (ones_count c.args.s.n c.args.word (X c.args.s (c.args.t.0 + 1) c.args.a.0) c.requires.t_lt_m.3) in
-    let two : List ℤ = ¬X c.args.s c.args.t.0 c.args.a.0 c.args.v.0 ∷ X c.args.s (c.args.t.0 + 1) c.args.a.0 c.args.v.0 ∷ [] in
-    let clause : onward c.args.s (set? c.args.word) c.args.t.0 c.args.a.0 c.args.v.0 ≡ two ++ near = rw (add-one c.args.t.0) in
+    let near : Clause = nearby c.args.s.sizes (set? c.args.word) (c.args.t.0 + 1) c.args.a.0 in
+    let degree : ones c.args.word ≡ length near = sym (ones_count c.args.s.sizes.n c.args.word (X c.args.s.sizes (c.args.t.0 + 1) c.args.a.0) c.requires.t_lt_m.3) in
+    let two : List ℤ = ¬X c.args.s.sizes c.args.t.0 c.args.a.0 c.args.v.0 ∷ X c.args.s.sizes (c.args.t.0 + 1) c.args.a.0 c.args.v.0 ∷ [] in
+    let clause : onward c.args.s.sizes (set? c.args.word) c.args.t.0 c.args.a.0 c.args.v.0 ≡ two ++ near = rw (add-one c.args.t.0) in
     let room : ones c.args.word + 3 ≤ length c.args.f.now = omega (arith, c.requires.v_in_bounds, ap (λ (c : Clause). length (line c)) clause, line_length near, degree) in
     simp (length-take, length-drop, length-set) (let r = room in let q = degree in let z = line_length near in search rules)
 
 pub overflow_cast-result : goal.overflow_cast-result
 overflow_cast-result c =
-    let near : Clause = nearby c.args.s (set? c.args.word) (c.args.t.0 + 1) c.args.a.0 in
-    let two : List ℤ = ¬X c.args.s c.args.t.0 c.args.a.0 c.args.v.0 ∷ X c.args.s (c.args.t.0 + 1) c.args.a.0 c.args.v.0 ∷ [] in
-    let clause : onward c.args.s (set? c.args.word) c.args.t.0 c.args.a.0 c.args.v.0 ≡ two ++ near = rw (add-one c.args.t.0) in
-    let degree : ones c.args.word ≡ length near = sym (ones_count c.args.s.n c.args.word (X c.args.s (c.args.t.0 + 1) c.args.a.0) c.requires.t_lt_m.3) in
+    let near : Clause = nearby c.args.s.sizes (set? c.args.word) (c.args.t.0 + 1) c.args.a.0 in
+    let two : List ℤ = ¬X c.args.s.sizes c.args.t.0 c.args.a.0 c.args.v.0 ∷ X c.args.s.sizes (c.args.t.0 + 1) c.args.a.0 c.args.v.0 ∷ [] in
+    let clause : onward c.args.s.sizes (set? c.args.word) c.args.t.0 c.args.a.0 c.args.v.0 ≡ two ++ near = rw (add-one c.args.t.0) in
+    let degree : ones c.args.word ≡ length near = sym (ones_count c.args.s.sizes.n c.args.word (X c.args.s.sizes (c.args.t.0 + 1) c.args.a.0) c.requires.t_lt_m.3) in
     let room : ones c.args.word + 3 ≤ length c.args.f.now = omega (arith, c.requires.v_in_bounds, ap (λ (c : Clause). length (line c)) clause, line_length near, degree) in
     omega (arith, room)
 
 pub overflow_add-result : goal.overflow_add-result
 overflow_add-result c =
-    let near : Clause = nearby c.args.s (set? c.args.word) (c.args.t.0 + 1) c.args.a.0 in
-    let two : List ℤ = ¬X c.args.s c.args.t.0 c.args.a.0 c.args.v.0 ∷ X c.args.s (c.args.t.0 + 1) c.args.a.0 c.args.v.0 ∷ [] in
-    let clause : onward c.args.s (set? c.args.word) c.args.t.0 c.args.a.0 c.args.v.0 ≡ two ++ near = rw (add-one c.args.t.0) in
-    let degree : ones c.args.word ≡ length near = sym (ones_count c.args.s.n c.args.word (X c.args.s (c.args.t.0 + 1) c.args.a.0) c.requires.t_lt_m.3) in
+    let near : Clause = nearby c.args.s.sizes (set? c.args.word) (c.args.t.0 + 1) c.args.a.0 in
+    let two : List ℤ = ¬X c.args.s.sizes c.args.t.0 c.args.a.0 c.args.v.0 ∷ X c.args.s.sizes (c.args.t.0 + 1) c.args.a.0 c.args.v.0 ∷ [] in
+    let clause : onward c.args.s.sizes (set? c.args.word) c.args.t.0 c.args.a.0 c.args.v.0 ≡ two ++ near = rw (add-one c.args.t.0) in
+    let degree : ones c.args.word ≡ length near = sym (ones_count c.args.s.sizes.n c.args.word (X c.args.s.sizes (c.args.t.0 + 1) c.args.a.0) c.requires.t_lt_m.3) in
     let room : ones c.args.word + 3 ≤ length c.args.f.now = omega (arith, c.requires.v_in_bounds, ap (λ (c : Clause). length (line c)) clause, line_length near, degree) in
     omega (arith, room)
 
@@ -81,10 +81,10 @@ shape_of-f c = rw (c.f-1.given.1, length-set, length-set)
 
 pub returns : goal.returns
 returns c =
-    let two : List ℤ = ¬X c.args.s c.args.t.0 c.args.a.0 c.args.v.0 ∷ X c.args.s (c.args.t.0 + 1) c.args.a.0 c.args.v.0 ∷ [] in
-    let near : Clause = nearby c.args.s (set? c.args.word) (c.args.t.0 + 1) c.args.a.0 in
-    let clause : onward c.args.s (set? c.args.word) c.args.t.0 c.args.a.0 c.args.v.0 ≡ two ++ near = rw (add-one c.args.t.0) in
-    let degree : ones c.args.word ≡ length near = sym (ones_count c.args.s.n c.args.word (X c.args.s (c.args.t.0 + 1) c.args.a.0) c.requires.t_lt_m.3) in
+    let two : List ℤ = ¬X c.args.s.sizes c.args.t.0 c.args.a.0 c.args.v.0 ∷ X c.args.s.sizes (c.args.t.0 + 1) c.args.a.0 c.args.v.0 ∷ [] in
+    let near : Clause = nearby c.args.s.sizes (set? c.args.word) (c.args.t.0 + 1) c.args.a.0 in
+    let clause : onward c.args.s.sizes (set? c.args.word) c.args.t.0 c.args.a.0 c.args.v.0 ≡ two ++ near = rw (add-one c.args.t.0) in
+    let degree : ones c.args.word ≡ length near = sym (ones_count c.args.s.sizes.n c.args.word (X c.args.s.sizes (c.args.t.0 + 1) c.args.a.0) c.requires.t_lt_m.3) in
     let room : ones c.args.word + 3 ≤ length c.args.f.now = omega (arith, c.requires.v_in_bounds, ap (λ (c : Clause). length (line c)) clause, line_length near, degree) in
     let l : List ℤ = c.args.f.now in
     let f : List ℤ = set (set l 0 (to_z w32 (of_z w32 c.negative.result))) 1 (to_z w32 (of_z w32 c.positive.result)) in

@@ -15,7 +15,7 @@ pub returns-then-a-b : goal.returns-then-a-b
 returns-then-a-b c = rw (eq-eqb c.args.a.0 c.args.b.0 (omega arith)) (refl, sym (filled_nil _))
 
 pub loop-v-init : goal.loop-v-init
-loop-v-init c = each_filling line (pair c.args.s c.args.t.0 c.args.a.0 c.args.b.0) (rw (ne_eqb _ _ c.if-a-b.false) at c.requires.b_in_bounds)
+loop-v-init c = each_filling line (pair c.args.s.sizes c.args.t.0 c.args.a.0 c.args.b.0) (rw (ne_eqb _ _ c.if-a-b.false) at c.requires.b_in_bounds)
 
 pub put_pair-at-requires : goal.put_pair-at-requires
 put_pair-at-requires c = simp (length-take, length-drop) (let r = filling_room c.loop-v.invariant c.loop-v-test.true in search rules)
@@ -32,4 +32,4 @@ pub shape_of-f : goal.shape_of-f
 shape_of-f c = c.loop-v.invariant.same
 
 pub returns : goal.returns
-returns c = rw (ne_eqb _ _ c.if-a-b.false) (each_filled line (pair c.args.s c.args.t.0 c.args.a.0 c.args.b.0) c.loop-v.invariant (omega arith))
+returns c = rw (ne_eqb _ _ c.if-a-b.false) (each_filled line (pair c.args.s.sizes c.args.t.0 c.args.a.0 c.args.b.0) c.loop-v.invariant (omega arith))

@@ -12,7 +12,7 @@ abbrev pub pair : Sizes → ℕ → ℕ → ℕ → ℕ → List Clause
 pair s t a b v = (¬X s t b v ∷ ¬X s (suc t) a v ∷ []) ∷ []
 
 abbrev pub invariant-loop-v : goal.invariant-loop-v
-invariant-loop-v l = Filling (λ u. each line (pair l.s l.t.0 l.a.0 l.b.0 u)) l.n l.initial.f l.v l.at l.f
+invariant-loop-v l = Filling (λ u. each line (pair l.s.sizes l.t.0 l.a.0 l.b.0 u)) l.n l.initial.f l.v l.at l.f
 
 abbrev pub decreases-loop-v : goal.decreases-loop-v
 decreases-loop-v l = l.n - l.v

@@ -20,13 +20,13 @@ pub write_unit-requires : goal.write_unit-requires
 unfolding times blocks_at block
 write_unit-requires c =
     let q = arm c.args.s (held_in c.args.s c.args.starts.now c.args.goals.now c.args.near.now) c.args.t c.args.x c.in-0.is c.requires.which_bound c.requires.x_in_bounds in
-    record { limits = c.requires.ready.limits; t_le_m = (omega arith, q.1, c.requires.ready.starts_below c.args.x q.1, q.2) }
+    (omega arith, q.1, c.requires.ready.starts_below c.args.x q.1, q.2)
 
 pub write_goal-requires : goal.write_goal-requires
 unfolding times blocks_at block
 write_goal-requires c =
     let q = arm c.args.s (held_in c.args.s c.args.starts.now c.args.goals.now c.args.near.now) c.args.t c.args.x c.in-1.is c.requires.which_bound c.requires.x_in_bounds in
-    record { limits = c.requires.ready.limits; a_lt_k = (q.1, c.requires.ready.goals_below c.args.x q.1); a_in_bounds = q.2 }
+    record { a_lt_k = (q.1, c.requires.ready.goals_below c.args.x q.1); a_in_bounds = q.2 }
 
 pub put_somewhere-requires : goal.put_somewhere-requires
 unfolding times blocks_at block

@@ -36,7 +36,7 @@ returns c =
     (each_filled line (blocks given c.args.which) c.loop-t.invariant (omega (arith, c.times_of-end.ensures.0)))
 
 pub times_of-end-requires : goal.times_of-end-requires
-times_of-end-requires c = record { limits = c.requires.ready.limits; which_bound = c.requires.which_bound }
+times_of-end-requires c = c.requires.which_bound
 
 pub shape_of-f : goal.shape_of-f
 shape_of-f c = c.loop-t.invariant.same

@@ -21,54 +21,54 @@ use Rattle.families.proofs.write_from.Invariants.{turn}
 use Rattle.families.proofs.write_from.Goals as goal
 
 pub loop-rest-init : goal.loop-rest-init
-loop-rest-init c = (0, (each_filling line (turn c.args.s c.args.word c.args.t.0 c.args.u.0) c.requires.u_in_bounds, left_all c.above-rest.result (omega (arith, c.above-rest.ensures.0, c.ranges.word.fits))))
+loop-rest-init c = (0, (each_filling line (turn c.args.s.sizes c.args.word c.args.t.0 c.args.u.0) c.requires.u_in_bounds, left_all c.above-rest.result (omega (arith, c.above-rest.ensures.0, c.ranges.word.fits))))
 
 pub overflow_cast-v : goal.overflow_cast-v
 overflow_cast-v c =
-    let high : c.above-rest.result < 2 ^ c.args.s.n = omega (arith, c.above-rest.ensures.0, c.requires.t_lt_m.2) in
-    let below : count_trailing_zeros 64 c.loop-rest.rest < c.args.s.n = low_below c.args.s.n c.above-rest.result high c.loop-rest.rest c.loop-rest.invariant.0 c.loop-rest.invariant.1.1 (omega arith) in
-    omega (arith, below, c.requires.limits.n_most)
+    let high : c.above-rest.result < 2 ^ c.args.s.sizes.n = omega (arith, c.above-rest.ensures.0, c.requires.t_lt_m.2) in
+    let below : count_trailing_zeros 64 c.loop-rest.rest < c.args.s.sizes.n = low_below c.args.s.sizes.n c.above-rest.result high c.loop-rest.rest c.loop-rest.invariant.0 c.loop-rest.invariant.1.1 (omega arith) in
+    omega (arith, below, c.args.s.limits.n_most)
 
 pub slice_bounds-write_no_exchange-count : goal.slice_bounds-write_no_exchange-count
 slice_bounds-write_no_exchange-count c =
-    let high : c.above-rest.result < 2 ^ c.args.s.n = omega (arith, c.above-rest.ensures.0, c.requires.t_lt_m.2) in
-    let unset : (v : ℕ) → bit c.above-rest.result v ≡ 0 → each line (turn c.args.s c.args.word c.args.t.0 c.args.u.0 v) ≡ [] = λ v e. ap (λ (b : Bool). each line (when b (no_exchange c.args.s c.args.t.0 c.args.u.0 v))) (sym (c.above-rest.ensures.1 v) ∙ ap (λ (b : ℕ). eqb b 1) e) in
-    let next : Filling (λ v. each line (turn c.args.s c.args.word c.args.t.0 c.args.u.0 v)) c.args.s.n c.args.f.now (count_trailing_zeros 64 c.loop-rest.rest) c.loop-rest.at c.loop-rest.f = filling_low c.args.s.n c.above-rest.result unset c.loop-rest.invariant.1.0 c.loop-rest.invariant.1.1 high (omega arith) in
+    let high : c.above-rest.result < 2 ^ c.args.s.sizes.n = omega (arith, c.above-rest.ensures.0, c.requires.t_lt_m.2) in
+    let unset : (v : ℕ) → bit c.above-rest.result v ≡ 0 → each line (turn c.args.s.sizes c.args.word c.args.t.0 c.args.u.0 v) ≡ [] = λ v e. ap (λ (b : Bool). each line (when b (no_exchange c.args.s.sizes c.args.t.0 c.args.u.0 v))) (sym (c.above-rest.ensures.1 v) ∙ ap (λ (b : ℕ). eqb b 1) e) in
+    let next : Filling (λ v. each line (turn c.args.s.sizes c.args.word c.args.t.0 c.args.u.0 v)) c.args.s.sizes.n c.args.f.now (count_trailing_zeros 64 c.loop-rest.rest) c.loop-rest.at c.loop-rest.f = filling_low c.args.s.sizes.n c.above-rest.result unset c.loop-rest.invariant.1.0 c.loop-rest.invariant.1.1 high (omega arith) in
     let fits : c.loop-rest.at ≤ length c.loop-rest.f = omega (arith, next.fits, next.same) in
     fits
 
 pub slice_bounds-write_no_exchange-start : goal.slice_bounds-write_no_exchange-start
 slice_bounds-write_no_exchange-start c =
-    let high : c.above-rest.result < 2 ^ c.args.s.n = omega (arith, c.above-rest.ensures.0, c.requires.t_lt_m.2) in
-    let unset : (v : ℕ) → bit c.above-rest.result v ≡ 0 → each line (turn c.args.s c.args.word c.args.t.0 c.args.u.0 v) ≡ [] = λ v e. ap (λ (b : Bool). each line (when b (no_exchange c.args.s c.args.t.0 c.args.u.0 v))) (sym (c.above-rest.ensures.1 v) ∙ ap (λ (b : ℕ). eqb b 1) e) in
-    let next : Filling (λ v. each line (turn c.args.s c.args.word c.args.t.0 c.args.u.0 v)) c.args.s.n c.args.f.now (count_trailing_zeros 64 c.loop-rest.rest) c.loop-rest.at c.loop-rest.f = filling_low c.args.s.n c.above-rest.result unset c.loop-rest.invariant.1.0 c.loop-rest.invariant.1.1 high (omega arith) in
+    let high : c.above-rest.result < 2 ^ c.args.s.sizes.n = omega (arith, c.above-rest.ensures.0, c.requires.t_lt_m.2) in
+    let unset : (v : ℕ) → bit c.above-rest.result v ≡ 0 → each line (turn c.args.s.sizes c.args.word c.args.t.0 c.args.u.0 v) ≡ [] = λ v e. ap (λ (b : Bool). each line (when b (no_exchange c.args.s.sizes c.args.t.0 c.args.u.0 v))) (sym (c.above-rest.ensures.1 v) ∙ ap (λ (b : ℕ). eqb b 1) e) in
+    let next : Filling (λ v. each line (turn c.args.s.sizes c.args.word c.args.t.0 c.args.u.0 v)) c.args.s.sizes.n c.args.f.now (count_trailing_zeros 64 c.loop-rest.rest) c.loop-rest.at c.loop-rest.f = filling_low c.args.s.sizes.n c.above-rest.result unset c.loop-rest.invariant.1.0 c.loop-rest.invariant.1.1 high (omega arith) in
     let fits : c.loop-rest.at ≤ length c.loop-rest.f = omega (arith, next.fits, next.same) in
     fits
 
 pub write_no_exchange-at-requires : goal.write_no_exchange-at-requires
 write_no_exchange-at-requires c =
-    let high : c.above-rest.result < 2 ^ c.args.s.n = omega (arith, c.above-rest.ensures.0, c.requires.t_lt_m.2) in
-    let below : count_trailing_zeros 64 c.loop-rest.rest < c.args.s.n = low_below c.args.s.n c.above-rest.result high c.loop-rest.rest c.loop-rest.invariant.0 c.loop-rest.invariant.1.1 (omega arith) in
+    let high : c.above-rest.result < 2 ^ c.args.s.sizes.n = omega (arith, c.above-rest.ensures.0, c.requires.t_lt_m.2) in
+    let below : count_trailing_zeros 64 c.loop-rest.rest < c.args.s.sizes.n = low_below c.args.s.sizes.n c.above-rest.result high c.loop-rest.rest c.loop-rest.invariant.0 c.loop-rest.invariant.1.1 (omega arith) in
     let end : upward (λ _. set? c.args.word) c.args.u.0 (count_trailing_zeros 64 c.loop-rest.rest) ≡ true = sym (c.above-rest.ensures.1 (count_trailing_zeros 64 c.loop-rest.rest))
-    ∙ ap (λ (b : ℕ). eqb b 1) (low_set c.args.s.n c.above-rest.result high c.loop-rest.rest c.loop-rest.invariant.0 c.loop-rest.invariant.1.1 (omega arith)) in
-    let unset : (v : ℕ) → bit c.above-rest.result v ≡ 0 → each line (turn c.args.s c.args.word c.args.t.0 c.args.u.0 v) ≡ [] = λ v e. ap (λ (b : Bool). each line (when b (no_exchange c.args.s c.args.t.0 c.args.u.0 v))) (sym (c.above-rest.ensures.1 v) ∙ ap (λ (b : ℕ). eqb b 1) e) in
-    let next : Filling (λ v. each line (turn c.args.s c.args.word c.args.t.0 c.args.u.0 v)) c.args.s.n c.args.f.now (count_trailing_zeros 64 c.loop-rest.rest) c.loop-rest.at c.loop-rest.f = filling_low c.args.s.n c.above-rest.result unset c.loop-rest.invariant.1.0 c.loop-rest.invariant.1.1 high (omega arith) in
+    ∙ ap (λ (b : ℕ). eqb b 1) (low_set c.args.s.sizes.n c.above-rest.result high c.loop-rest.rest c.loop-rest.invariant.0 c.loop-rest.invariant.1.1 (omega arith)) in
+    let unset : (v : ℕ) → bit c.above-rest.result v ≡ 0 → each line (turn c.args.s.sizes c.args.word c.args.t.0 c.args.u.0 v) ≡ [] = λ v e. ap (λ (b : Bool). each line (when b (no_exchange c.args.s.sizes c.args.t.0 c.args.u.0 v))) (sym (c.above-rest.ensures.1 v) ∙ ap (λ (b : ℕ). eqb b 1) e) in
+    let next : Filling (λ v. each line (turn c.args.s.sizes c.args.word c.args.t.0 c.args.u.0 v)) c.args.s.sizes.n c.args.f.now (count_trailing_zeros 64 c.loop-rest.rest) c.loop-rest.at c.loop-rest.f = filling_low c.args.s.sizes.n c.above-rest.result unset c.loop-rest.invariant.1.0 c.loop-rest.invariant.1.1 high (omega arith) in
     simp (length-take, length-drop)
     (let r = rw end at (filling_room next below) in
     let l = below in search rules)
 
 pub loop-rest-preserved : goal.loop-rest-preserved
 loop-rest-preserved c =
-    let high : c.above-rest.result < 2 ^ c.args.s.n = omega (arith, c.above-rest.ensures.0, c.requires.t_lt_m.2) in
-    let below : count_trailing_zeros 64 c.loop-rest.rest < c.args.s.n = low_below c.args.s.n c.above-rest.result high c.loop-rest.rest c.loop-rest.invariant.0 c.loop-rest.invariant.1.1 (omega arith) in
+    let high : c.above-rest.result < 2 ^ c.args.s.sizes.n = omega (arith, c.above-rest.ensures.0, c.requires.t_lt_m.2) in
+    let below : count_trailing_zeros 64 c.loop-rest.rest < c.args.s.sizes.n = low_below c.args.s.sizes.n c.above-rest.result high c.loop-rest.rest c.loop-rest.invariant.0 c.loop-rest.invariant.1.1 (omega arith) in
     let end : upward (λ _. set? c.args.word) c.args.u.0 (count_trailing_zeros 64 c.loop-rest.rest) ≡ true = sym (c.above-rest.ensures.1 (count_trailing_zeros 64 c.loop-rest.rest))
-    ∙ ap (λ (b : ℕ). eqb b 1) (low_set c.args.s.n c.above-rest.result high c.loop-rest.rest c.loop-rest.invariant.0 c.loop-rest.invariant.1.1 (omega arith)) in
-    let unset : (v : ℕ) → bit c.above-rest.result v ≡ 0 → each line (turn c.args.s c.args.word c.args.t.0 c.args.u.0 v) ≡ [] = λ v e. ap (λ (b : Bool). each line (when b (no_exchange c.args.s c.args.t.0 c.args.u.0 v))) (sym (c.above-rest.ensures.1 v) ∙ ap (λ (b : ℕ). eqb b 1) e) in
-    let next : Filling (λ v. each line (turn c.args.s c.args.word c.args.t.0 c.args.u.0 v)) c.args.s.n c.args.f.now (count_trailing_zeros 64 c.loop-rest.rest) c.loop-rest.at c.loop-rest.f = filling_low c.args.s.n c.above-rest.result unset c.loop-rest.invariant.1.0 c.loop-rest.invariant.1.1 high (omega arith) in (
+    ∙ ap (λ (b : ℕ). eqb b 1) (low_set c.args.s.sizes.n c.above-rest.result high c.loop-rest.rest c.loop-rest.invariant.0 c.loop-rest.invariant.1.1 (omega arith)) in
+    let unset : (v : ℕ) → bit c.above-rest.result v ≡ 0 → each line (turn c.args.s.sizes c.args.word c.args.t.0 c.args.u.0 v) ≡ [] = λ v e. ap (λ (b : Bool). each line (when b (no_exchange c.args.s.sizes c.args.t.0 c.args.u.0 v))) (sym (c.above-rest.ensures.1 v) ∙ ap (λ (b : ℕ). eqb b 1) e) in
+    let next : Filling (λ v. each line (turn c.args.s.sizes c.args.word c.args.t.0 c.args.u.0 v)) c.args.s.sizes.n c.args.f.now (count_trailing_zeros 64 c.loop-rest.rest) c.loop-rest.at c.loop-rest.f = filling_low c.args.s.sizes.n c.above-rest.result unset c.loop-rest.invariant.1.0 c.loop-rest.invariant.1.1 high (omega arith) in (
       count_trailing_zeros 64 c.loop-rest.rest + 1,
       (
         filling_next next below (holding end _ _ _ c.write_no_exchange-at.ensures),
-        left_next c.args.s.n c.above-rest.result high c.loop-rest.rest c.loop-rest.invariant.0 c.loop-rest.invariant.1.1 (omega arith),
+        left_next c.args.s.sizes.n c.above-rest.result high c.loop-rest.rest c.loop-rest.invariant.0 c.loop-rest.invariant.1.1 (omega arith),
       ),
     )
 
@@ -83,6 +83,6 @@ shape_of-f c = c.loop-rest.invariant.1.0.same
 
 pub returns : goal.returns
 returns c =
-    let unset : (v : ℕ) → bit c.above-rest.result v ≡ 0 → each line (turn c.args.s c.args.word c.args.t.0 c.args.u.0 v) ≡ [] = λ v e. ap (λ (b : Bool). each line (when b (no_exchange c.args.s c.args.t.0 c.args.u.0 v))) (sym (c.above-rest.ensures.1 v) ∙ ap (λ (b : ℕ). eqb b 1) e) in
-    each_filled line (turn c.args.s c.args.word c.args.t.0 c.args.u.0)
-    (filling_end c.args.s.n c.above-rest.result unset c.loop-rest.invariant.1.0 c.loop-rest.invariant.1.1 c.loop-rest-test.false) (le_refl _)
+    let unset : (v : ℕ) → bit c.above-rest.result v ≡ 0 → each line (turn c.args.s.sizes c.args.word c.args.t.0 c.args.u.0 v) ≡ [] = λ v e. ap (λ (b : Bool). each line (when b (no_exchange c.args.s.sizes c.args.t.0 c.args.u.0 v))) (sym (c.above-rest.ensures.1 v) ∙ ap (λ (b : ℕ). eqb b 1) e) in
+    each_filled line (turn c.args.s.sizes c.args.word c.args.t.0 c.args.u.0)
+    (filling_end c.args.s.sizes.n c.above-rest.result unset c.loop-rest.invariant.1.0 c.loop-rest.invariant.1.1 c.loop-rest-test.false) (le_refl _)

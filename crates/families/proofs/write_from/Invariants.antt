@@ -16,7 +16,7 @@ turn s word t u v = when (upward (λ _. set? word) u v) (no_exchange s t u v)
 
 abbrev pub invariant-loop-rest : goal.invariant-loop-rest
 invariant-loop-rest l =
-    (from : ℕ) × (Filling (λ v. each line (turn l.s l.word l.t.0 l.u.0 v)) l.s.n l.initial.f from l.at l.f × Left l.initial.rest l.rest from)
+    (from : ℕ) × (Filling (λ v. each line (turn l.s.sizes l.word l.t.0 l.u.0 v)) l.s.sizes.n l.initial.f from l.at l.f × Left l.initial.rest l.rest from)
 
 abbrev pub decreases-loop-rest : goal.decreases-loop-rest
 decreases-loop-rest l = l.rest

@@ -13,7 +13,7 @@ pub write_unit-requires : goal.write_unit-requires
 write_unit-requires c =
     let h = told_goal (get_or c.args.goals.now c.args.a.0 0) c.is_free.ensures c.if-is_free.false in
     let r = rw (sym c.is_free.ensures ∙ c.if-is_free.false) at c.requires.a_in_bounds in
-    record { limits = c.requires.limits; t_le_m = (omega arith, c.requires.a_lt_k.0, c.requires.a_lt_k.1 h, r) }
+    (omega arith, c.requires.a_lt_k.0, c.requires.a_lt_k.1 h, r)
 
 pub returns : goal.returns
 returns c = rw (sym c.is_free.ensures ∙ c.if-is_free.false) c.write_unit.ensures

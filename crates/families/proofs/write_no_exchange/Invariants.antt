@@ -13,7 +13,7 @@ abbrev pub of : Sizes → ℕ → ℕ → ℕ → ℕ → List Clause
 of s t u v a = for s.k (exchanging s t u v a)
 
 abbrev pub invariant-loop-a : goal.invariant-loop-a
-invariant-loop-a l = Filling (λ i. each line (of l.s l.t.0 l.u.0 l.v.0 i)) l.k l.initial.f l.a l.at l.f
+invariant-loop-a l = Filling (λ i. each line (of l.s.sizes l.t.0 l.u.0 l.v.0 i)) l.k l.initial.f l.a l.at l.f
 
 abbrev pub decreases-loop-a : goal.decreases-loop-a
 decreases-loop-a l = l.k - l.a

@@ -33,7 +33,7 @@ returns c =
     each_filled line (block given c.args.which c.args.t) c.loop-x.invariant (omega (arith, c.blocks_at-end.ensures.0))
 
 pub blocks_at-end-requires : goal.blocks_at-end-requires
-blocks_at-end-requires c = record { limits = c.requires.ready.limits; which_bound = c.requires.which_bound.0 }
+blocks_at-end-requires c = c.requires.which_bound.0
 
 pub shape_of-f : goal.shape_of-f
 shape_of-f c = c.loop-x.invariant.same
