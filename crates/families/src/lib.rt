@@ -8,12 +8,14 @@ ghost use Rattle.lists.specs.Slice.{Wrote};
 ghost use Rattle.formula.specs.Variables.{X, ¬X, highest};
 ghost use Rattle.bits.specs.Bits.{set?};
 ghost use Rattle.formula.specs.Formula.{line, no_two, block_b, block_d, block_e, block_f, no_following, no_exchange};
-ghost use Rattle.formula.specs.Blocks.{times, blocks_at, no_exchange_from, block_g, held_in, block, family};
+ghost use Rattle.formula.specs.Blocks.{times, blocks_at, no_exchange_from, block_g, held, block, family};
 ghost use Rattle.instance.specs.Instance.{GoalBelow, joined};
-ghost use Rattle.instance.specs.Ready.{Ready};
+ghost use Rattle.instance.specs.Problem.{checked_of};
+ghost use Rattle.counts.specs.Families.{place_of};
 ghost use Rattle.families.specs.Runs.{nots, above, apart, exchanging};
 
-use instance::{Shape, Sizes};
+use counts::Family;
+use instance::{Problem, Shape};
 use variables::{Agent, Step, Variable, Vertex};
 
 // Variables at one distance from each to the next.
@@ -123,16 +125,16 @@ fn write_e(f: &mut [i32], s: Shape, t: Step, v: Vertex) -> usize
 }
 
 // F, of time t and agent a.
-fn write_f(f: &mut [i32], s: Shape, near: &[u64; 64], t: Step, a: Agent) -> usize
-    requires limits { ((v : ℕ) → v < 64 → get_or near.now v 0 < 2 ^ s.sizes.n) }
-    requires t_lt_m { (t.0 < s.sizes.m) × (a.0 < s.sizes.k) }
-    requires a_in_bounds { length (each line (block_f s.sizes (joined near.now) t.0 a.0)) ≤ length f.old }
-    ensures { Wrote (each line (block_f s.sizes (joined near.now) t.0 a.0)) f.old f.new result }
+fn write_f(f: &mut [i32], problem: &Problem, t: Step, a: Agent) -> usize
+    requires t_lt_m { (t.0 < problem.now.shape.sizes.m) × (a.0 < problem.now.shape.sizes.k) }
+    requires a_in_bounds { length (each line (block_f problem.now.shape.sizes (joined problem.now.near) t.0 a.0)) ≤ length f.old }
+    ensures { Wrote (each line (block_f problem.now.shape.sizes (joined problem.now.near) t.0 a.0)) f.old f.new result }
 {
+    let s = problem.shape;
     let n = s.sizes.n;
     let mut at: usize = 0;
     for v in 0..n {
-        at += clauses::put_onward(&mut f[at..], s, near[v], t, a, Vertex(v));
+        at += clauses::put_onward(&mut f[at..], s, problem.near[v], t, a, Vertex(v));
     }
     at
 }
@@ -252,14 +254,14 @@ fn write_from(f: &mut [i32], s: Shape, word: u64, t: Step, u: Vertex) -> usize
 }
 
 // G, of time t and x: an agent under rule 1, a low end under rule 2.
-fn write_g(f: &mut [i32], s: Shape, near: &[u64; 64], t: Step, x: usize) -> usize
-    requires limits { ((v : ℕ) → v < 64 → get_or near.now v 0 < 2 ^ s.sizes.n) }
-    requires t_lt_m { (t.0 < s.sizes.m) × (x < blocks_at s.sizes 6) }
-    requires x_in_bounds { length (each line (block_g s.sizes (joined near.now) t.0 x)) ≤ length f.old }
-    ensures { Wrote (each line (block_g s.sizes (joined near.now) t.0 x)) f.old f.new result }
+fn write_g(f: &mut [i32], problem: &Problem, t: Step, x: usize) -> usize
+    requires t_lt_m { (t.0 < problem.now.shape.sizes.m) × (x < blocks_at problem.now.shape.sizes 6) }
+    requires x_in_bounds { length (each line (block_g problem.now.shape.sizes (joined problem.now.near) t.0 x)) ≤ length f.old }
+    ensures { Wrote (each line (block_g problem.now.shape.sizes (joined problem.now.near) t.0 x)) f.old f.new result }
 {
+    let s = problem.shape;
     if s.sizes.rule == 2 {
-        return write_from(f, s, near[x], t, Vertex(x));
+        return write_from(f, s, problem.near[x], t, Vertex(x));
     }
     write_following(f, s, t, Agent(x))
 }
@@ -267,71 +269,50 @@ fn write_g(f: &mut [i32], s: Shape, near: &[u64; 64], t: Step, x: usize) -> usiz
 // A family's block of t and x.
 pub fn write_block(
     f: &mut [i32],
-    s: Sizes,
-    starts: &[u8; 16],
-    goals: &[u8; 16],
-    near: &[u64; 64],
-    which: usize,
+    problem: &Problem,
+    which: Family,
     t: usize,
     x: usize,
 ) -> usize
-    requires ready { Ready s starts.now goals.now near.now }
-    requires which_bound { (which < 7) × (t < times s which) × (x < blocks_at s which) }
-    requires x_in_bounds { length (each line (block (held_in s starts.now goals.now near.now) which t x)) ≤ length f.old }
-    ensures { Wrote (each line (block (held_in s starts.now goals.now near.now) which t x)) f.old f.new result }
+    requires t_lt_times { (t < times problem.now.shape.sizes (place_of which)) × (x < blocks_at problem.now.shape.sizes (place_of which)) }
+    requires x_in_bounds { length (each line (block (held (checked_of problem.now)) (place_of which) t x)) ≤ length f.old }
+    ensures { Wrote (each line (block (held (checked_of problem.now)) (place_of which) t x)) f.old f.new result }
 {
+    let s = problem.shape;
     match which {
-        0 => write_unit(f, s, Step(0), starts, Agent(x)),
-        1 => write_goal(f, s, goals, Agent(x)),
-        2 => clauses::put_somewhere(f, s, Step(t), Agent(x)),
-        3 => write_d(f, s, Step(t), Agent(x)),
-        4 => write_e(f, s, Step(t), Vertex(x)),
-        5 => write_f(f, s, near, Step(t), Agent(x)),
-        _ => write_g(f, s, near, Step(t), x),
+        Family::A => write_unit(f, s, Step(0), &problem.starts, Agent(x)),
+        Family::B => write_goal(f, s, &problem.goals, Agent(x)),
+        Family::C => clauses::put_somewhere(f, s, Step(t), Agent(x)),
+        Family::D => write_d(f, s, Step(t), Agent(x)),
+        Family::E => write_e(f, s, Step(t), Vertex(x)),
+        Family::F => write_f(f, problem, Step(t), Agent(x)),
+        Family::G => write_g(f, problem, Step(t), x),
     }
 }
 
 // The blocks of t.
-fn write_step(
-    f: &mut [i32],
-    s: Sizes,
-    starts: &[u8; 16],
-    goals: &[u8; 16],
-    near: &[u64; 64],
-    which: usize,
-    t: usize,
-) -> usize
-    requires ready { Ready s starts.now goals.now near.now }
-    requires which_bound { (which < 7) × (t < times s which) }
-    requires t_in_bounds { length (each line (for (blocks_at s which) (block (held_in s starts.now goals.now near.now) which t))) ≤ length f.old }
-    ensures { Wrote (each line (for (blocks_at s which) (block (held_in s starts.now goals.now near.now) which t))) f.old f.new result }
+fn write_step(f: &mut [i32], problem: &Problem, which: Family, t: usize) -> usize
+    requires t_lt_times { t < times problem.now.shape.sizes (place_of which) }
+    requires t_in_bounds { length (each line (for (blocks_at problem.now.shape.sizes (place_of which)) (block (held (checked_of problem.now)) (place_of which) t))) ≤ length f.old }
+    ensures { Wrote (each line (for (blocks_at problem.now.shape.sizes (place_of which)) (block (held (checked_of problem.now)) (place_of which) t))) f.old f.new result }
 {
-    let end = counts::blocks_at(s, which);
+    let end = counts::blocks_at(problem.shape, which);
     let mut at: usize = 0;
     for x in 0..end {
-        at += write_block(&mut f[at..], s, starts, goals, near, which, t, x);
+        at += write_block(&mut f[at..], problem, which, t, x);
     }
     at
 }
 
 // A family.
-pub fn write_family(
-    f: &mut [i32],
-    s: Sizes,
-    starts: &[u8; 16],
-    goals: &[u8; 16],
-    near: &[u64; 64],
-    which: usize,
-) -> usize
-    requires ready { Ready s starts.now goals.now near.now }
-    requires which_bound { which < 7 }
-    requires which_in_bounds { length (each line (family (held_in s starts.now goals.now near.now) which)) ≤ length f.old }
-    ensures { Wrote (each line (family (held_in s starts.now goals.now near.now) which)) f.old f.new result }
+pub fn write_family(f: &mut [i32], problem: &Problem, which: Family) -> usize
+    requires { length (each line (family (held (checked_of problem.now)) (place_of which))) ≤ length f.old }
+    ensures { Wrote (each line (family (held (checked_of problem.now)) (place_of which))) f.old f.new result }
 {
-    let end = counts::times_of(s, which);
+    let end = counts::times_of(problem.shape, which);
     let mut at: usize = 0;
     for t in 0..end {
-        at += write_step(&mut f[at..], s, starts, goals, near, which, t);
+        at += write_step(&mut f[at..], problem, which, t);
     }
     at
 }

@@ -16,7 +16,7 @@ pub write_no_two-requires : goal.write_no_two-requires
 write_no_two-requires c =
     let s = c.args in
     let e = c.variable_of-first.ensures.0 in
-    record { stride_bound = omega (arith, e, agents_fit s.s s.t.0 c.args.s.limits s.v.0 c.requires.t_le_m.0 c.requires.t_le_m.1); run_in_bounds = rw (agents s.s s.t.0 s.v.0 _ e) c.requires.v_in_bounds }
+    record { stride_bound = omega (arith, e, agents_fit s.s.sizes s.t.0 c.args.s.limits s.v.0 c.requires.t_le_m.0 c.requires.t_le_m.1); run_in_bounds = rw (agents s.s.sizes s.t.0 s.v.0 _ e) c.requires.v_in_bounds }
 
 pub returns : goal.returns
 returns c = rw (agents c.args.s.sizes c.args.t.0 c.args.v.0 _ c.variable_of-first.ensures.0) at c.write_no_two.ensures

@@ -12,7 +12,7 @@ abbrev pub clause : Sizes → List ℕ → ℕ → ℕ → ℕ → Clause
 clause s near t a v = onward s (joined near v) t a v
 
 abbrev pub invariant-loop-v : goal.invariant-loop-v
-invariant-loop-v l = Filling (λ k. each line (clause l.s.sizes l.near l.t.0 l.a.0 k ∷ [])) l.n l.initial.f l.v l.at l.f
+invariant-loop-v l = Filling (λ k. each line (clause l.problem.shape.sizes l.problem.near l.t.0 l.a.0 k ∷ [])) l.n l.initial.f l.v l.at l.f
 
 abbrev pub decreases-loop-v : goal.decreases-loop-v
 decreases-loop-v l = l.n - l.v

@@ -5,23 +5,25 @@ use borrow.Author.Rules.{rules}
 use lib.ListN.{length-take, length-drop}
 use Rattle.lists.proofs.Slices.{each_filling, filling_room, filling_next, each_filled}
 use Rattle.formula.specs.Formula.{line}
-use Rattle.formula.specs.Blocks.{Given, blocks_at, held_in, block}
+use Rattle.instance.specs.Problem.{checked_of}
+use Rattle.counts.specs.Families.{place_of}
+use Rattle.formula.specs.Blocks.{Given, blocks_at, held, block}
 use Rattle.families.proofs.write_step.Goals as goal
 
 pub loop-x-init : goal.loop-x-init
 loop-x-init c =
-    let given : Given = held_in c.args.s c.args.starts.now c.args.goals.now c.args.near.now in
-    each_filling line (block given c.args.which c.args.t) c.requires.t_in_bounds
+    let given : Given = held (checked_of c.args.problem.now) in
+    each_filling line (block given (place_of c.args.which) c.args.t) c.requires.t_in_bounds
 
 pub write_block-at-requires : goal.write_block-at-requires
 write_block-at-requires c =
-    let turn : c.loop-x.x < blocks_at c.args.s c.args.which = omega (arith, c.blocks_at-end.ensures.0) in
+    let turn : c.loop-x.x < blocks_at c.args.problem.now.shape.sizes (place_of c.args.which) = omega (arith, c.blocks_at-end.ensures.0) in
     simp (length-take, length-drop)
-    (let r = filling_room c.loop-x.invariant turn in record { ready = c.requires.ready; which_bound = (c.requires.which_bound.0, c.requires.which_bound.1, turn); x_in_bounds = search rules })
+    (let r = filling_room c.loop-x.invariant turn in record { t_lt_times = (c.requires.t_lt_times, turn); x_in_bounds = search rules })
 
 pub loop-x-preserved : goal.loop-x-preserved
 loop-x-preserved c =
-    let turn : c.loop-x.x < blocks_at c.args.s c.args.which = omega (arith, c.blocks_at-end.ensures.0) in
+    let turn : c.loop-x.x < blocks_at c.args.problem.now.shape.sizes (place_of c.args.which) = omega (arith, c.blocks_at-end.ensures.0) in
     filling_next c.loop-x.invariant turn c.write_block-at.ensures
 
 pub overflow_add-at : goal.overflow_add-at
@@ -29,11 +31,8 @@ overflow_add-at c = let q = (loop-x-preserved c).fits in omega arith
 
 pub returns : goal.returns
 returns c =
-    let given : Given = held_in c.args.s c.args.starts.now c.args.goals.now c.args.near.now in
-    each_filled line (block given c.args.which c.args.t) c.loop-x.invariant (omega (arith, c.blocks_at-end.ensures.0))
-
-pub blocks_at-end-requires : goal.blocks_at-end-requires
-blocks_at-end-requires c = c.requires.which_bound.0
+    let given : Given = held (checked_of c.args.problem.now) in
+    each_filled line (block given (place_of c.args.which) c.args.t) c.loop-x.invariant (omega (arith, c.blocks_at-end.ensures.0))
 
 pub shape_of-f : goal.shape_of-f
 shape_of-f c = c.loop-x.invariant.same
