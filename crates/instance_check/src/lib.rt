@@ -6,7 +6,7 @@ ghost use Rattle.lists.specs.Loop.{every};
 ghost use Rattle.lists.specs.Slice.{filled};
 ghost use Rattle.answers.specs.Answers.{Question, decide};
 ghost use Rattle.answers.specs.Returned.{asked, refused};
-ghost use Rattle.answers.specs.Fault.{FirstFault};
+ghost use Rattle.answers.specs.Fault.{FirstFailing};
 ghost use Rattle.instance.specs.Instance.{free, instance, vertices, agents, edges, neighbour_words, joined, Edges};
 ghost use Rattle.instance.specs.Questions.{question2, question3, question4, question5, question6, question7, question8, question9, question10, question31, proper_edge, later_edge, new_vertex, instance_answer, instance_checked};
 ghost use Rattle.instance.specs.Problem.{checked_of};
@@ -21,9 +21,9 @@ fn sizes_of(b: &[u8], m: usize, rule: usize) -> Sizes
     requires { 4 ≤ length b.now }
     ensures { Read b.now result × (result.m ≡ m) × (result.rule ≡ rule) }
 {
-    let n = numbers::wide(b[0]);
-    let k = numbers::wide(b[1]);
-    let e = numbers::wide(b[2]) + 256 * numbers::wide(b[3]);
+    let n = usize::from(b[0]);
+    let k = usize::from(b[1]);
+    let e = usize::from(u16::from_le_bytes([b[2], b[3]]));
     Sizes {
         n,
         k,
@@ -93,40 +93,38 @@ fn all_later(b: &[u8], e: usize) -> bool
     ensures { result ≡ every (edges b.now - 1) (λ i. later_edge b.now (suc i) i) }
 {
     let mut all = true;
-    let mut i: usize = 0;
-    while i + 1 < e {
+    let pairs = e.saturating_sub(1);
+    for i in 0..pairs {
         all = all & later_edge(b, e, i);
-        i += 1;
     }
     all
 }
 
-// The first edge that is not proper, or e.
-fn edge_fault(b: &[u8], e: usize) -> usize
+// The first edge that is not proper.
+fn edge_fault(b: &[u8], e: usize) -> Option<usize>
     requires { (4 + e + e ≤ length b.now) × (e ≡ edges b.now) }
-    ensures { FirstFault (edges b.now) (proper_edge b.now) result }
+    ensures { FirstFailing (edges b.now) (proper_edge b.now) result }
 {
     for j in 0..e {
         if !proper_edge(b, e, j) {
-            return j;
+            return Some(j);
         }
     }
-    e
+    None
 }
 
-// The first i such that edge i + 1 does not come after edge i, or e - 1.
-fn order_fault(b: &[u8], e: usize) -> usize
+// The first i such that edge i + 1 does not come after edge i.
+fn order_fault(b: &[u8], e: usize) -> Option<usize>
     requires { (4 + e + e ≤ length b.now) × (e ≡ edges b.now) }
-    ensures { FirstFault (edges b.now - 1) (λ i. later_edge b.now (suc i) i) result }
+    ensures { FirstFailing (edges b.now - 1) (λ i. later_edge b.now (suc i) i) result }
 {
-    let mut i: usize = 0;
-    while i + 1 < e {
+    let pairs = e.saturating_sub(1);
+    for i in 0..pairs {
         if !later_edge(b, e, i) {
-            return i;
+            return Some(i);
         }
-        i += 1;
     }
-    i
+    None
 }
 
 // Questions 6 and 7, where some edge fails one of them: the refusal, whatever is asked later.
@@ -134,35 +132,34 @@ fn edge_refusal(b: &[u8], e: usize) -> Refusal
     requires { (4 + e + e ≤ length b.now) × (e ≡ edges b.now) × (every (edges b.now) (proper_edge b.now) && every (edges b.now - 1) (λ i. later_edge b.now (suc i) i) ≡ false) }
     ensures { (later : List Question) → refused result ≡ decide (question6 b.now ∷ question7 b.now ∷ later) 0 }
 {
-    let j = edge_fault(b, e);
-    if j < e {
+    if let Some(j) = edge_fault(b, e) {
         return Reason::ImproperEdge.at(4 + j);
     }
-    Reason::EdgeOrder.at(5 + order_fault(b, e))
+    Reason::EdgeOrder.at(5 + order_fault(b, e).unwrap())
 }
 
-// The first of k bytes, from an offset on, that is no vertex or like an earlier one, or k. Where `optional`, as for goals, 255 is passed
+// The first of k bytes, from an offset on, that is no vertex or like an earlier one. Where `optional`, as for goals, 255 is passed
 // over.
-fn vertex_fault(b: &[u8], offset: usize, k: usize, optional: bool) -> usize
+fn vertex_fault(b: &[u8], offset: usize, k: usize, optional: bool) -> Option<usize>
     requires { (offset + k ≤ length b.now) × (0 < length b.now) × (k ≡ agents b.now) × (vertices b.now ≤ 64) }
-    ensures { FirstFault (agents b.now) (λ a. (optional && free (get_or b.now (offset + a) 0)) || new_vertex b.now (λ c. get_or b.now (offset + c) 0) a) result }
+    ensures { FirstFailing (agents b.now) (λ a. (optional && free (get_or b.now (offset + a) 0)) || new_vertex b.now (λ c. get_or b.now (offset + c) 0) a) result }
 {
-    let n = numbers::wide(b[0]);
+    let n = usize::from(b[0]);
     let mut seen = [false; 64];
     for a in 0..k {
         let x = b[offset + a];
         if !(optional & goals::is_free(x)) {
-            let v = numbers::wide(x);
+            let v = usize::from(x);
             if n <= v {
-                return a;
+                return Some(a);
             }
             if seen[v] {
-                return a;
+                return Some(a);
             }
             seen[v] = true;
         }
     }
-    k
+    None
 }
 
 // Questions 6 to 10 and 31, where the length is right.
@@ -175,13 +172,11 @@ fn ask_items(b: &[u8], s: Sizes) -> Result<(), Refusal>
         return Err(edge_refusal(b, e));
     }
     let starts = 4 + 2 * e;
-    let a = vertex_fault(b, starts, k, false);
-    if a < k {
+    if let Some(a) = vertex_fault(b, starts, k, false) {
         return Err(Reason::BadStart.at(starts + a));
     }
     let goals = starts + k;
-    let c = vertex_fault(b, goals, k, true);
-    if c < k {
+    if let Some(c) = vertex_fault(b, goals, k, true) {
         return Err(Reason::BadGoal.at(goals + c));
     }
     if 32 < s.m {
@@ -198,10 +193,8 @@ fn for_agents(b: &[u8], offset: usize, k: usize) -> [u8; 16]
     requires { (k ≤ 16) × (offset + k ≤ length b.now) }
     ensures { result ≡ filled (take k (drop offset b.now)) (replicate 16 0) }
 {
-    let mut row = [0u8; 16];
-    for a in 0..k {
-        row[a] = b[offset + a];
-    }
+    let mut row = [0; 16];
+    row[..k].copy_from_slice(&b[offset..offset + k]);
     row
 }
 
@@ -223,14 +216,14 @@ fn mark_run(near: &mut [u64], b: &[u8], e: usize, from: usize) -> usize
     requires ends { Ends b.now × Marked b.now from near.old }
     ensures { (from < result) × (result ≤ e) × Marked b.now result near.new }
 {
-    let low = numbers::wide(b[4 + from]);
+    let low = usize::from(b[4 + from]);
     let mut row = near[low];
     let mut j = from;
     while j < e {
-        if numbers::wide(b[4 + j]) != low {
+        if usize::from(b[4 + j]) != low {
             break;
         }
-        let high = numbers::wide(b[4 + e + j]);
+        let high = usize::from(b[4 + e + j]);
         row = bits::with_bit(row, high);
         near[high] = bits::with_bit(near[high], low);
         j += 1;
@@ -246,11 +239,11 @@ fn mark_edges(near: &mut [u64], b: &[u8], n: usize, e: usize, from: usize) -> us
     requires edges { Edges (instance b.now 0 1) × Marked b.now from near.old }
     ensures { (from < result) × (result ≤ e) × Marked b.now result near.new }
 {
-    let low = numbers::wide(b[4 + from]);
-    let high = numbers::wide(b[4 + e + from]);
+    let low = usize::from(b[4 + from]);
+    let high = usize::from(b[4 + e + from]);
     let to = from + (n - high);
     if to <= e {
-        if numbers::wide(b[3 + to]) == low {
+        if usize::from(b[3 + to]) == low {
             mark_fan(near, low, high, n);
             return to;
         }

@@ -9,7 +9,7 @@ pub loop-j-init : goal.loop-j-init
 loop-j-init c = (omega arith, below_none _)
 
 pub returns-then-not-proper_edge : goal.returns-then-not-proper_edge
-returns-then-not-proper_edge c = fault_at (omega arith) c.loop-j.invariant.1 (fails c.proper_edge.ensures (not-true _ c.if-not-proper_edge.true-raw))
+returns-then-not-proper_edge c = (omega arith, fault_at (omega arith) c.loop-j.invariant.1 (fails c.proper_edge.ensures (not-true _ c.if-not-proper_edge.true-raw)))
 
 pub loop-j-preserved : goal.loop-j-preserved
 loop-j-preserved c = (omega arith, below_more _ _ c.loop-j.invariant.1 (holds c.proper_edge.ensures (not-false _ c.if-not-proper_edge.false-raw)))
