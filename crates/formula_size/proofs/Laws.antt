@@ -1,14 +1,18 @@
 -- The size of any formula, from its counts; and the counts of the pruned formula, by the table.
-use mathlib.Core.Path.{◌≡◌, sym, ◌∙◌, ap, ap₂}
-use mathlib.Core.Logic.{◌≢◌}
+use mathlib.Core.Path.{◌≡◌, refl, sym, ◌∙◌, ap, ap₂}
 use mathlib.Core.List.{List}
 use Prim.Native.Nat.{ℕ, ◌+◌, ◌*◌, ◌<◌}
 use native.Mathlib.Omega.{arith}
 use lib.ListN.{length, get_or}
-use Rattle.answers.specs.declared.Answer.{Answer}
+use Rattle.std.specs.Prelude.{Ok, Err}
+use Rattle.answers.specs.declared.Refusal.{Refusal}
 use Rattle.answers.specs.Answers.{accept, with_clauses}
+use Rattle.answers.specs.Returned.{refused, size_of}
+use Rattle.answers.proofs.Returned.{refusal_numbered, size_refused}
 use Rattle.instance.specs.declared.Sizes.{Sizes}
 use Rattle.instance.specs.declared.Checked.{Checked}
+use Rattle.instance.specs.declared.problem.Problem.{Problem}
+use Rattle.instance.specs.Problem.{checked_of}
 use Rattle.instance.specs.Instance.{Instance, instance}
 use Rattle.instance.specs.Questions.{instance_questions, instance_answer, instance_checked}
 use Rattle.instance.specs.Accepted.{Accepted, instance_of}
@@ -27,18 +31,21 @@ use Rattle.calls.specs.Calls.{size_answer}
 use Rattle.calls.proofs.Size.{size_refuses, size_accepts}
 use Rattle.formula_size.specs.ByTable.{count_by_table}
 
--- the answer of the instance check is a, the checked instance c
-module _ (f : Instance → Formula) (b : List ℕ) (m rule : ℕ) (a : Answer) (c : Checked) (ea : a ≡ instance_answer b m rule) (ec : c ≡ instance_checked b m rule) where
-  pub refuses : a.number ≢ 0 → with_clauses a 0 ≡ size_answer f b m rule
+-- what the instance check returns is the size call's refusal e, or the problem p, whose formula has x words and y clauses
+module _ (f : Instance → Formula) (b : List ℕ) (m rule : ℕ) where
+  pub refuses : (e : Refusal) → refused e ≡ instance_answer b m rule → size_of (Err e) ≡ size_answer f b m rule
   unfolding size_answer instance_answer
-  refuses d = size_refuses (instance_questions b m rule) (numbered_instance b m rule) (f (instance b m rule)) a ea d
+  refuses e h =
+      size_refused e 0
+      ∙ size_refuses (instance_questions b m rule) (numbered_instance b m rule) (f (instance b m rule)) (refused e) h (refusal_numbered e)
 
-  pub accepts : a.number ≡ 0 → (x y : ℕ) → length (words (f (instance_of b c))) ≡ x → length (f (instance_of b c)).clauses ≡ y
-      → with_clauses (accept x) y ≡ size_answer f b m rule
-  unfolding size_answer instance_answer
-  accepts o x y ex ey =
-      let same = sym (horizon b m rule a c ea ec o) in
-      size_accepts (instance_questions b m rule) (numbered_instance b m rule) (f (instance b m rule)) a ea o x y
+  pub accepts : (p : Problem) → accept 0 ≡ instance_answer b m rule → checked_of p ≡ instance_checked b m rule → (x y : ℕ)
+      → length (words (f (instance_of b (checked_of p)))) ≡ x → length (f (instance_of b (checked_of p))).clauses ≡ y
+      → size_of (Ok (record { words = x; clauses = y })) ≡ size_answer f b m rule
+  unfolding size_answer instance_answer with_clauses
+  accepts p ea ec x y ex ey =
+      let same = sym (horizon b m rule (accept 0) (checked_of p) ea ec refl) in
+      size_accepts (instance_questions b m rule) (numbered_instance b m rule) (f (instance b m rule)) (accept 0) ea refl x y
       (ap (λ (I : Instance). length (words (f I))) same ∙ ex) (ap (λ (I : Instance). length (f I).clauses) same ∙ ey)
 
 module _ (b : List ℕ) (c : Checked) (w : Accepted b c) (table : List (List ℕ)) (t : TableOf c.sizes.n c.near table) where

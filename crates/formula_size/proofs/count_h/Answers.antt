@@ -15,20 +15,17 @@ pub loop-a-init : goal.loop-a-init
 loop-a-init c = (omega arith, (refl, omega arith))
 
 pub row_for-from-requires : goal.row_for-from-requires
-row_for-from-requires c = (omega (arith, c.requires.0.limits.k_most, c.loop-a-test.true), omega (arith, c.requires.0.starts_below c.loop-a.a c.loop-a-test.true, c.requires.0.limits.n_most, c.requires.1))
+row_for-from-requires c = (omega (arith, c.args.problem.now.ready.limits.k_most, c.loop-a-test.true), omega (arith, c.args.problem.now.ready.starts_below c.loop-a.a c.loop-a-test.true, c.args.problem.now.ready.limits.n_most, c.requires))
 
 pub goal_row-to-requires : goal.goal_row-to-requires
-goal_row-to-requires c = (omega (arith, c.requires.0.limits.k_most, c.loop-a-test.true), λ g. omega (arith, c.requires.0.goals_below c.loop-a.a c.loop-a-test.true g, c.requires.0.limits.n_most, c.requires.1))
-
-pub count_for-count-requires : goal.count_for-count-requires
-count_for-count-requires c = c.requires.0.limits
+goal_row-to-requires c = (omega (arith, c.args.problem.now.ready.limits.k_most, c.loop-a-test.true), λ g. omega (arith, c.args.problem.now.ready.goals_below c.loop-a.a c.loop-a-test.true g, c.args.problem.now.ready.limits.n_most, c.requires))
 
 pub overflow_add-count : goal.overflow_add-count
-overflow_add-count c = omega (arith, c.count_for-count.ensures.1, c.requires.0.limits.k_most, c.loop-a.invariant.1.1)
+overflow_add-count c = omega (arith, c.count_for-count.ensures.1, c.args.problem.now.ready.limits.k_most, c.loop-a.invariant.1.1)
 
 pub loop-a-preserved : goal.loop-a-preserved
 loop-a-preserved c =
-    let e = ap₂ (λ (from to : List ℕ). share c.args.c.sizes (λ v. get_or from v 0) (λ v. get_or to v 0)) c.row_for-from.ensures c.goal_row-to.ensures in (
+    let e = ap₂ (λ (from to : List ℕ). share c.args.problem.now.shape.sizes (λ v. get_or from v 0) (λ v. get_or to v 0)) c.row_for-from.ensures c.goal_row-to.ensures in (
       omega arith,
       (rw (add-one c.loop-a.a) (ap₂ ◌+◌ c.loop-a.invariant.1.0 (c.count_for-count.ensures.0 ∙ e)), omega (arith, c.count_for-count.ensures.1, c.loop-a.invariant.1.1)),
     )
@@ -36,5 +33,5 @@ loop-a-preserved c =
 pub returns : goal.returns
 unfolding count_h
 returns c =
-    let e : c.loop-a.a ≡ c.args.c.sizes.k = omega arith in
-    (c.loop-a.invariant.1.0 ∙ ap (λ (j : ℕ). sum j (λ i. share c.args.c.sizes (by_table c.args.table.now c.args.c.starts i) (goal_by c.args.table.now c.args.c.goals i))) e, omega (arith, c.requires.0.limits.k_most, c.loop-a.invariant.1.1))
+    let e : c.loop-a.a ≡ c.args.problem.now.shape.sizes.k = omega arith in
+    (c.loop-a.invariant.1.0 ∙ ap (λ (j : ℕ). sum j (λ i. share c.args.problem.now.shape.sizes (by_table c.args.table.now c.args.problem.now.starts i) (goal_by c.args.table.now c.args.problem.now.goals i))) e, omega (arith, c.args.problem.now.ready.limits.k_most, c.loop-a.invariant.1.1))

@@ -12,7 +12,7 @@ share s from to = sum s.n λ v. min (suc s.m) (from v + to v)
 
 abbrev pub invariant-loop-a : goal.invariant-loop-a
 invariant-loop-a l =
-    (l.a ≤ l.k) × ((l.count ≡ sum l.a (λ i. share l.s (by_table l.table l.starts i) (goal_by l.table l.goals i))) × (l.count ≤ l.a * 2112))
+    (l.a ≤ l.s.sizes.k) × ((l.count ≡ sum l.a (λ i. share l.s.sizes (by_table l.table l.problem.starts i) (goal_by l.table l.problem.goals i))) × (l.count ≤ l.a * 2112))
 
 abbrev pub decreases-loop-a : goal.decreases-loop-a
-decreases-loop-a l = l.k - l.a
+decreases-loop-a l = l.s.sizes.k - l.a

@@ -4,7 +4,4 @@ use Rattle.formula.proofs.Limits.{words_top}
 use Rattle.formula_size.proofs.pruned_words.Goals as goal
 
 pub overflow_add-result : goal.overflow_add-result
-overflow_add-result c = omega (arith, c.requires.1, c.word_count.ensures, words_top c.args.s c.requires.0)
-
-pub returns : goal.returns
-returns c = omega (arith, c.word_count.ensures)
+overflow_add-result c = omega (arith, c.word_count.ensures, words_top c.args.s.sizes c.args.s.limits)
