@@ -1,25 +1,20 @@
 -- The conditions as the code tests them.
-use mathlib.Core.Path.{◌≡◌, refl, ap, subst, ◌∙◌}
-use mathlib.Core.List.{List}
+use mathlib.Core.Path.{◌≡◌, refl, ap, ◌∙◌}
 use mathlib.Core.Logic.{◌≢◌}
 use mathlib.Core.Bool.{Bool, true, false, not, ◌&&◌, ◌||◌}
 use Prim.Native.Nat.{ℕ, ◌+◌, ◌^◌}
 use native.Mathlib.Numerals.{add-one}
 use borrow.Author.Tests.{eq-eqb, ne_eqb}
-use native.Mathlib.Omega.{arith}
-use lib.ListN.{length, get_or}
 use lib.Dec.{eqb}
 use Rattle.std.specs.Prelude.{Option, is_none}
-use Rattle.std.specs.List.{zip}
-use Rattle.std.proofs.lemmas.Slice.Zip.{length-zip, get_or-zip}
 use lib.Bits.{bit_or}
 use Rattle.bits.specs.Bits.{set?}
 use Rattle.bits.proofs.Bits.{bit_zero, set_or, set_pow}
 use Rattle.answers.specs.Fault.{FirstFailing}
-use Rattle.answers.proofs.Faults.{fault_ext, failing_map, failing_every}
+use Rattle.answers.proofs.Faults.{failing_every}
 use Rattle.instance.specs.declared.Sizes.{Sizes}
 use Rattle.conditions.specs.Inside.{Standing}
-use Rattle.plan.specs.Plan.{Row, row, condition1, condition2, condition3}
+use Rattle.plan.specs.Plan.{Row, condition1, condition2, condition3}
 
 not_or : (x y : Bool) → not (x || y) ≡ not x && not y
 not_or true y = refl
@@ -62,13 +57,3 @@ standing_next here a word v more h e f w =
 -- a bit that was asked for by a number equal to it
 pub unset : (word : ℕ) {v w : ℕ} {r : Bool} → v ≡ w → r ≡ set? word v → not r ≡ not (set? word w)
 unset word e f = rw (f, e)
-
--- the first pair of two rows that is this one
-pub first_pair : (xs ys : List ℕ) → length xs ≡ length ys → (x y : ℕ) (r : Option ℕ)
-    → FirstFailing (length (zip xs ys)) (λ i. not (eqb (get_or (zip xs ys) i (0, 0)).0 x && eqb (get_or (zip xs ys) i (0, 0)).1 y)) r
-    → FirstFailing (length xs) (λ a. not (eqb (row xs a) x && eqb (row ys a) y)) r
-first_pair xs ys e x y r f =
-    let n : length (zip xs ys) ≡ length xs = length-zip xs ys ∙ omega arith in
-    failing_map r
-    (λ i h. fault_ext (λ a l. ap (λ (p : ℕ × ℕ). not (eqb p.0 x && eqb p.1 y)) (get_or-zip xs ys a (0, 0) l (omega arith))) h)
-    (subst (λ (k : ℕ). FirstFailing k (λ i. not (eqb (get_or (zip xs ys) i (0, 0)).0 x && eqb (get_or (zip xs ys) i (0, 0)).1 y)) r) n f)
