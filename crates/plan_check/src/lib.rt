@@ -1,7 +1,7 @@
 // The plan check: questions 1 to 10, 31, 13 and 17 to 22, of any bytes and any numbers given as horizon and rule.
 #![tactic(auto)]
 
-ghost use Rattle.std.specs.Prelude.{◌≡◌, suc, ◌+◌, ◌<◌, ◌≤◌, length, get_or, T, ltb, eqb, ◌||◌, ◌≢◌};
+ghost use Rattle.std.specs.Prelude.{◌≡◌, suc, ◌+◌, ◌-◌, ◌<◌, ◌≤◌, length, get_or, T, ltb, eqb, ◌||◌, ◌≢◌};
 ghost use Rattle.lists.specs.Loop.{for};
 ghost use Rattle.answers.specs.Answers.{decide};
 ghost use Rattle.answers.specs.Returned.{number_of, asked, answer_of};
@@ -128,12 +128,13 @@ pub fn ask_plan(problem: &Problem, p: &[u8]) -> Result<(), Refusal>
     Ok(())
 }
 
-// The time until rest of agent a within the first `steps` steps: where its last move there ends, or 0.
-pub fn rest_time(s: Sizes, p: &[u8], steps: usize, a: usize) -> usize
-    requires { (length p.now ≡ plan_bytes s) × (steps ≤ s.m) × (a < s.k) }
-    ensures { result ≡ rest_time steps (plan_row s p.now) a }
+// The time until rest of agent a in the first `rows` rows: where its last move there ends, or 0.
+pub fn rest_time(s: Sizes, p: &[u8], rows: usize, a: usize) -> usize
+    requires { (length p.now ≡ plan_bytes s) × (rows ≤ s.m + 1) × (a < s.k) }
+    ensures { result ≡ rest_time (rows - 1) (plan_row s p.now) a }
 {
     let mut rest = 0;
+    let steps = rows.saturating_sub(1);
     for t in 0..steps {
         let row = t * s.k;
         let next = row + s.k;
@@ -149,9 +150,10 @@ pub fn plan_cost(s: Shape, p: &[u8]) -> usize
     requires { length p.now ≡ plan_bytes s.sizes }
     ensures { result ≡ cost s.sizes p.now }
 {
+    let rows = s.sizes.m + 1;
     let mut cost = 0;
     for a in 0..s.sizes.k {
-        cost += rest_time(s.sizes, p, s.sizes.m, a);
+        cost += rest_time(s.sizes, p, rows, a);
     }
     cost
 }
