@@ -1,16 +1,17 @@
 -- Blocks of clauses as the loops write them.
-use mathlib.Core.Path.{◌≡◌, ap, fun_ext}
+use mathlib.Core.Path.{◌≡◌, refl, ◌∙◌, ap, fun_ext}
 use mathlib.Core.Logic.{◌≢◌}
 use mathlib.Core.Bool.{Bool, true}
-use mathlib.Core.List.{List, [], ◌∷◌, append-nil}
-use Prim.Native.Nat.{ℕ, suc, ◌+◌, ◌*◌, ◌≤◌, ◌<◌}
+use mathlib.Core.List.{List, [], ◌∷◌, ◌++◌, append-nil}
+use Prim.Native.Nat.{ℕ, suc, ◌+◌, ◌-◌, ◌*◌, ◌≤◌, ◌<◌}
 use native.Mathlib.Nat.{suc-mul, mul-le-mul_right}
 use native.Mathlib.Omega.{arith}
 use borrow.Author.Tests.{lt-ltb, le-ltb, eq-eqb, ne_eqb}
 use lib.ListN.{length}
 use lib.IntN.{ℤ, pos, neg_ℤ}
-use Rattle.lists.specs.Loop.{when, each}
+use Rattle.lists.specs.Loop.{for, when, each}
 use Rattle.lists.specs.Slice.{Wrote}
+use Rattle.lists.proofs.Loops.{for_ext, for_split, for_nil}
 use Rattle.instance.specs.declared.Sizes.{Sizes}
 use Rattle.formula.specs.Variables.{Literal, index, highest}
 use Rattle.formula.specs.Formula.{Clause, line, no_two, block_d, block_e, exchange}
@@ -38,8 +39,14 @@ module _ (¬x : ℕ → Literal) where
   pub above_none : (i j : ℕ) → j < suc i → above ¬x i j ≡ []
   above_none i j l = rw (le-ltb i j (omega arith))
 
-  pub above_one : {i j : ℕ} (s f : List ℤ) {r : ℕ} → i < j → Wrote (line (¬x i ∷ ¬x j ∷ [])) s f r → Wrote (each line (above ¬x i j)) s f r
-  above_one {i} {j} s f l w = rw (lt-ltb i j l) (one (¬x i ∷ ¬x j ∷ []) s f w)
+  -- those that i begins
+  pub above_after : (i n : ℕ) → i < n → for n (above ¬x i) ≡ for (n - (i + 1)) λ j. (¬x i ∷ ¬x (i + 1 + j) ∷ []) ∷ []
+  above_after i n l =
+      let e : n ≡ i + 1 + (n - (i + 1)) = omega arith in
+      ap (λ (k : ℕ). for k (above ¬x i)) e
+      ∙ for_split (i + 1) (n - (i + 1)) (above ¬x i)
+      ∙ ap (λ (k : List Clause). k ++ for (n - (i + 1)) (λ j. above ¬x i (i + 1 + j))) ((for_nil (i + 1) (above ¬x i)).1 (λ j h. above_none i j (omega arith)))
+      ∙ for_ext (n - (i + 1)) _ _ (λ j h. rw (lt-ltb i (i + 1 + j) (omega arith)) refl)
 
 -- ---- agents that exchange u and v
 module _ (s : Sizes) (t u v : ℕ) where
