@@ -180,20 +180,14 @@ fn write_exchanges(f: &mut [i32], s: Shape, t: Step, u: Vertex, v: Vertex, a: Ag
     requires a_in_bounds { length (each line (for s.sizes.k (exchanging s.sizes t.0 u.0 v.0 a.0))) ≤ length f.old }
     ensures { Wrote (each line (for s.sizes.k (exchanging s.sizes t.0 u.0 v.0 a.0))) f.old f.new result }
 {
-    let k = s.sizes.k;
     let next = Step(t.0 + 1);
     let x = clauses::negative(s, t, a, u);
     let y = clauses::negative(s, next, a, v);
     let below = a.0;
-    let mut at: usize = 0;
-    for b in 0..below {
-        at += put_partner(&mut f[at..], s, t, u, v, x, y, b);
-    }
     let above = below + 1;
-    for b in above..k {
-        at += put_partner(&mut f[at..], s, t, u, v, x, y, b);
-    }
-    at
+    let at = clauses::write_each(f, below, |f, b| put_partner(f, s, t, u, v, x, y, b));
+    let more = s.sizes.k - above;
+    at + clauses::write_each(&mut f[at..], more, |f, b| put_partner(f, s, t, u, v, x, y, above + b))
 }
 
 // The same, of each agent.

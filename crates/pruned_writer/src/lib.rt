@@ -44,12 +44,7 @@ fn write_block(f: &mut [i32], s: Shape, from: &[u8; 64], to: &[u8; 64], t: Step,
     requires a_in_bounds { length (each line (block_h s.sizes (λ v. get_or from.now v 0) (λ v. get_or to.now v 0) t.0 a.0)) ≤ length f.old }
     ensures { Wrote (each line (block_h s.sizes (λ v. get_or from.now v 0) (λ v. get_or to.now v 0) t.0 a.0)) f.old f.new result }
 {
-    let n = s.sizes.n;
-    let mut at: usize = 0;
-    for v in 0..n {
-        at += write_vertex(&mut f[at..], s, t, a, Vertex(v), from[v], to[v]);
-    }
-    at
+    clauses::write_each(f, s.sizes.n, |f, v| write_vertex(f, s, t, a, Vertex(v), from[v], to[v]))
 }
 
 // H, of time t.
@@ -59,14 +54,11 @@ fn write_step(f: &mut [i32], problem: &Problem, table: &[[u8; 64]], t: usize) ->
     ensures { Wrote (each line (step_by_table problem.now.shape.sizes table.now problem.now.starts problem.now.goals t)) f.old f.new result }
 {
     let s = problem.shape;
-    let k = s.sizes.k;
-    let mut at: usize = 0;
-    for a in 0..k {
+    clauses::write_each(f, s.sizes.k, |f, a| {
         let from = distance_table::row_for(table, &problem.starts, a);
         let to = distance_table::goal_row(table, &problem.goals, a);
-        at += write_block(&mut f[at..], s, &from, &to, Step(t), Agent(a));
-    }
-    at
+        write_block(f, s, &from, &to, Step(t), Agent(a))
+    })
 }
 
 // H.
@@ -75,12 +67,8 @@ fn write_h(f: &mut [i32], problem: &Problem, table: &[[u8; 64]]) -> usize
     requires table_in_bounds { length (each line (by_table_h problem.now.shape.sizes table.now problem.now.starts problem.now.goals)) ≤ length f.old }
     ensures { Wrote (each line (by_table_h problem.now.shape.sizes table.now problem.now.starts problem.now.goals)) f.old f.new result }
 {
-    let end = problem.shape.sizes.m + 1;
-    let mut at: usize = 0;
-    for t in 0..end {
-        at += write_step(&mut f[at..], problem, table, t);
-    }
-    at
+    let times = problem.shape.sizes.m + 1;
+    clauses::write_each(f, times, |f, t| write_step(f, problem, table, t))
 }
 
 // The seven families of a checked instance, then H, to a slice with room for all.
