@@ -1,6 +1,8 @@
 // The instance check: questions 1 to 10 and 31, of any bytes and any numbers given as horizon and rule.
 #![tactic(auto)]
 
+mod edge_bytes;
+
 ghost use Rattle.std.specs.Prelude.{◌≡◌, false, ◌&&◌, ◌||◌, List, [], ◌∷◌, ℕ, suc, ◌+◌, ◌-◌, ◌*◌, ◌<◌, ◌≤◌, length, get_or, take, drop, replicate, IfOk};
 ghost use Rattle.lists.specs.Loop.{every};
 ghost use Rattle.lists.specs.Slice.{filled};
@@ -14,6 +16,7 @@ ghost use Rattle.instance_check.specs.Read.{Read};
 ghost use Rattle.instance_check.specs.Marked.{Ends, Marked, fan};
 
 use answers::{Reason, Refusal};
+use edge_bytes::EdgeBytes;
 use instance::{Problem, Shape, Sizes};
 
 // The sizes, where there are bytes for them: n, k, and e in two bytes, low byte first. No goal is looked at yet.
@@ -56,88 +59,6 @@ fn ask_sizes(b: &[u8], s: Sizes) -> Result<(), Refusal>
     Ok(())
 }
 
-// Edge j: low end < high end < n?
-fn proper_edge(b: &[u8], e: usize, j: usize) -> bool
-    requires { (4 + e + j < length b.now) × (e ≡ edges b.now) }
-    ensures { result ≡ proper_edge b.now j }
-{
-    let high = b[4 + e + j];
-    (b[4 + j] < high) & (high < b[0])
-}
-
-// Edge i + 1 comes after edge i, by low end, then high end?
-fn later_edge(b: &[u8], e: usize, i: usize) -> bool
-    requires { (5 + e + i < length b.now) × (e ≡ edges b.now) }
-    ensures { result ≡ later_edge b.now (suc i) i }
-{
-    let low = b[4 + i];
-    let next = b[5 + i];
-    (low < next) | (low == next) & (b[4 + e + i] < b[5 + e + i])
-}
-
-// Every edge proper? The loop has one way out and no branch, so that the compiler takes many edges at a time.
-fn all_proper(b: &[u8], e: usize) -> bool
-    requires { (4 + e + e ≤ length b.now) × (e ≡ edges b.now) }
-    ensures { result ≡ every (edges b.now) (proper_edge b.now) }
-{
-    let mut all = true;
-    for j in 0..e {
-        all = all & proper_edge(b, e, j);
-    }
-    all
-}
-
-// Every edge after the one before it? Also with one way out.
-fn all_later(b: &[u8], e: usize) -> bool
-    requires { (4 + e + e ≤ length b.now) × (e ≡ edges b.now) }
-    ensures { result ≡ every (edges b.now - 1) (λ i. later_edge b.now (suc i) i) }
-{
-    let mut all = true;
-    let pairs = e.saturating_sub(1);
-    for i in 0..pairs {
-        all = all & later_edge(b, e, i);
-    }
-    all
-}
-
-// The first edge that is not proper.
-fn edge_fault(b: &[u8], e: usize) -> Option<usize>
-    requires { (4 + e + e ≤ length b.now) × (e ≡ edges b.now) }
-    ensures { FirstFailing (edges b.now) (proper_edge b.now) result }
-{
-    for j in 0..e {
-        if !proper_edge(b, e, j) {
-            return Some(j);
-        }
-    }
-    None
-}
-
-// The first i such that edge i + 1 does not come after edge i.
-fn order_fault(b: &[u8], e: usize) -> Option<usize>
-    requires { (4 + e + e ≤ length b.now) × (e ≡ edges b.now) }
-    ensures { FirstFailing (edges b.now - 1) (λ i. later_edge b.now (suc i) i) result }
-{
-    let pairs = e.saturating_sub(1);
-    for i in 0..pairs {
-        if !later_edge(b, e, i) {
-            return Some(i);
-        }
-    }
-    None
-}
-
-// Questions 6 and 7, where some edge fails one of them: the refusal, whatever is asked later.
-fn edge_refusal(b: &[u8], e: usize) -> Refusal
-    requires { (4 + e + e ≤ length b.now) × (e ≡ edges b.now) × (every (edges b.now) (proper_edge b.now) && every (edges b.now - 1) (λ i. later_edge b.now (suc i) i) ≡ false) }
-    ensures { (later : List Question) → refused result ≡ decide (question6 b.now ∷ question7 b.now ∷ later) 0 }
-{
-    if let Some(j) = edge_fault(b, e) {
-        return Reason::ImproperEdge.at(4 + j);
-    }
-    Reason::EdgeOrder.at(5 + order_fault(b, e).unwrap())
-}
-
 // The first of k bytes, from an offset on, that is no vertex or like an earlier one. Where `optional`, as for goals, 255 is passed
 // over.
 fn vertex_fault(b: &[u8], offset: usize, k: usize, optional: bool) -> Option<usize>
@@ -168,8 +89,9 @@ fn ask_items(b: &[u8], s: Sizes) -> Result<(), Refusal>
     ensures { asked result ≡ decide (question6 b.now ∷ question7 b.now ∷ question8 b.now ∷ question9 b.now ∷ question10 s.m ∷ question31 s.rule ∷ []) 0 }
 {
     let Sizes { k, e, .. } = s;
-    if !(all_proper(b, e) & all_later(b, e)) {
-        return Err(edge_refusal(b, e));
+    let edges = EdgeBytes { b, e };
+    if !(edges.all_proper() & edges.all_later()) {
+        return Err(edges.refusal());
     }
     let starts = 4 + 2 * e;
     if let Some(a) = vertex_fault(b, starts, k, false) {
@@ -211,11 +133,13 @@ fn mark_fan(near: &mut [u64], low: usize, high: usize, n: usize)
 
 // Marks the edges from one on that have its low end, and answers where they end. The word of the low end is kept beside the others
 // until they are marked.
-fn mark_run(near: &mut [u64], b: &[u8], e: usize, from: usize) -> usize
-    requires from_lt_e { (from < e) × (e ≡ edges b.now) × (4 + e + e ≤ length b.now) }
-    requires ends { Ends b.now × Marked b.now from near.old }
-    ensures { (from < result) × (result ≤ e) × Marked b.now result near.new }
+fn mark_run(near: &mut [u64], edges: &EdgeBytes, from: usize) -> usize
+    requires from_lt_e { from < edges.now.e }
+    requires ends { Ends edges.now.b.now × Marked edges.now.b.now from near.old }
+    ensures { (from < result) × (result ≤ edges.now.e) × Marked edges.now.b.now result near.new }
 {
+    let b = edges.b;
+    let e = edges.e;
     let low = usize::from(b[4 + from]);
     let mut row = near[low];
     let mut j = from;
@@ -234,11 +158,13 @@ fn mark_run(near: &mut [u64], b: &[u8], e: usize, from: usize) -> usize
 
 // Marks edges from one on, and answers where they end. Edges rise: where the edge as many places on as there are vertices from its
 // high end on has its low end too, they go to each of those vertices. Else those with its low end are marked one by one.
-fn mark_edges(near: &mut [u64], b: &[u8], n: usize, e: usize, from: usize) -> usize
-    requires from_lt_e { (from < e) × (e ≡ edges b.now) × (4 + e + e ≤ length b.now) × (n ≡ vertices b.now) × (n ≤ 64) }
-    requires edges { Edges (instance b.now 0 1) × Marked b.now from near.old }
-    ensures { (from < result) × (result ≤ e) × Marked b.now result near.new }
+fn mark_edges(near: &mut [u64], edges: &EdgeBytes, n: usize, from: usize) -> usize
+    requires from_lt_e { (from < edges.now.e) × (n ≡ vertices edges.now.b.now) × (n ≤ 64) }
+    requires edges { Edges (instance edges.now.b.now 0 1) × Marked edges.now.b.now from near.old }
+    ensures { (from < result) × (result ≤ edges.now.e) × Marked edges.now.b.now result near.new }
 {
+    let b = edges.b;
+    let e = edges.e;
     let low = usize::from(b[4 + from]);
     let high = usize::from(b[4 + e + from]);
     let to = from + (n - high);
@@ -248,19 +174,20 @@ fn mark_edges(near: &mut [u64], b: &[u8], n: usize, e: usize, from: usize) -> us
             return to;
         }
     }
-    mark_run(near, b, e, from)
+    mark_run(near, edges, from)
 }
 
 // The neighbours of every vertex, as words, in one pass over the edges.
-fn neighbour_words(b: &[u8], n: usize, e: usize) -> [u64; 64]
-    requires e_value { (e ≡ edges b.now) × (4 + e + e ≤ length b.now) × (n ≡ vertices b.now) × (n ≤ 64) }
-    requires edges { Edges (instance b.now 0 1) }
-    ensures { (m rule : ℕ) → result ≡ neighbour_words (instance b.now m rule) }
+fn neighbour_words(edges: &EdgeBytes, n: usize) -> [u64; 64]
+    requires n_value { (n ≡ vertices edges.now.b.now) × (n ≤ 64) }
+    requires edges { Edges (instance edges.now.b.now 0 1) }
+    ensures { (m rule : ℕ) → result ≡ neighbour_words (instance edges.now.b.now m rule) }
 {
     let mut near = [0u64; 64];
     let mut j: usize = 0;
-    while j < e {
-        j = mark_edges(&mut near, b, n, e, j);
+    // The next j is where the run of edges ends.
+    while j < edges.e {
+        j = mark_edges(&mut near, edges, n, j);
     }
     near
 }
@@ -281,7 +208,7 @@ pub fn check_instance(b: &[u8], m: usize, rule: usize) -> Result<Problem, Refusa
     let at = 4 + 2 * e;
     let starts = for_agents(b, at, k);
     let goals = for_agents(b, at + k, k);
-    let near = neighbour_words(b, n, e);
+    let near = neighbour_words(&EdgeBytes { b, e }, n);
     let g = goals::count(&goals, k);
     let shape = Shape {
         sizes: Sizes {

@@ -3,6 +3,8 @@ use Prim.Native.Nat.{◌+◌, ◌*◌}
 use native.Mathlib.Omega.{arith}
 use Rattle.instance.specs.Instance.{joined}
 use Rattle.plan.proofs.Rows.{Rows, rows, part_length, part_below, step_fault}
+use Rattle.answers.proofs.Faults.{failing_map}
+use Rattle.conditions.specs.Conditions.{place_of}
 use Rattle.conditions.proofs.step_fault.Goals as goal
 
 pub overflow_mul-row : goal.overflow_mul-row
@@ -37,7 +39,7 @@ fault-requires c =
     let at = c.args.t * k in
     let x = part_length c.args.p.now at (at + k) (omega arith) (omega (arith, known)) in
     let y = part_length c.args.p.now (at + k) (at + k + k) (omega arith) (omega (arith, known)) in record {
-      k_in_bounds = (omega (arith, x), omega (arith, y));
+      rows = (omega (arith, x), omega (arith, y));
       inside = (
         part_below c.args.p.now 64 c.requires.inside at (at + k) (omega arith) (omega (arith, known)),
         part_below c.args.p.now 64 c.requires.inside (at + k) (at + k + k) (omega arith) (omega (arith, known)),
@@ -46,4 +48,5 @@ fault-requires c =
 
 pub returns : goal.returns
 returns c =
-    step_fault c.args.s (joined c.args.near.now) c.args.which c.args.p.now c.args.t c.fault.result c.fault.ensures
+    failing_map c.fault.result
+    (step_fault c.args.s (joined c.args.near.now) (place_of c.args.which) c.args.p.now c.args.t) c.fault.ensures

@@ -13,13 +13,13 @@ use Rattle.instance.specs.Questions.{question6, question7, question8, question9,
 use Rattle.instance_check.proofs.Laws.{edges_pass, vertices_stop, vertices_pass, horizon_no, rule_no, rule_yes}
 use Rattle.instance_check.proofs.ask_items.Goals as goal
 
-pub edge_refusal-requires : goal.edge_refusal-requires
-edge_refusal-requires c =
+pub refusal-requires : goal.refusal-requires
+refusal-requires c =
     let both : c.all_proper.result && c.all_later.result ≡ every (edges c.args.b.now) (proper_edge c.args.b.now) && every (edges c.args.b.now - 1) (λ i. later_edge c.args.b.now (suc i) i) = ap₂ ◌&&◌ c.all_proper.ensures c.all_later.ensures in
-    (omega arith, c.requires.0.e_same, sym both ∙ not-true _ c.if-not-all_proper-all_later.true-raw)
+    (sym both ∙ not-true _ c.if-not-all_proper-all_later.true-raw)
 
 pub returns-then-not-all_proper-all_later : goal.returns-then-not-all_proper-all_later
-returns-then-not-all_proper-all_later c = c.edge_refusal.ensures _
+returns-then-not-all_proper-all_later c = c.refusal.ensures _
 
 pub returns-in-Some : goal.returns-in-Some
 returns-in-Some c =
