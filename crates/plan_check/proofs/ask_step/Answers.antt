@@ -6,24 +6,20 @@ use Rattle.plan_check.proofs.ask_step.Goals as goal
 
 pub returns-in-Some : goal.returns-in-Some
 returns-in-Some c =
-    let q = c.args.problem.now in
-    λ I g. ap refused c.at.ensures ∙ stop_19 I q.shape.sizes q.near g c.args.p.now c.args.t c.in-Some.a c.in-Some.ensures
+    λ I g. ap refused c.at.ensures ∙ stop_19 I c.args.s c.args.near.now g c.args.p.now c.args.t c.in-Some.a c.in-Some.ensures
 
 pub returns-in-Some-step_fault : goal.returns-in-Some-step_fault
 returns-in-Some-step_fault c =
-    let q = c.args.problem.now in
     λ I g.
     ap refused c.at-in-Some-step_fault.ensures
-    ∙ stop_20 I q.shape.sizes q.near g c.args.p.now c.args.t c.in_default.ensures c.in-Some-step_fault.a c.in-Some-step_fault.ensures _ c.second_reason.ensures
+    ∙ stop_20 I c.args.s c.args.near.now g c.args.p.now c.args.t c.in_default.ensures c.in-Some-step_fault.a c.in-Some-step_fault.ensures _ c.second_reason.ensures
 
 pub returns-in-Some-step_fault-2 : goal.returns-in-Some-step_fault-2
 returns-in-Some-step_fault-2 c =
-    let q = c.args.problem.now in
     λ I g.
     ap refused c.at-in-Some-step_fault-2.ensures
-    ∙ stop_21 I q.shape.sizes q.near g c.args.p.now c.args.t c.in_default.ensures c.in_default-step_fault.ensures c.in-Some-step_fault-2.a c.in-Some-step_fault-2.ensures
+    ∙ stop_21 I c.args.s c.args.near.now g c.args.p.now c.args.t c.in_default.ensures c.in_default-step_fault.ensures c.in-Some-step_fault-2.a c.in-Some-step_fault-2.ensures
 
 pub returns : goal.returns
 returns c =
-    let q = c.args.problem.now in
-    λ I g. pass_21 I q.shape.sizes q.near g c.args.p.now c.args.t c.in_default.ensures c.in_default-step_fault.ensures c.in_default-step_fault-2.ensures
+    λ I g. pass_21 I c.args.s c.args.near.now g c.args.p.now c.args.t c.in_default.ensures c.in_default-step_fault.ensures c.in_default-step_fault-2.ensures

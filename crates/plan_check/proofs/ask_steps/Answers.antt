@@ -18,7 +18,7 @@ returns-in_err-ask_step c =
     λ I g.
     let e = c.in_err-ask_step.ensures I g in
     passed_on _ _ c.from_residual.result c.from_residual.ensures.1
-    (step_stop (step_questions I c.args.p.now) c.loop-t.t _ e (c.loop-t.invariant.1 I g) c.args.problem.now.shape.sizes.m (omega arith) (refusal_numbered c.in_err-ask_step.field-0.0))
+    (step_stop (step_questions I c.args.p.now) c.loop-t.t _ e (c.loop-t.invariant.1 I g) c.args.s.m (omega arith) (refusal_numbered c.in_err-ask_step.field-0.0))
 
 pub loop-t-preserved : goal.loop-t-preserved
 loop-t-preserved c = (omega arith, λ I g. step_more (step_questions I c.args.p.now) c.loop-t.t (accept 0) (c.in_ok-ask_step.ensures I g) (c.loop-t.invariant.1 I g) (numbered_step I c.args.p.now c.loop-t.t) refl)
@@ -26,5 +26,5 @@ loop-t-preserved c = (omega arith, λ I g. step_more (step_questions I c.args.p.
 pub returns : goal.returns
 returns c =
     λ I g.
-    let e : c.loop-t.t ≡ c.args.problem.now.shape.sizes.m = omega arith in
+    let e : c.loop-t.t ≡ c.args.s.m = omega arith in
     sym (decide_count (for c.loop-t.t (step_questions I c.args.p.now)) 0 (c.loop-t.invariant.1 I g)) ∙ ap (λ (j : ℕ). decide (for j (step_questions I c.args.p.now)) 0) e

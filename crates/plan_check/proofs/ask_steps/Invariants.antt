@@ -9,4 +9,4 @@ use Rattle.instance.specs.Shows.{ShowsGraph}
 use Rattle.plan_check.proofs.ask_steps.Given as goal
 
 abbrev pub invariant-loop-t : goal.invariant-loop-t
-invariant-loop-t l = (l.t ≤ l.problem.shape.sizes.m) × ((I : Instance) → ShowsGraph I l.problem.shape.sizes l.problem.near → T (all clear (for l.t (step_questions I l.p))))
+invariant-loop-t l = (l.t ≤ l.s.m) × ((I : Instance) → ShowsGraph I l.s l.near → T (all clear (for l.t (step_questions I l.p))))
