@@ -9,6 +9,13 @@ ghost use Rattle.calls.specs.Tally.{tally_answer, tally_record};
 use answers::{Reason, Refusal};
 use tally::Tally;
 
+// A call's answer, and the record after it.
+#[derive(Clone, Copy)]
+pub struct Tallied {
+    pub answer: Result<usize, Refusal>,
+    pub tally: Tally,
+}
+
 // The total of the counts, where it is below 65,535. Each count is taken as at most that, so that no sum is too large.
 fn total_of(t: &Tally) -> usize
     ensures { min result 65535 ≡ min (total t.now) 65535 }
@@ -53,28 +60,21 @@ fn count_refusal(t: &mut Tally, reason: Reason)
     t.refused[reason.number() as usize] += 1;
 }
 
-// The call, for every input.
-pub fn tally_plan(
-    t: &mut Tally,
-    b: &[u8],
-    m: usize,
-    rule: usize,
-    p: &[u8],
-) -> Result<usize, Refusal>
-    ensures answer { answer_of result ≡ tally_answer b.now m rule p.now t.old }
-    ensures tally { t.new ≡ tally_record b.now m rule p.now t.old }
+// The call, for every input. The record goes in by value and comes back, as document 01 and README have it.
+pub fn tally_plan(t: Tally, b: &[u8], m: usize, rule: usize, p: &[u8]) -> Tallied
+    ensures { (answer_of result.answer ≡ tally_answer b.now m rule p.now t) × (result.tally ≡ tally_record b.now m rule p.now t) }
 {
-    if !takes_more(t) {
-        return Err(Reason::FullRecord.at(65535));
+    let mut tally = t;
+    if !takes_more(&tally) {
+        return Tallied {
+            answer: Err(Reason::FullRecord.at(65535)),
+            tally,
+        };
     }
-    match plan_check::check_plan(b, m, rule, p) {
-        Ok(cost) => {
-            count_pass(t, cost);
-            Ok(cost)
-        }
-        Err(refusal) => {
-            count_refusal(t, refusal.reason);
-            Err(refusal)
-        }
+    let answer = plan_check::check_plan(b, m, rule, p);
+    match answer {
+        Ok(cost) => count_pass(&mut tally, cost),
+        Err(refusal) => count_refusal(&mut tally, refusal.reason),
     }
+    Tallied { answer, tally }
 }
