@@ -1,5 +1,6 @@
 -- How a loop over the items of a question comes to the first that fails, and what that says of all of them.
 use mathlib.Core.Path.{◌≡◌, refl, sym, ◌∙◌, subst}
+use mathlib.Core.List.{List}
 use mathlib.Core.Logic.{by_cases}
 use mathlib.Core.Bool.{Bool, true, false, not, cond}
 use Prim.Native.Nat.{ℕ, zero, suc, ◌<◌}
@@ -7,10 +8,15 @@ use native.Mathlib.Nat.{not-suc-le-zero}
 use native.Mathlib.Decide.{dec_lt}
 use native.Mathlib.Omega.{arith}
 use borrow.Author.Tests.{eq-eqb, ne_eqb}
+use lib.ListN.{length, get_or}
 use lib.Dec.{T, eqb}
+use Rattle.std.specs.Prelude.{Option, None, Some, is_none, position}
+use Rattle.std.specs.List.{position_or_len}
+use Rattle.std.proofs.lemmas.Bool.{lt-ltb, le-ltb}
+use Rattle.std.proofs.lemmas.List.Sums.{prefix_len-le-length, fails_before_first, passes_at_first}
 use Rattle.lists.specs.Loop.{some, every, first}
 use Rattle.lists.proofs.Tests.{below_zero, below_suc, not_iff, some_iff, every_iff}
-use Rattle.answers.specs.Fault.{FirstFault}
+use Rattle.answers.specs.Fault.{FirstFault, FirstFailing}
 
 -- a test whose value a call has returned
 pub holds : {test x : Bool} → x ≡ test → x ≡ true → T test
@@ -85,3 +91,33 @@ fault_first (suc n) p r f l = (found, go (fault_first n p r) (some n p) refl)
         let o : r < n = by_cases (dec_lt r n) (λ o. o) (λ o. absurd ((not_iff (p i)).0 (f.before i (omega arith)) t)) in
         (rec (fault_at o f.before (f.here l)) o).1
     go rec false e = by_cases (dec_lt r n) (λ o. absurd (subst T e ((some_iff n p).1 (r, o, found)))) (λ o. omega arith)
+
+-- ---- the first that fails, as an option
+-- tests that agree on the first that fails
+pub failing_map : {n : ℕ} {test other : ℕ → Bool} (r : Option ℕ) → ((i : ℕ) → FirstFault n test i → FirstFault n other i) → FirstFailing n test r → FirstFailing n other r
+failing_map None f h = f _ h
+failing_map (Some i) f h = (h.0, f i h.1)
+
+-- there is none exactly where all items pass
+pub failing_every : (n : ℕ) (test : ℕ → Bool) (r : Option ℕ) → FirstFailing n test r → is_none r ≡ every n test
+failing_every n test None f = sym (eq-eqb n n refl) ∙ fault_every n test n f
+failing_every n test (Some i) (l, f) = sym (ne_eqb i n (omega arith)) ∙ fault_every n test i f
+
+-- the first item of a list that passes p, as the library finds it, is the first that fails the opposite
+module _ {X : Type 0} (p : X → Bool) (xs : List X) (d : X) where
+  abbrev at : ℕ
+  at = position_or_len p xs
+
+  fault_position : FirstFault (length xs) (λ i. not (p (get_or xs i d))) at
+  fault_position =
+      record {
+        within = prefix_len-le-length (λ x. not (p x)) xs;
+        before = λ i l. rw (fails_before_first p xs i d l) tt;
+        here = λ l. rw (passes_at_first p xs d l) (λ t. t);
+      }
+
+  pub failing_position : (r : Option ℕ) → r ≡ position p xs → FirstFailing (length xs) (λ i. not (p (get_or xs i d))) r
+  failing_position r e =
+      by_cases (dec_lt at (length xs))
+      (λ l. rw (e, lt-ltb at (length xs) l) (l, fault_position))
+      (λ l. rw (e, le-ltb at (length xs) (omega arith)) (fault_none (omega (arith, fault_position.within)) fault_position.before))
