@@ -1,6 +1,8 @@
 -- What a ceiling adds, with its bounds, and the size of the formula with a ceiling.
 use mathlib.Core.Path.{◌≡◌, refl, sym, ◌∙◌, ap}
 use mathlib.Core.Logic.{◌≢◌, by_cases}
+use mathlib.Core.Bool.{Bool, true, false, cond}
+use mir.Val.{bool_byte}
 use mathlib.Core.List.{List}
 use Prim.Native.Nat.{ℕ, zero, suc, ◌*◌, ◌-◌, ◌≤◌}
 use native.Mathlib.Nat.{suc-mul, zero-mul, mul-le-mul}
@@ -9,14 +11,18 @@ use native.Mathlib.Omega.{arith}
 use borrow.Author.Tests.{le-ltb}
 use lib.Dec.{ltb}
 use lib.ListN.{length}
-use Rattle.answers.specs.declared.Answer.{Answer}
+use Rattle.std.specs.Prelude.{Ok, Err}
+use Rattle.answers.specs.declared.Refusal.{Refusal}
 use Rattle.answers.specs.Answers.{accept, with_clauses}
+use Rattle.answers.specs.Returned.{refused, size_of}
+use Rattle.answers.proofs.Returned.{refusal_numbered, size_refused}
 use Rattle.instance.specs.declared.Sizes.{Sizes}
-use Rattle.instance.specs.declared.Checked.{Checked}
+use Rattle.instance.specs.declared.problem.Problem.{Problem}
+use Rattle.instance.specs.Problem.{checked_of, ProblemOf}
 use Rattle.instance.specs.Instance.{Instance, instance}
 use Rattle.instance.specs.Limits.{Limits}
-use Rattle.instance.specs.Questions.{instance_checked}
-use Rattle.instance.specs.Accepted.{Accepted, instance_of}
+use Rattle.instance.specs.Questions.{instance_answer, instance_checked}
+use Rattle.instance.specs.Accepted.{instance_of}
 use Rattle.instance.proofs.Accepted.{sizes_same, graph, counted_known}
 use Rattle.formula.specs.Formula.{words}
 use Rattle.formula.proofs.Limits.{agent_steps}
@@ -26,9 +32,14 @@ use Rattle.ceiling.proofs.Tree.{tree_one, one_of}
 use Rattle.ceiling.proofs.Counts.{ceiling_count_lem, ceiling_words_lem}
 use Rattle.calls.specs.Ceiling.{ceiling_questions, ceiling_answer, ceiling_size_answer}
 use Rattle.calls.proofs.Size.{size_refuses, size_accepts}
-use Rattle.calls.proofs.Ceiling.{numbered_ceiling, horizon}
+use Rattle.calls.proofs.Ceiling.{numbered_ceiling, check_refuses, passed, horizon}
 use Rattle.counting.specs.Over.{variables_over, clause_count_over, word_count_over}
 use Rattle.counting.proofs.Laws.{counts_fit}
+
+-- a test as a number
+pub as_number : (b : Bool) → (bool_byte b ≡ cond b 1 0) × (bool_byte b ≤ 1)
+as_number true = (refl, omega arith)
+as_number false = (refl, omega arith)
 
 module _ (s : Sizes) (w : Limits s) where
   open s use {n, k, m}
@@ -84,27 +95,37 @@ module _ (s : Sizes) (w : Limits s) where
       (λ o. let p = parts c h o in let x = p.moves in let y = p.waits in let z = p.clauses in omega (arith, (one_of (ltb c (m * k))).1))
       (λ o. omega (arith, (none_added c (omega arith)).1))
 
--- ---- the size call, where the check answers a and gives k
-module _ (b : List ℕ) (m rule c : ℕ) (a : Answer) (k : Checked) (ea : a ≡ ceiling_answer b m rule c) (ek : k ≡ instance_checked b m rule) where
-  abbrev I : Instance
-  I = instance b m rule
+-- the check: the instance check's refusal e, or with its problem the ceiling is too high, or neither
+module _ (b : List ℕ) (m rule c : ℕ) where
+  pub check_refused : (e : Refusal) → refused e ≡ instance_answer b m rule → refused e ≡ ceiling_answer b m rule c
+  check_refused e h = check_refuses b m rule c (refused e) h (refusal_numbered e)
 
-  pub refuses : a.number ≢ 0 → with_clauses a 0 ≡ ceiling_size_answer b m rule c
+  -- the size call, where the check refuses by e, or finds the problem p, whose formula has x words and y clauses
+  pub size_refused_by : (e : Refusal) → refused e ≡ ceiling_answer b m rule c → size_of (Err e) ≡ ceiling_size_answer b m rule c
   unfolding ceiling_size_answer ceiling_answer
-  refuses d = size_refuses (ceiling_questions b m rule c) (numbered_ceiling b m rule c) (under_ceiling c I) a ea d
+  size_refused_by e h =
+      size_refused e 0
+      ∙ size_refuses (ceiling_questions b m rule c) (numbered_ceiling b m rule c) (under_ceiling c (instance b m rule)) (refused e) h (refusal_numbered e)
 
-  pub accepts : a.number ≡ 0 → (x y : ℕ) → length (words (under_ceiling c (instance_of b k))) ≡ x → length (under_ceiling c (instance_of b k)).clauses ≡ y
-      → with_clauses (accept x) y ≡ ceiling_size_answer b m rule c
-  unfolding ceiling_size_answer ceiling_answer
-  accepts o x y ex ey =
-      let same = sym (horizon b m rule c a k ea ek o) in
-      size_accepts (ceiling_questions b m rule c) (numbered_ceiling b m rule c) (under_ceiling c I) a ea o x y
-      (ap (λ (J : Instance). length (words (under_ceiling c J))) same ∙ ex) (ap (λ (J : Instance). length (under_ceiling c J).clauses) same ∙ ey)
+  module _ (p : Problem) (ea : accept 0 ≡ ceiling_answer b m rule c) (ek : checked_of p ≡ instance_checked b m rule) where
+    known : ProblemOf b p
+    known = passed b m rule c (accept 0) (checked_of p) ea ek refl
 
--- the counts of the formula, by the sizes that the check has found
-module _ (b : List ℕ) (k : Checked) (w : Accepted b k) (c : ℕ) where
-  pub count_held : length (under_ceiling c (instance_of b k)).clauses ≡ ceiling_count k.sizes c
-  count_held = ceiling_count_lem (instance_of b k) c (counted_known b k w) ∙ ap (λ (s : Sizes). ceiling_count s c) (sym (sizes_same b k w))
+    abbrev J : Instance
+    J = instance_of b (checked_of p)
 
-  pub words_held : length (words (under_ceiling c (instance_of b k))) ≡ ceiling_words k.sizes c
-  words_held = ceiling_words_lem (instance_of b k) c (graph b k w) (counted_known b k w) ∙ ap (λ (s : Sizes). ceiling_words s c) (sym (sizes_same b k w))
+    pub size_found : (x y : ℕ) → x ≡ ceiling_words p.shape.sizes c → y ≡ ceiling_count p.shape.sizes c
+        → size_of (Ok (record { words = x; clauses = y })) ≡ ceiling_size_answer b m rule c
+    unfolding ceiling_size_answer ceiling_answer with_clauses
+    size_found x y ex ey =
+        let same = sym (horizon b m rule c (accept 0) (checked_of p) ea ek refl) in
+        let s = sizes_same b (checked_of p) known in
+        size_accepts (ceiling_questions b m rule c) (numbered_ceiling b m rule c) (under_ceiling c (instance b m rule)) (accept 0) ea refl x y
+        (ap (λ (I : Instance). length (words (under_ceiling c I))) same
+        ∙ ceiling_words_lem J c (graph b (checked_of p) known) (counted_known b (checked_of p) known)
+        ∙ ap (λ (z : Sizes). ceiling_words z c) (sym s)
+        ∙ sym ex)
+        (ap (λ (I : Instance). length (under_ceiling c I).clauses) same
+        ∙ ceiling_count_lem J c (counted_known b (checked_of p) known)
+        ∙ ap (λ (z : Sizes). ceiling_count z c) (sym s)
+        ∙ sym ey)

@@ -1,70 +1,49 @@
 // What every call with a ceiling asks first, what a ceiling adds, and the size of the formula with a ceiling.
 #![tactic(auto)]
 
-ghost use Rattle.std.specs.Prelude.{◌≡◌, cond, ◌≤◌, ltb};
-ghost use Rattle.instance.specs.Limits.{Limits};
+ghost use Rattle.std.specs.Prelude.{◌≡◌, ◌≤◌, IfOk};
+ghost use Rattle.answers.specs.Returned.{asked, size_of};
 ghost use Rattle.instance.specs.Questions.{instance_checked};
+ghost use Rattle.instance.specs.Problem.{checked_of};
 ghost use Rattle.ceiling.specs.Ceiling.{added_variables, added_count, added_words, ceiling_variables, ceiling_words};
 ghost use Rattle.calls.specs.Ceiling.{ceiling_answer, ceiling_size_answer};
 
-use answers::{Answer, Size};
-use counting::Counts;
-use instance::Sizes;
-use instance_check::Inspection;
+use answers::{Extent, Reason, Refusal};
+use counting::{Ceiling, Counts};
+use instance::{Problem, Shape, Sizes};
 
 // Questions 1 to 10, 31 and 32.
-pub fn check_ceiling(b: &[u8], m: usize, rule: usize, c: usize) -> Inspection
-    ensures { (result.answer ≡ ceiling_answer b.now m rule c) × (result.checked ≡ instance_checked b.now m rule) }
+pub fn check_ceiling(
+    b: &[u8],
+    m: usize,
+    rule: usize,
+    c: usize,
+) -> Result<(Problem, Ceiling), Refusal>
+    ensures answer { asked result ≡ ceiling_answer b.now m rule c }
+    ensures found { IfOk result (λ r. (checked_of r.0 ≡ instance_checked b.now m rule) × (r.1.c ≡ c)) }
 {
-    let i = instance_check::check_instance(b, m, rule);
-    let first = i.answer;
-    let checked = i.checked;
-    if first.number == 0 {
-        if 128 < c {
-            return Inspection {
-                answer: Answer {
-                    number: 32,
-                    second: 0,
-                },
-                checked,
-            };
-        }
+    let problem = instance_check::check_instance(b, m, rule)?;
+    if 128 < c {
+        return Err(Reason::Ceiling.at(0));
     }
-    Inspection {
-        answer: first,
-        checked,
-    }
-}
-
-// How often output c + 1 of so many inputs is forbidden: once, or never.
-fn limits(c: usize, inputs: usize) -> usize
-    ensures { (result ≡ cond (ltb c inputs) 1 0) × (result ≤ 1) }
-{
-    if c < inputs {
-        return 1;
-    }
-    0
+    Ok((problem, Ceiling { c }))
 }
 
 // What the ceiling adds. At m 0 it adds nothing.
-pub fn added(s: Sizes, c: usize) -> Counts
-    requires limits { Limits s }
-    requires c_bound { c ≤ 128 }
-    ensures variables_value { (result.variables ≡ added_variables s c) × (result.clauses ≡ added_count s c) × (result.words ≡ added_words s c) }
+pub fn added(s: Shape, ceiling: Ceiling) -> Counts
+    ensures variables_value { (result.variables ≡ added_variables s.sizes ceiling.c) × (result.clauses ≡ added_count s.sizes ceiling.c) × (result.words ≡ added_words s.sizes ceiling.c) }
     ensures variables_bound { (result.variables ≤ 5120) × (result.clauses ≤ 9000000) × (result.words ≤ 35000000) }
 {
-    let inputs = s.m * s.k;
+    let Sizes { n, k, m, .. } = s.sizes;
+    let inputs = m * k;
     if inputs == 0 {
-        return Counts {
-            variables: 0,
-            clauses: 0,
-            words: 0,
-        };
+        return Counts::default();
     }
-    let tree = counting::tree_size(c, inputs);
-    let moves = inputs * s.n;
-    let waits = (s.m - 1) * s.k;
-    let over = limits(c, inputs);
+    let tree = ceiling.tree_size(inputs);
+    let moves = inputs * n;
+    let waits = (m - 1) * k;
+    // how often output c + 1 is forbidden
+    let over = usize::from(ceiling.c < inputs);
     Counts {
         variables: inputs + tree.variables,
         clauses: moves + waits + tree.clauses + over,
@@ -73,39 +52,28 @@ pub fn added(s: Sizes, c: usize) -> Counts
 }
 
 // All variables of the formula.
-pub fn variables(s: Sizes, c: usize) -> usize
-    requires limits { Limits s }
-    requires c_bound { c ≤ 128 }
-    ensures { (result ≡ ceiling_variables s c) × (result ≤ 38912) }
+pub fn variables(s: Shape, ceiling: Ceiling) -> usize
+    ensures { (result ≡ ceiling_variables s.sizes ceiling.c) × (result ≤ 38912) }
 {
-    let more = added(s, c);
-    counts::variable_count(s) + more.variables
+    counts::variable_count(s) + added(s, ceiling).variables
 }
 
 // All its words.
-pub fn words(s: Sizes, c: usize) -> usize
-    requires limits { Limits s }
-    requires c_bound { c ≤ 128 }
-    ensures { result ≡ ceiling_words s c }
+pub fn words(s: Shape, ceiling: Ceiling) -> usize
+    ensures { result ≡ ceiling_words s.sizes ceiling.c }
 {
-    let more = added(s, c);
-    counts::word_count(s) + more.words
+    counts::word_count(s) + added(s, ceiling).words
 }
 
 // The size call: questions 1 to 10, 31 and 32.
-pub fn ceiling_size(b: &[u8], m: usize, rule: usize, c: usize) -> Size
-    ensures { result ≡ ceiling_size_answer b.now m rule c }
+pub fn ceiling_size(b: &[u8], m: usize, rule: usize, c: usize) -> Result<Extent, Refusal>
+    ensures { size_of result ≡ ceiling_size_answer b.now m rule c }
 {
-    let i = check_ceiling(b, m, rule, c);
-    let answer = i.answer;
-    let k = i.checked;
-    if answer.number != 0 {
-        return formula_size::refused(answer);
-    }
-    let s = k.sizes;
-    let more = added(s, c);
-    formula_size::accepted(
-        counts::word_count(s) + more.words,
-        counts::clause_count(s) + more.clauses,
-    )
+    let (problem, ceiling) = check_ceiling(b, m, rule, c)?;
+    let s = problem.shape;
+    let more = added(s, ceiling);
+    Ok(Extent {
+        words: counts::word_count(s) + more.words,
+        clauses: counts::clause_count(s) + more.clauses,
+    })
 }

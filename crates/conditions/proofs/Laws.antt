@@ -2,18 +2,19 @@
 use mathlib.Core.Path.{◌≡◌, refl, ap, ◌∙◌}
 use mathlib.Core.Logic.{◌≢◌}
 use mathlib.Core.Bool.{Bool, true, false, not, ◌&&◌, ◌||◌}
-use Prim.Native.Nat.{ℕ, zero, suc, ◌+◌, ◌^◌}
+use Prim.Native.Nat.{ℕ, ◌+◌, ◌^◌}
 use native.Mathlib.Numerals.{add-one}
 use borrow.Author.Tests.{eq-eqb, ne_eqb}
 use lib.Dec.{eqb}
+use Rattle.std.specs.Prelude.{Option, is_none}
 use lib.Bits.{bit_or}
 use Rattle.bits.specs.Bits.{set?}
 use Rattle.bits.proofs.Bits.{bit_zero, set_or, set_pow}
-use Rattle.answers.specs.Fault.{FirstFault}
-use Rattle.answers.proofs.Faults.{fault_every}
+use Rattle.answers.specs.Fault.{FirstFailing}
+use Rattle.answers.proofs.Faults.{failing_every}
 use Rattle.instance.specs.declared.Sizes.{Sizes}
 use Rattle.conditions.specs.Inside.{Standing}
-use Rattle.plan.specs.Plan.{Row, condition, condition1, condition2, condition3}
+use Rattle.plan.specs.Plan.{Row, condition1, condition2, condition3}
 
 not_or : (x y : Bool) → not (x || y) ≡ not x && not y
 not_or true y = refl
@@ -36,10 +37,10 @@ module _ (here next : Row) (a : ℕ) where
   unfolding condition2
   enters_2 s one d word stood = rw (ne_eqb (here a) (next a) d, ne_eqb s.rule 2 one) (stood (next a))
 
-  pub exchanges_2 : (s : Sizes) → s.rule ≡ 2 → (here a ≡ next a → ⊥) → (r : ℕ)
-      → FirstFault s.k (λ b. not (eqb (here b) (next a) && eqb (next b) (here a))) r → eqb r s.k ≡ condition2 s here next a
+  pub exchanges_2 : (s : Sizes) → s.rule ≡ 2 → (here a ≡ next a → ⊥) → (r : Option ℕ)
+      → FirstFailing s.k (λ b. not (eqb (here b) (next a) && eqb (next b) (here a))) r → is_none r ≡ condition2 s here next a
   unfolding condition2
-  exchanges_2 s two d r f = rw (ne_eqb (here a) (next a) d, eq-eqb s.rule 2 two) (fault_every s.k _ r f)
+  exchanges_2 s two d r f = rw (ne_eqb (here a) (next a) d, eq-eqb s.rule 2 two) (failing_every s.k _ r f)
 
 pub shares_3 : (next : Row) (a word : ℕ) → Standing next a word → not (set? word (next a)) ≡ condition3 next a
 unfolding condition3
@@ -56,8 +57,3 @@ standing_next here a word v more h e f w =
 -- a bit that was asked for by a number equal to it
 pub unset : (word : ℕ) {v w : ℕ} {r : Bool} → v ≡ w → r ≡ set? word v → not r ≡ not (set? word w)
 unset word e f = rw (f, e)
-
-pub condition_last : (s : Sizes) (near : ℕ → ℕ → Bool) (which : ℕ) (here next : Row) (a : ℕ) → which ≢ 0 → which ≢ 1 → condition3 next a ≡ condition s near which here next a
-condition_last s near zero here next a d e = absurd (d refl)
-condition_last s near (suc zero) here next a d e = absurd (e refl)
-condition_last s near (suc (suc which)) here next a d e = refl

@@ -1,48 +1,48 @@
 // The three conditions of a valid step, asked of the bytes of a row and of the next row, and of two rows of a plan.
 #![tactic(auto)]
 
-ghost use Rattle.std.specs.Prelude.{◌≡◌, not, ◌&&◌, suc, ◌+◌, ◌<◌, ◌≤◌, length, get_or, eqb};
-ghost use Rattle.answers.specs.Fault.{FirstFault};
+ghost use Rattle.std.specs.Prelude.{◌≡◌, not, ◌&&◌, suc, ◌<◌, length, get_or, eqb};
+ghost use Rattle.answers.specs.Fault.{FirstFailing};
 ghost use Rattle.instance.specs.Instance.{joined};
 ghost use Rattle.plan.specs.Plan.{row, plan_bytes, plan_row, condition, condition1, condition2, condition3};
 ghost use Rattle.conditions.specs.Inside.{Inside, Standing};
+ghost use Rattle.conditions.specs.Conditions.{place_of};
 
-use instance::Sizes;
+use instance::{Problem, Sizes};
 
-// The first of `count` agents, whose bytes stand from an offset on, that stands on x, or `count`.
-pub fn first_on(p: &[u8], from: usize, count: usize, x: u8) -> usize
-    requires { from + count ≤ length p.now }
-    ensures { FirstFault count (λ a. not (eqb (get_or p.now (from + a) 0) x)) result }
-{
-    for a in 0..count {
-        if p[from + a] == x {
-            return a;
-        }
-    }
-    count
+// The conditions, in their order: of crossing an edge, of entering a vertex, of sharing one.
+#[derive(Clone, Copy, PartialEq, Eq)]
+pub enum Condition {
+    Crossing,
+    Entering,
+    Sharing,
 }
 
-// The first of `count` agents that goes from x to y, or `count`.
-pub fn first_going(here: &[u8], next: &[u8], count: usize, x: u8, y: u8) -> usize
-    requires { (count ≤ length here.now) × (count ≤ length next.now) }
-    ensures { FirstFault count (λ a. not (eqb (row here.now a) x && eqb (row next.now a) y)) result }
+// The first agent of a row that stands on x.
+pub fn first_on(here: &[u8], x: u8) -> Option<usize>
+    ensures { FirstFailing (length here.now) (λ a. not (eqb (row here.now a) x)) result }
 {
-    for a in 0..count {
-        if (here[a] == x) & (next[a] == y) {
-            return a;
-        }
-    }
-    count
+    here.iter().position(|v| *v == x)
 }
 
-// The vertices on which the first `count` agents of a row stand, as a word.
-fn occupied(here: &[u8], count: usize) -> u64
-    requires { (count ≤ length here.now) × Inside here.now }
-    ensures { Standing (row here.now) count result }
+// The first agent that goes from x to y.
+pub fn first_going(here: &[u8], next: &[u8], x: u8, y: u8) -> Option<usize>
+    requires { length here.now ≡ length next.now }
+    ensures { FirstFailing (length here.now) (λ a. not (eqb (row here.now a) x && eqb (row next.now a) y)) result }
+{
+    here.iter()
+        .zip(next)
+        .position(|(v, w)| (*v == x) & (*w == y))
+}
+
+// The vertices on which the agents of a row stand, as a word.
+fn occupied(here: &[u8]) -> u64
+    requires { Inside here.now }
+    ensures { Standing (row here.now) (length here.now) result }
 {
     let mut word = 0u64;
-    for a in 0..count {
-        word = bits::with_bit(word, numbers::wide(here[a]));
+    for v in here {
+        word = bits::with_bit(word, usize::from(*v));
     }
     word
 }
@@ -53,8 +53,8 @@ fn condition_1(near: &[u64; 64], here: &[u8], next: &[u8], a: usize) -> bool
     requires a_bound { (get_or here.now a 0 < 64) × (get_or next.now a 0 < 64) }
     ensures { result ≡ condition1 (joined near.now) (row here.now) (row next.now) a }
 {
-    let v = numbers::wide(here[a]);
-    let w = numbers::wide(next[a]);
+    let v = usize::from(here[a]);
+    let w = usize::from(next[a]);
     if v == w {
         return true;
     }
@@ -64,18 +64,17 @@ fn condition_1(near: &[u64; 64], here: &[u8], next: &[u8], a: usize) -> bool
 // Condition 2 of agent a: it keeps its vertex, or goes to one on which no agent stood; or, under rule 2, no agent goes from there to its
 // vertex?
 fn condition_2(s: Sizes, stood: u64, here: &[u8], next: &[u8], a: usize) -> bool
-    requires k_in_bounds { (s.k ≤ length here.now) × (s.k ≤ length next.now) × (a < s.k) }
+    requires rows { (length here.now ≡ s.k) × (length next.now ≡ s.k) × (a < s.k) }
     requires standing { Standing (row here.now) s.k stood × (get_or next.now a 0 < 64) }
     ensures { result ≡ condition2 s (row here.now) (row next.now) a }
 {
-    let k = s.k;
     let v = here[a];
     let w = next[a];
     if v != w {
         if s.rule == 2 {
-            return first_going(here, next, k, w, v) == k;
+            return first_going(here, next, w, v).is_none();
         }
-        return !bits::has_bit(stood, numbers::wide(w));
+        return !bits::has_bit(stood, usize::from(w));
     }
     true
 }
@@ -86,59 +85,57 @@ fn condition_3(taken: u64, next: &[u8], a: usize) -> bool
     requires standing { Standing (row next.now) a taken }
     ensures { result ≡ condition3 (row next.now) a }
 {
-    !bits::has_bit(taken, numbers::wide(next[a]))
+    !bits::has_bit(taken, usize::from(next[a]))
 }
 
-// The condition with a number, from 0, of agent a, before whom the lower agents have taken their vertices in the next row.
+// A condition of agent a, before whom the lower agents have taken their vertices in the next row.
 fn passes(
-    s: Sizes,
-    near: &[u64; 64],
-    which: usize,
+    problem: &Problem,
+    which: Condition,
     stood: u64,
     taken: u64,
     here: &[u8],
     next: &[u8],
     a: usize,
 ) -> bool
-    requires k_in_bounds { (s.k ≤ length here.now) × (s.k ≤ length next.now) × (a < s.k) }
+    requires rows { (length here.now ≡ problem.now.shape.sizes.k) × (length next.now ≡ problem.now.shape.sizes.k) × (a < problem.now.shape.sizes.k) }
     requires inside { Inside here.now × Inside next.now }
-    requires standing { Standing (row here.now) s.k stood × Standing (row next.now) a taken }
-    ensures { result ≡ condition s (joined near.now) which (row here.now) (row next.now) a }
+    requires standing { Standing (row here.now) problem.now.shape.sizes.k stood × Standing (row next.now) a taken }
+    ensures { result ≡ condition problem.now.shape.sizes (joined problem.now.near) (place_of which) (row here.now) (row next.now) a }
 {
     match which {
-        0 => condition_1(near, here, next, a),
-        1 => condition_2(s, stood, here, next, a),
-        _ => condition_3(taken, next, a),
+        Condition::Crossing => condition_1(&problem.near, here, next, a),
+        Condition::Entering => condition_2(problem.shape.sizes, stood, here, next, a),
+        Condition::Sharing => condition_3(taken, next, a),
     }
 }
 
-// The first agent that fails it, or k.
-fn fault(s: Sizes, near: &[u64; 64], which: usize, here: &[u8], next: &[u8]) -> usize
-    requires k_in_bounds { (s.k ≤ length here.now) × (s.k ≤ length next.now) }
+// The first agent that fails it.
+fn fault(problem: &Problem, which: Condition, here: &[u8], next: &[u8]) -> Option<usize>
+    requires rows { (length here.now ≡ problem.now.shape.sizes.k) × (length next.now ≡ problem.now.shape.sizes.k) }
     requires inside { Inside here.now × Inside next.now }
-    ensures { FirstFault s.k (condition s (joined near.now) which (row here.now) (row next.now)) result }
+    ensures { FirstFailing problem.now.shape.sizes.k (condition problem.now.shape.sizes (joined problem.now.near) (place_of which) (row here.now) (row next.now)) result }
 {
-    let k = s.k;
-    let stood = occupied(here, k);
+    let stood = occupied(here);
     let mut taken = 0u64;
-    for a in 0..k {
-        if !passes(s, near, which, stood, taken, here, next, a) {
-            return a;
+    for a in 0..problem.shape.sizes.k {
+        if !passes(problem, which, stood, taken, here, next, a) {
+            return Some(a);
         }
-        taken = bits::with_bit(taken, numbers::wide(next[a]));
+        taken = bits::with_bit(taken, usize::from(next[a]));
     }
-    k
+    None
 }
 
-// The first agent that fails it between rows t and t + 1 of a plan, or k.
-pub fn step_fault(s: Sizes, near: &[u64; 64], which: usize, p: &[u8], t: usize) -> usize
-    requires p_len { (length p.now ≡ plan_bytes s) × (t < s.m) }
+// The first agent that fails it between rows t and t + 1 of a plan.
+pub fn step_fault(problem: &Problem, which: Condition, p: &[u8], t: usize) -> Option<usize>
+    requires p_len { (length p.now ≡ plan_bytes problem.now.shape.sizes) × (t < problem.now.shape.sizes.m) }
     requires inside { Inside p.now }
-    ensures { FirstFault s.k (condition s (joined near.now) which (plan_row s p.now t) (plan_row s p.now (suc t))) result }
+    ensures { FirstFailing problem.now.shape.sizes.k (condition problem.now.shape.sizes (joined problem.now.near) (place_of which) (plan_row problem.now.shape.sizes p.now t) (plan_row problem.now.shape.sizes p.now (suc t))) result }
 {
-    let k = s.k;
+    let k = problem.shape.sizes.k;
     let row = t * k;
     let next = row + k;
     let end = next + k;
-    fault(s, near, which, &p[row..next], &p[next..end])
+    fault(problem, which, &p[row..next], &p[next..end])
 }

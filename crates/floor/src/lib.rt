@@ -1,79 +1,53 @@
 // The floor: instance bytes in, the greatest distance from a start to its goal out. No plan that passes has a smaller makespan.
 #![tactic(auto)]
 
-ghost use Rattle.std.specs.Prelude.{◌≡◌, ℕ, ◌≤◌, ◌<◌, max, length, get_or};
-ghost use Rattle.instance.specs.Instance.{GoalBelow};
+ghost use Rattle.std.specs.Prelude.{◌≡◌, ◌+◌, ◌*◌, ◌<◌, length};
+ghost use Rattle.answers.specs.Returned.{answer_of};
 ghost use Rattle.calls.specs.Calls.{floor_answer};
-ghost use Rattle.floor.specs.Measured.{measured, between};
+ghost use Rattle.floor.specs.Measured.{Reached, measured, between};
 
-use answers::Answer;
+use answers::{Reason, Refusal};
+use instance::{Problem, Sizes};
 
-// From the start of agent a to its goal, 0 where it is free.
-fn distance_of(table: &[[u8; 64]], starts: &[u8; 16], goals: &[u8; 16], a: usize) -> usize
-    requires { (a < 16) × (length table.now ≡ 64) × (get_or starts.now a 0 < 64) × GoalBelow 64 (get_or goals.now a 0) }
-    ensures { (result ≡ between starts.now goals.now table.now a) × (result < 256) }
+// From the start of agent a to its goal, 0 where it is free; none where the goal cannot be reached, for which the table has the mark 255.
+fn distance_of(problem: &Problem, table: &[[u8; 64]], a: usize) -> Option<usize>
+    requires { (length table.now ≡ 64) × (a < problem.now.shape.sizes.k) }
+    ensures { Reached (between problem.now.starts problem.now.goals table.now a) result }
 {
-    let goal = goals[a];
+    let goal = problem.goals[a];
     if goals::is_free(goal) {
-        return 0;
+        return Some(0);
     }
-    let row = distance_table::row_for(table, starts, a);
-    let v = numbers::wide(goal);
-    numbers::wide(row[v])
+    let row = distance_table::row_for(table, &problem.starts, a);
+    match row[usize::from(goal)] {
+        255 => None,
+        distance => Some(usize::from(distance)),
+    }
 }
 
-fn larger(x: usize, y: usize) -> usize
-    ensures { result ≡ max x y }
+// Question 30, and the greatest distance.
+fn measure(problem: &Problem, table: &[[u8; 64]]) -> Result<usize, Refusal>
+    requires { length table.now ≡ 64 }
+    ensures { answer_of result ≡ measured problem.now.shape.sizes.k (between problem.now.starts problem.now.goals table.now) (4 + 2 * problem.now.shape.sizes.e + problem.now.shape.sizes.k) }
 {
-    if x < y {
-        return y;
-    }
-    x
-}
-
-// Question 30 of k agents, and the greatest distance; 255 is the mark for unreachable. The offset of the first goal is `place`.
-fn measure(
-    table: &[[u8; 64]],
-    starts: &[u8; 16],
-    goals: &[u8; 16],
-    k: usize,
-    place: usize,
-) -> Answer
-    requires k_bound { (k ≤ 16) × (place ≤ 65535) × (length table.now ≡ 64) }
-    requires by_index { (a : ℕ) → a < k → (get_or starts.now a 0 < 64) × GoalBelow 64 (get_or goals.now a 0) }
-    ensures { result ≡ measured k (between starts.now goals.now table.now) place }
-{
+    let Sizes { k, e, .. } = problem.shape.sizes;
+    let goals = 4 + 2 * e + k;
     let mut most: usize = 0;
     for a in 0..k {
-        let d = distance_of(table, starts, goals, a);
-        if d == 255 {
-            return Answer {
-                number: 30,
-                second: place + a,
-            };
-        }
-        most = larger(most, d);
+        let Some(distance) = distance_of(problem, table, a) else {
+            return Err(Reason::Unreachable.at(goals + a));
+        };
+        most = most.max(distance);
     }
-    Answer {
-        number: 0,
-        second: most,
-    }
+    Ok(most)
 }
 
 // Questions 1 to 9 and 30. No horizon and no rule are given; the instance check is asked with horizon 0 and rule 1, which questions 10
 // and 31 pass.
-pub fn floor_of(b: &[u8]) -> Answer
-    ensures { result ≡ floor_answer b.now }
+pub fn floor_of(b: &[u8]) -> Result<usize, Refusal>
+    ensures { answer_of result ≡ floor_answer b.now }
 {
-    let i = instance_check::check_instance(b, 0, 1);
-    let answer = i.answer;
-    let c = i.checked;
-    if answer.number != 0 {
-        return answer;
-    }
-    let s = c.sizes;
-    let starts = c.starts;
-    let goals = c.goals;
-    let table = distance_table::table_of(&c.near, s.n);
-    measure(&table, &starts, &goals, s.k, 4 + 2 * s.e + s.k)
+    let problem = instance_check::check_instance(b, 0, 1)?;
+    let table = distance_table::table_of(&problem.near, problem.shape.sizes.n);
+    measure(&problem, &table)
 }

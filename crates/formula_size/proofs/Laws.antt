@@ -1,9 +1,15 @@
 -- The size of any formula, from its counts; and the counts of the pruned formula, by the table.
 use mathlib.Core.Path.{◌≡◌, refl, sym, ◌∙◌, ap, ap₂}
-use mathlib.Core.List.{List}
-use Prim.Native.Nat.{ℕ, ◌+◌, ◌*◌, ◌<◌}
+use mathlib.Core.Logic.{◌⊎◌, by_cases, ⊎_elim}
+use mathlib.Core.List.{List, ◌∷◌}
+use Prim.Native.Nat.{ℕ, ◌+◌, ◌*◌, ◌<◌, ◌≤◌, min}
+use native.Mathlib.Decide.{dec_lt}
+use native.Mathlib.Numerals.{add-one}
+use Rattle.std.proofs.Common.{add-zero}
 use native.Mathlib.Omega.{arith}
-use lib.ListN.{length, get_or}
+use lib.ListN.{length, length-drop, drop, get_or}
+use lib.Seq.{get_or-drop, drop-drop}
+use Rattle.lists.specs.Loop.{sum}
 use Rattle.std.specs.Prelude.{Ok, Err}
 use Rattle.answers.specs.declared.Refusal.{Refusal}
 use Rattle.answers.specs.Answers.{accept, with_clauses}
@@ -30,6 +36,41 @@ use Rattle.formula.proofs.Pruned.{count_H_ext, pruned_clause_count, pruned_word_
 use Rattle.calls.specs.Calls.{size_answer}
 use Rattle.calls.proofs.Size.{size_refuses, size_accepts}
 use Rattle.formula_size.specs.ByTable.{count_by_table}
+
+-- the element at v, and what is left after it
+dropped_next : (xs rest : List ℕ) (v x : ℕ) → drop v xs ≡ x ∷ rest → (x ≡ get_or xs v 0) × (rest ≡ drop (v + 1) xs)
+dropped_next xs rest v x e = (
+  ap (λ (l : List ℕ). get_or l 0 0) (sym e) ∙ get_or-drop v xs 0 0 ∙ ap (λ (i : ℕ). get_or xs i 0) (add-zero v),
+  ap (drop 1) (sym e) ∙ drop-drop 1 v xs,
+)
+
+-- v of n vertices are passed, by two iterators that have a and b left; so many times are too far for them
+pub record Passing (n times : ℕ) (from to : List ℕ) (v left : ℕ) (a b : List ℕ) (count : ℕ) : Type 0 where
+  pub all : v + left ≡ n
+  pub from_left : a ≡ drop v from
+  pub to_left : b ≡ drop v to
+  pub same : count ≡ sum v (λ u. min times (get_or from u 0 + get_or to u 0))
+  pub most : count ≤ v * 33
+
+module _ {n times : ℕ} {from to : List ℕ} {v left : ℕ} {a b : List ℕ} {count : ℕ} (w : Passing n times from to v left a b count) where
+  pub passing_next : (x y rest far : ℕ) (c d : List ℕ) → a ≡ x ∷ c → b ≡ y ∷ d → rest + 1 ≡ left → far ≡ min times (x + y) → far ≤ 33
+      → Passing n times from to (v + 1) rest c d (count + far)
+  passing_next x y rest far c d p q r e l =
+      let f = dropped_next from c v x (sym w.from_left ∙ p) in
+      let g = dropped_next to d v y (sym w.to_left ∙ q) in
+      record {
+        all = omega (arith, w.all);
+        from_left = f.1;
+        to_left = g.1;
+        same = rw (add-one v) (ap₂ ◌+◌ w.same (e ∙ ap₂ (λ (i j : ℕ). min times (i + j)) f.0 g.0));
+        most = omega (arith, w.most);
+      }
+
+  pub passing_done : n ≤ length from → n ≤ length to → (0 < left → (length a ≡ 0) ⊎ (length b ≡ 0)) → v ≡ n
+  passing_done p q h =
+      by_cases (dec_lt 0 left)
+      (λ l. ⊎_elim (λ z. omega (arith, w.all, ap length w.from_left, length-drop v from)) (λ z. omega (arith, w.all, ap length w.to_left, length-drop v to)) (h l))
+      (λ l. omega (arith, w.all))
 
 -- what the instance check returns is the size call's refusal e, or the problem p, whose formula has x words and y clauses
 module _ (f : Instance → Formula) (b : List ℕ) (m rule : ℕ) where

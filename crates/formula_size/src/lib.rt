@@ -22,10 +22,7 @@ pub fn formula_size(b: &[u8], m: usize, rule: usize) -> Result<Extent, Refusal>
     let s = problem.shape;
     let words = counts::word_count(s);
     let clauses = counts::clause_count(s);
-    Ok(Extent {
-        words,
-        clauses,
-    })
+    Ok(Extent { words, clauses })
 }
 
 // Of so many times, how many are too early or too late for a vertex. 16 bits, so that several vertices are taken at once.
@@ -40,11 +37,10 @@ fn times_far(times: u16, x: u8, y: u8) -> u16
 fn count_for(s: Shape, from: &[u8; 64], to: &[u8; 64]) -> usize
     ensures { (result ≡ sum s.sizes.n (λ v. min (suc s.sizes.m) (get_or from.now v 0 + get_or to.now v 0))) × (result ≤ 2112) }
 {
-    let n = s.sizes.n;
     let times = (s.sizes.m + 1) as u16;
     let mut count: u16 = 0;
-    for v in 0..n {
-        count += times_far(times, from[v], to[v]);
+    for (x, y) in from.iter().zip(to).take(s.sizes.n) {
+        count += times_far(times, *x, *y);
     }
     usize::from(count)
 }
@@ -82,8 +78,5 @@ pub fn pruned_size(b: &[u8], m: usize, rule: usize) -> Result<Extent, Refusal>
     let more = count_h(&problem, &table);
     let words = pruned_words(s, more);
     let clauses = counts::clause_count(s) + more;
-    Ok(Extent {
-        words,
-        clauses,
-    })
+    Ok(Extent { words, clauses })
 }

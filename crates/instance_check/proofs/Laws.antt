@@ -20,7 +20,8 @@ use Rattle.answers.specs.Answers.{Question, refuse, accept, decide, clear, ask, 
 use Rattle.answers.specs.declared.Refusal.{Refusal}
 use Rattle.answers.specs.Returned.{refused}
 use Rattle.answers.proofs.Returned.{refused_after}
-use Rattle.answers.specs.Fault.{FirstFault}
+use Rattle.std.specs.Prelude.{Option, Some, None, IsSome}
+use Rattle.answers.specs.Fault.{FirstFault, FirstFailing}
 use Rattle.answers.proofs.Faults.{holds, fails}
 use Rattle.answers.proofs.Laws.{clear_iff, decide_iff, decide_after, decide_pass, fault_pass, fault_stop, by_number_accepted, ask_nil, ask_all}
 use Rattle.instance.specs.declared.Sizes.{Sizes}
@@ -69,11 +70,11 @@ module _ (f : ℕ → ℕ) (a x : ℕ) (seen : List Bool) (e : x ≡ f a) (h : S
       (λ l. rw (e, le-ltb (f a) (vertices b) (omega arith)))
 
 -- ---- questions 6 to 10 and 31
--- an edge that fails fails the order, where all are proper
-pub order_fails : {n l : ℕ} {p q : ℕ → Bool} {j i : ℕ} → every n p && every l q ≡ false → FirstFault n p j → n ≤ j → FirstFault l q i → i < l
-order_fails {n} {l} {p} {q} {j} {i} e f past g =
-    by_cases (dec_lt i l) (λ h. h)
-    (λ h. absurd (fails refl e ((and_iff (every n p) (every l q)).1 ((every_iff n p).1 (λ x k. f.before x (omega arith)), (every_iff l q).1 (λ x k. g.before x (omega arith))))))
+-- some edge is out of order, where all are proper and one fails
+pub order_fails : (n l : ℕ) (p q : ℕ → Bool) → every n p && every l q ≡ false → FirstFault n p n → (i : Option ℕ) → FirstFailing l q i → IsSome i
+order_fails n l p q e f (Some i) g = refl
+order_fails n l p q e f None g =
+    absurd (fails refl e ((and_iff (every n p) (every l q)).1 ((every_iff n p).1 f.before, (every_iff l q).1 g.before)))
 
 pub edges_pass : (b : List ℕ) (qs : List Question) → every (edges b) (proper_edge b) && every (edges b - 1) (λ i. later_edge b (suc i) i) ≡ true
     → decide qs 0 ≡ decide (question6 b ∷ question7 b ∷ qs) 0

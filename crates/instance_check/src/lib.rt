@@ -1,12 +1,14 @@
 // The instance check: questions 1 to 10 and 31, of any bytes and any numbers given as horizon and rule.
 #![tactic(auto)]
 
+mod edge_bytes;
+
 ghost use Rattle.std.specs.Prelude.{◌≡◌, false, ◌&&◌, ◌||◌, List, [], ◌∷◌, ℕ, suc, ◌+◌, ◌-◌, ◌*◌, ◌<◌, ◌≤◌, length, get_or, take, drop, replicate, IfOk};
 ghost use Rattle.lists.specs.Loop.{every};
 ghost use Rattle.lists.specs.Slice.{filled};
 ghost use Rattle.answers.specs.Answers.{Question, decide};
 ghost use Rattle.answers.specs.Returned.{asked, refused};
-ghost use Rattle.answers.specs.Fault.{FirstFault};
+ghost use Rattle.answers.specs.Fault.{FirstFailing};
 ghost use Rattle.instance.specs.Instance.{free, instance, vertices, agents, edges, neighbour_words, joined, Edges};
 ghost use Rattle.instance.specs.Questions.{question2, question3, question4, question5, question6, question7, question8, question9, question10, question31, proper_edge, later_edge, new_vertex, instance_answer, instance_checked};
 ghost use Rattle.instance.specs.Problem.{checked_of};
@@ -14,6 +16,7 @@ ghost use Rattle.instance_check.specs.Read.{Read};
 ghost use Rattle.instance_check.specs.Marked.{Ends, Marked, fan};
 
 use answers::{Reason, Refusal};
+use edge_bytes::EdgeBytes;
 use instance::{Problem, Shape, Sizes};
 
 // The sizes, where there are bytes for them: n, k, and e in two bytes, low byte first. No goal is looked at yet.
@@ -21,9 +24,9 @@ fn sizes_of(b: &[u8], m: usize, rule: usize) -> Sizes
     requires { 4 ≤ length b.now }
     ensures { Read b.now result × (result.m ≡ m) × (result.rule ≡ rule) }
 {
-    let n = numbers::wide(b[0]);
-    let k = numbers::wide(b[1]);
-    let e = numbers::wide(b[2]) + 256 * numbers::wide(b[3]);
+    let n = usize::from(b[0]);
+    let k = usize::from(b[1]);
+    let e = usize::from(u16::from_le_bytes([b[2], b[3]]));
     Sizes {
         n,
         k,
@@ -56,113 +59,28 @@ fn ask_sizes(b: &[u8], s: Sizes) -> Result<(), Refusal>
     Ok(())
 }
 
-// Edge j: low end < high end < n?
-fn proper_edge(b: &[u8], e: usize, j: usize) -> bool
-    requires { (4 + e + j < length b.now) × (e ≡ edges b.now) }
-    ensures { result ≡ proper_edge b.now j }
-{
-    let high = b[4 + e + j];
-    (b[4 + j] < high) & (high < b[0])
-}
-
-// Edge i + 1 comes after edge i, by low end, then high end?
-fn later_edge(b: &[u8], e: usize, i: usize) -> bool
-    requires { (5 + e + i < length b.now) × (e ≡ edges b.now) }
-    ensures { result ≡ later_edge b.now (suc i) i }
-{
-    let low = b[4 + i];
-    let next = b[5 + i];
-    (low < next) | (low == next) & (b[4 + e + i] < b[5 + e + i])
-}
-
-// Every edge proper? The loop has one way out and no branch, so that the compiler takes many edges at a time.
-fn all_proper(b: &[u8], e: usize) -> bool
-    requires { (4 + e + e ≤ length b.now) × (e ≡ edges b.now) }
-    ensures { result ≡ every (edges b.now) (proper_edge b.now) }
-{
-    let mut all = true;
-    for j in 0..e {
-        all = all & proper_edge(b, e, j);
-    }
-    all
-}
-
-// Every edge after the one before it? Also with one way out.
-fn all_later(b: &[u8], e: usize) -> bool
-    requires { (4 + e + e ≤ length b.now) × (e ≡ edges b.now) }
-    ensures { result ≡ every (edges b.now - 1) (λ i. later_edge b.now (suc i) i) }
-{
-    let mut all = true;
-    let mut i: usize = 0;
-    while i + 1 < e {
-        all = all & later_edge(b, e, i);
-        i += 1;
-    }
-    all
-}
-
-// The first edge that is not proper, or e.
-fn edge_fault(b: &[u8], e: usize) -> usize
-    requires { (4 + e + e ≤ length b.now) × (e ≡ edges b.now) }
-    ensures { FirstFault (edges b.now) (proper_edge b.now) result }
-{
-    for j in 0..e {
-        if !proper_edge(b, e, j) {
-            return j;
-        }
-    }
-    e
-}
-
-// The first i such that edge i + 1 does not come after edge i, or e - 1.
-fn order_fault(b: &[u8], e: usize) -> usize
-    requires { (4 + e + e ≤ length b.now) × (e ≡ edges b.now) }
-    ensures { FirstFault (edges b.now - 1) (λ i. later_edge b.now (suc i) i) result }
-{
-    let mut i: usize = 0;
-    while i + 1 < e {
-        if !later_edge(b, e, i) {
-            return i;
-        }
-        i += 1;
-    }
-    i
-}
-
-// Questions 6 and 7, where some edge fails one of them: the refusal, whatever is asked later.
-fn edge_refusal(b: &[u8], e: usize) -> Refusal
-    requires { (4 + e + e ≤ length b.now) × (e ≡ edges b.now) × (every (edges b.now) (proper_edge b.now) && every (edges b.now - 1) (λ i. later_edge b.now (suc i) i) ≡ false) }
-    ensures { (later : List Question) → refused result ≡ decide (question6 b.now ∷ question7 b.now ∷ later) 0 }
-{
-    let j = edge_fault(b, e);
-    if j < e {
-        return Reason::ImproperEdge.at(4 + j);
-    }
-    Reason::EdgeOrder.at(5 + order_fault(b, e))
-}
-
-// The first of k bytes, from an offset on, that is no vertex or like an earlier one, or k. Where `optional`, as for goals, 255 is passed
+// The first of k bytes, from an offset on, that is no vertex or like an earlier one. Where `optional`, as for goals, 255 is passed
 // over.
-fn vertex_fault(b: &[u8], offset: usize, k: usize, optional: bool) -> usize
+fn vertex_fault(b: &[u8], offset: usize, k: usize, optional: bool) -> Option<usize>
     requires { (offset + k ≤ length b.now) × (0 < length b.now) × (k ≡ agents b.now) × (vertices b.now ≤ 64) }
-    ensures { FirstFault (agents b.now) (λ a. (optional && free (get_or b.now (offset + a) 0)) || new_vertex b.now (λ c. get_or b.now (offset + c) 0) a) result }
+    ensures { FirstFailing (agents b.now) (λ a. (optional && free (get_or b.now (offset + a) 0)) || new_vertex b.now (λ c. get_or b.now (offset + c) 0) a) result }
 {
-    let n = numbers::wide(b[0]);
+    let n = usize::from(b[0]);
     let mut seen = [false; 64];
     for a in 0..k {
         let x = b[offset + a];
         if !(optional & goals::is_free(x)) {
-            let v = numbers::wide(x);
+            let v = usize::from(x);
             if n <= v {
-                return a;
+                return Some(a);
             }
             if seen[v] {
-                return a;
+                return Some(a);
             }
             seen[v] = true;
         }
     }
-    k
+    None
 }
 
 // Questions 6 to 10 and 31, where the length is right.
@@ -171,17 +89,16 @@ fn ask_items(b: &[u8], s: Sizes) -> Result<(), Refusal>
     ensures { asked result ≡ decide (question6 b.now ∷ question7 b.now ∷ question8 b.now ∷ question9 b.now ∷ question10 s.m ∷ question31 s.rule ∷ []) 0 }
 {
     let Sizes { k, e, .. } = s;
-    if !(all_proper(b, e) & all_later(b, e)) {
-        return Err(edge_refusal(b, e));
+    let edges = EdgeBytes { b, e };
+    if !(edges.all_proper() & edges.all_later()) {
+        return Err(edges.refusal());
     }
     let starts = 4 + 2 * e;
-    let a = vertex_fault(b, starts, k, false);
-    if a < k {
+    if let Some(a) = vertex_fault(b, starts, k, false) {
         return Err(Reason::BadStart.at(starts + a));
     }
     let goals = starts + k;
-    let c = vertex_fault(b, goals, k, true);
-    if c < k {
+    if let Some(c) = vertex_fault(b, goals, k, true) {
         return Err(Reason::BadGoal.at(goals + c));
     }
     if 32 < s.m {
@@ -198,10 +115,8 @@ fn for_agents(b: &[u8], offset: usize, k: usize) -> [u8; 16]
     requires { (k ≤ 16) × (offset + k ≤ length b.now) }
     ensures { result ≡ filled (take k (drop offset b.now)) (replicate 16 0) }
 {
-    let mut row = [0u8; 16];
-    for a in 0..k {
-        row[a] = b[offset + a];
-    }
+    let mut row = [0; 16];
+    row[..k].copy_from_slice(&b[offset..offset + k]);
     row
 }
 
@@ -218,19 +133,21 @@ fn mark_fan(near: &mut [u64], low: usize, high: usize, n: usize)
 
 // Marks the edges from one on that have its low end, and answers where they end. The word of the low end is kept beside the others
 // until they are marked.
-fn mark_run(near: &mut [u64], b: &[u8], e: usize, from: usize) -> usize
-    requires from_lt_e { (from < e) × (e ≡ edges b.now) × (4 + e + e ≤ length b.now) }
-    requires ends { Ends b.now × Marked b.now from near.old }
-    ensures { (from < result) × (result ≤ e) × Marked b.now result near.new }
+fn mark_run(near: &mut [u64], edges: &EdgeBytes, from: usize) -> usize
+    requires from_lt_e { from < edges.now.e }
+    requires ends { Ends edges.now.b.now × Marked edges.now.b.now from near.old }
+    ensures { (from < result) × (result ≤ edges.now.e) × Marked edges.now.b.now result near.new }
 {
-    let low = numbers::wide(b[4 + from]);
+    let b = edges.b;
+    let e = edges.e;
+    let low = usize::from(b[4 + from]);
     let mut row = near[low];
     let mut j = from;
     while j < e {
-        if numbers::wide(b[4 + j]) != low {
+        if usize::from(b[4 + j]) != low {
             break;
         }
-        let high = numbers::wide(b[4 + e + j]);
+        let high = usize::from(b[4 + e + j]);
         row = bits::with_bit(row, high);
         near[high] = bits::with_bit(near[high], low);
         j += 1;
@@ -241,33 +158,36 @@ fn mark_run(near: &mut [u64], b: &[u8], e: usize, from: usize) -> usize
 
 // Marks edges from one on, and answers where they end. Edges rise: where the edge as many places on as there are vertices from its
 // high end on has its low end too, they go to each of those vertices. Else those with its low end are marked one by one.
-fn mark_edges(near: &mut [u64], b: &[u8], n: usize, e: usize, from: usize) -> usize
-    requires from_lt_e { (from < e) × (e ≡ edges b.now) × (4 + e + e ≤ length b.now) × (n ≡ vertices b.now) × (n ≤ 64) }
-    requires edges { Edges (instance b.now 0 1) × Marked b.now from near.old }
-    ensures { (from < result) × (result ≤ e) × Marked b.now result near.new }
+fn mark_edges(near: &mut [u64], edges: &EdgeBytes, n: usize, from: usize) -> usize
+    requires from_lt_e { (from < edges.now.e) × (n ≡ vertices edges.now.b.now) × (n ≤ 64) }
+    requires edges { Edges (instance edges.now.b.now 0 1) × Marked edges.now.b.now from near.old }
+    ensures { (from < result) × (result ≤ edges.now.e) × Marked edges.now.b.now result near.new }
 {
-    let low = numbers::wide(b[4 + from]);
-    let high = numbers::wide(b[4 + e + from]);
+    let b = edges.b;
+    let e = edges.e;
+    let low = usize::from(b[4 + from]);
+    let high = usize::from(b[4 + e + from]);
     let to = from + (n - high);
     if to <= e {
-        if numbers::wide(b[3 + to]) == low {
+        if usize::from(b[3 + to]) == low {
             mark_fan(near, low, high, n);
             return to;
         }
     }
-    mark_run(near, b, e, from)
+    mark_run(near, edges, from)
 }
 
 // The neighbours of every vertex, as words, in one pass over the edges.
-fn neighbour_words(b: &[u8], n: usize, e: usize) -> [u64; 64]
-    requires e_value { (e ≡ edges b.now) × (4 + e + e ≤ length b.now) × (n ≡ vertices b.now) × (n ≤ 64) }
-    requires edges { Edges (instance b.now 0 1) }
-    ensures { (m rule : ℕ) → result ≡ neighbour_words (instance b.now m rule) }
+fn neighbour_words(edges: &EdgeBytes, n: usize) -> [u64; 64]
+    requires n_value { (n ≡ vertices edges.now.b.now) × (n ≤ 64) }
+    requires edges { Edges (instance edges.now.b.now 0 1) }
+    ensures { (m rule : ℕ) → result ≡ neighbour_words (instance edges.now.b.now m rule) }
 {
     let mut near = [0u64; 64];
     let mut j: usize = 0;
-    while j < e {
-        j = mark_edges(&mut near, b, n, e, j);
+    // The next j is where the run of edges ends.
+    while j < edges.e {
+        j = mark_edges(&mut near, edges, n, j);
     }
     near
 }
@@ -288,7 +208,7 @@ pub fn check_instance(b: &[u8], m: usize, rule: usize) -> Result<Problem, Refusa
     let at = 4 + 2 * e;
     let starts = for_agents(b, at, k);
     let goals = for_agents(b, at + k, k);
-    let near = neighbour_words(b, n, e);
+    let near = neighbour_words(&EdgeBytes { b, e }, n);
     let g = goals::count(&goals, k);
     let shape = Shape {
         sizes: Sizes {

@@ -13,8 +13,9 @@ use Rattle.lists.proofs.Tests.{every_ext}
 use Rattle.lists.proofs.Blocks.{place_split}
 use Rattle.lists.proofs.Slices.{part_get_or}
 use Rattle.lists.proofs.Slices as parts
-use Rattle.answers.specs.Fault.{FirstFault}
-use Rattle.answers.proofs.Faults.{fault_ext}
+use Rattle.std.specs.Prelude.{Option}
+use Rattle.answers.specs.Fault.{FirstFault, FirstFailing}
+use Rattle.answers.proofs.Faults.{fault_ext, failing_ext}
 use Rattle.instance.specs.declared.Sizes.{Sizes}
 use Rattle.instance.specs.Instance.{following}
 use Rattle.plan.specs.Plan.{Row, row, plan_bytes, plan_row, condition, condition1, condition2, condition3}
@@ -59,6 +60,15 @@ pub part_below : (p : List ℕ) (x : ℕ) → ((i : ℕ) → i < length p → ge
 part_below p x f from to h l i q =
     let q' : i < to - from = omega (arith, part_length p from to h l) in
     rw (part_at p from to i q') (f (from + i) (omega arith))
+
+-- what a loop over a part's bytes finds, it finds in the bytes from its offset on
+pub part_failing : (p : List ℕ) (from to n : ℕ) → from + n ≡ to → to ≤ length p → (test : ℕ → ℕ → Bool) (r : Option ℕ)
+    → FirstFailing (length (take (to - from) (drop from p))) (λ a. test a (row (take (to - from) (drop from p)) a)) r
+    → FirstFailing n (λ a. test a (get_or p (from + a) 0)) r
+part_failing p from to n e l test r f =
+    let long : length (take (to - from) (drop from p)) ≡ n = omega (arith, part_length p from to (omega arith) l) in
+    failing_ext r (λ a o. ap (test a) (part_at p from to a (omega arith)))
+    (subst (λ (k : ℕ). FirstFailing k (λ a. test a (row (take (to - from) (drop from p)) a)) r) long f)
 
 -- ---- the conditions depend on the rows only as far as agents go
 condition_same : (s : Sizes) (near : ℕ → ℕ → Bool) (which : ℕ) (here next here' next' : Row)

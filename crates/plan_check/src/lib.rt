@@ -1,239 +1,169 @@
 // The plan check: questions 1 to 10, 31, 13 and 17 to 22, of any bytes and any numbers given as horizon and rule.
 #![tactic(auto)]
 
-ghost use Rattle.std.specs.Prelude.{◌≡◌, suc, ◌+◌, ◌-◌, ◌<◌, ◌≤◌, length, get_or, T, ltb, eqb, ◌&&◌, ◌||◌, ◌≢◌};
+ghost use Rattle.std.specs.Prelude.{◌≡◌, suc, ◌+◌, ◌<◌, ◌≤◌, length, get_or, T, ltb, eqb, ◌||◌, ◌≢◌};
 ghost use Rattle.lists.specs.Loop.{for};
 ghost use Rattle.answers.specs.Answers.{decide};
-ghost use Rattle.answers.specs.Fault.{FirstFault};
-ghost use Rattle.plan.specs.Plan.{plan_bytes, plan_row, condition2, occupant_leaves, rest_time, cost};
+ghost use Rattle.answers.specs.Returned.{number_of, asked, answer_of};
+ghost use Rattle.answers.specs.Fault.{FirstFailing};
+ghost use Rattle.plan.specs.Plan.{row, plan_bytes, plan_row, condition2, occupant_leaves, rest_time, cost};
 ghost use Rattle.calls.specs.Questions.{occupied_number, second_number};
 ghost use Rattle.calls.specs.Calls.{step_questions, plan_questions, check_answer};
 ghost use Rattle.instance.specs.Instance.{Instance, free};
-ghost use Rattle.instance.specs.Limits.{Limits};
-ghost use Rattle.instance.specs.Shows.{ShowsGraph, Shows};
+ghost use Rattle.instance.specs.Problem.{ShowsAll};
+ghost use Rattle.instance.specs.Shows.{ShowsGraph};
 ghost use Rattle.conditions.specs.Inside.{Inside};
 
-use answers::Answer;
-use instance::Sizes;
+use answers::{Reason, Refusal};
+use conditions::Condition;
+use instance::{Problem, Shape, Sizes};
 
-// Under rule 1 the number for agent a, which enters an occupied vertex in step t: 20, 25 or 26, by what the occupant does.
-fn occupied_number(s: Sizes, p: &[u8], t: usize, a: usize) -> u32
+// Under rule 1 the reason for which agent a is refused, which enters an occupied vertex in step t: by what the occupant does.
+fn occupied_reason(s: Sizes, p: &[u8], t: usize, a: usize) -> Reason
     requires p_len { (length p.now ≡ plan_bytes s) × (t < s.m) × (a < s.k) }
     requires rule_nonzero { (s.rule ≢ 2) × (T (condition2 s (plan_row s p.now t) (plan_row s p.now (suc t)) a) → ⊥) }
-    ensures { result ≡ occupied_number (occupant_leaves s (plan_row s p.now t) (plan_row s p.now (suc t)) a) }
+    ensures { number_of result ≡ occupied_number (occupant_leaves s (plan_row s p.now t) (plan_row s p.now (suc t)) a) }
 {
-    let k = s.k;
-    let row = t * k;
-    let next = row + k;
+    let row = t * s.k;
+    let next = row + s.k;
     let old = p[row + a];
     let entered = p[next + a];
-    let occupant = conditions::first_on(p, row, k, entered);
+    let Some(occupant) = conditions::first_on(&p[row..next], entered) else {
+        unreachable!()
+    };
     let end = p[next + occupant];
     if end == entered {
-        return 20;
+        return Reason::Occupied;
     }
     if end == old {
-        return 25;
+        return Reason::Exchange;
     }
-    26
+    Reason::ClosingUp
 }
 
-// The number for agent a, which fails condition 2 in step t: under rule 2 it exchanges vertices with another.
-fn second_number(s: Sizes, p: &[u8], t: usize, a: usize) -> u32
+// That for agent a, which fails condition 2 in step t: under rule 2 it exchanges vertices with another.
+fn second_reason(s: Sizes, p: &[u8], t: usize, a: usize) -> Reason
     requires p_len { (length p.now ≡ plan_bytes s) × (t < s.m) × (a < s.k) }
     requires fact { T (condition2 s (plan_row s p.now t) (plan_row s p.now (suc t)) a) → ⊥ }
-    ensures { result ≡ second_number s (plan_row s p.now t) (plan_row s p.now (suc t)) a }
+    ensures { number_of result ≡ second_number s (plan_row s p.now t) (plan_row s p.now (suc t)) a }
 {
     if s.rule != 2 {
-        return occupied_number(s, p, t, a);
+        return occupied_reason(s, p, t, a);
     }
-    25
+    Reason::Exchange
 }
 
 // Questions 19 to 21 of step t.
-fn ask_step(s: Sizes, near: &[u64; 64], p: &[u8], t: usize) -> Answer
-    requires limits { Limits s }
-    requires p_len { (length p.now ≡ plan_bytes s) × (t < s.m) × Inside p.now }
-    ensures { (I : Instance) → ShowsGraph I s near.now → result ≡ decide (step_questions I p.now t) 0 }
+fn ask_step(problem: &Problem, p: &[u8], t: usize) -> Result<(), Refusal>
+    requires { (length p.now ≡ plan_bytes problem.now.shape.sizes) × (t < problem.now.shape.sizes.m) × Inside p.now }
+    ensures { (I : Instance) → ShowsGraph I problem.now.shape.sizes problem.now.near → asked result ≡ decide (step_questions I p.now t) 0 }
 {
-    let k = s.k;
-    let next = (t + 1) * k;
-    let crossing = conditions::step_fault(s, near, 0, p, t);
-    let entering = conditions::step_fault(s, near, 1, p, t);
-    let sharing = conditions::step_fault(s, near, 2, p, t);
-    if crossing < k {
-        return Answer {
-            number: 19,
-            second: next + crossing,
-        };
+    let s = problem.shape.sizes;
+    let next = (t + 1) * s.k;
+    if let Some(a) = conditions::step_fault(problem, Condition::Crossing, p, t) {
+        return Err(Reason::Jump.at(next + a));
     }
-    if entering < k {
-        return Answer {
-            number: second_number(s, p, t, entering),
-            second: next + entering,
-        };
+    if let Some(a) = conditions::step_fault(problem, Condition::Entering, p, t) {
+        return Err(second_reason(s, p, t, a).at(next + a));
     }
-    if sharing < k {
-        return Answer {
-            number: 21,
-            second: next + sharing,
-        };
+    if let Some(a) = conditions::step_fault(problem, Condition::Sharing, p, t) {
+        return Err(Reason::Shared.at(next + a));
     }
-    Answer {
-        number: 0,
-        second: 0,
-    }
+    Ok(())
 }
 
-// Questions 19 to 21 of each step between the first `rows` rows, step by step.
-fn ask_steps(s: Sizes, near: &[u64; 64], p: &[u8], rows: usize) -> Answer
-    requires limits { Limits s }
-    requires p_len { (length p.now ≡ plan_bytes s) × (rows ≤ s.m + 1) × Inside p.now }
-    ensures { (I : Instance) → ShowsGraph I s near.now → result ≡ decide (for (rows - 1) (step_questions I p.now)) 0 }
+// Questions 19 to 21 of each step, step by step.
+fn ask_steps(problem: &Problem, p: &[u8]) -> Result<(), Refusal>
+    requires { (length p.now ≡ plan_bytes problem.now.shape.sizes) × Inside p.now }
+    ensures { (I : Instance) → ShowsGraph I problem.now.shape.sizes problem.now.near → asked result ≡ decide (for problem.now.shape.sizes.m (step_questions I p.now)) 0 }
 {
-    let mut t: usize = 0;
-    while t + 1 < rows {
-        let answer = ask_step(s, near, p, t);
-        if answer.number != 0 {
-            return answer;
-        }
-        t += 1;
+    for t in 0..problem.shape.sizes.m {
+        ask_step(problem, p, t)?;
     }
-    Answer {
-        number: 0,
-        second: 0,
-    }
+    Ok(())
 }
 
-// The first byte of the plan that is no vertex, or its length.
-fn byte_fault(p: &[u8], n: usize) -> usize
-    ensures { FirstFault (length p.now) (λ i. ltb (get_or p.now i 0) n) result }
+// The first byte of the plan that is no vertex.
+fn byte_fault(p: &[u8], n: usize) -> Option<usize>
+    ensures { FirstFailing (length p.now) (λ i. ltb (get_or p.now i 0) n) result }
 {
-    for i in 0..p.len() {
-        if n <= numbers::wide(p[i]) {
-            return i;
-        }
-    }
-    p.len()
+    p.iter().position(|v| n <= usize::from(*v))
 }
 
-// The first agent whose byte of a row is not that of the array, or k. Where `optional`, as for goals, free agents are passed over.
-fn row_fault(p: &[u8], row: usize, k: usize, wanted: &[u8; 16], optional: bool) -> usize
-    requires { (row + k ≤ length p.now) × (k ≤ 16) }
-    ensures { FirstFault k (λ a. (optional && free (get_or wanted.now a 0)) || eqb (get_or p.now (row + a) 0) (get_or wanted.now a 0)) result }
+// The first agent of a row that is not at its start.
+fn start_fault(here: &[u8], starts: &[u8; 16]) -> Option<usize>
+    requires { length here.now ≤ 16 }
+    ensures { FirstFailing (length here.now) (λ a. eqb (row here.now a) (get_or starts.now a 0)) result }
 {
-    for a in 0..k {
-        let w = wanted[a];
-        if !((optional & goals::is_free(w)) | (p[row + a] == w)) {
-            return a;
-        }
-    }
-    k
+    here.iter().zip(starts).position(|(v, start)| *v != *start)
+}
+
+// The first agent of a row that is not at its goal. Free agents are passed over.
+fn goal_fault(here: &[u8], goals: &[u8; 16]) -> Option<usize>
+    requires { length here.now ≤ 16 }
+    ensures { FirstFailing (length here.now) (λ a. free (get_or goals.now a 0) || eqb (row here.now a) (get_or goals.now a 0)) result }
+{
+    here.iter()
+        .zip(goals)
+        .position(|(v, goal)| !(goals::is_free(*goal) | (*v == *goal)))
 }
 
 // Questions 17 to 22 of a plan of the right length; its count is 0.
-pub fn ask_plan(s: Sizes, starts: &[u8; 16], goals: &[u8; 16], near: &[u64; 64], p: &[u8]) -> Answer
-    requires limits { Limits s }
-    requires p_len { length p.now ≡ plan_bytes s }
-    ensures { (I : Instance) → Shows I s starts.now goals.now near.now → result ≡ decide (plan_questions I p.now) 0 }
+pub fn ask_plan(problem: &Problem, p: &[u8]) -> Result<(), Refusal>
+    requires { length p.now ≡ plan_bytes problem.now.shape.sizes }
+    ensures { (I : Instance) → ShowsAll I problem.now → asked result ≡ decide (plan_questions I p.now) 0 }
 {
-    let n = s.n;
-    let k = s.k;
-    let i = byte_fault(p, n);
-    if i < p.len() {
-        return Answer {
-            number: 17,
-            second: i,
-        };
+    let Sizes { n, k, m, .. } = problem.shape.sizes;
+    if let Some(i) = byte_fault(p, n) {
+        return Err(Reason::NoVertex.at(i));
     }
-    let start = row_fault(p, 0, k, starts, false);
-    if start < k {
-        return Answer {
-            number: 18,
-            second: start,
-        };
+    if let Some(a) = start_fault(&p[..k], &problem.starts) {
+        return Err(Reason::NotAtStart.at(a));
     }
-    let m = s.m;
-    let rows = m + 1;
-    let steps = ask_steps(s, near, p, rows);
-    if steps.number != 0 {
-        return steps;
-    }
+    ask_steps(problem, p)?;
     let last = m * k;
-    let goal = row_fault(p, last, k, goals, true);
-    if goal < k {
-        return Answer {
-            number: 22,
-            second: last + goal,
-        };
+    if let Some(a) = goal_fault(&p[last..], &problem.goals) {
+        return Err(Reason::NotAtGoal.at(last + a));
     }
-    Answer {
-        number: 0,
-        second: 0,
-    }
+    Ok(())
 }
 
-// The time until rest of agent a in the first `rows` rows: where its last move there ends, or 0.
-pub fn rest_time(s: Sizes, p: &[u8], rows: usize, a: usize) -> usize
-    requires { (length p.now ≡ plan_bytes s) × (rows ≤ s.m + 1) × (a < s.k) }
-    ensures { result ≡ rest_time (rows - 1) (plan_row s p.now) a }
+// The time until rest of agent a within the first `steps` steps: where its last move there ends, or 0.
+pub fn rest_time(s: Sizes, p: &[u8], steps: usize, a: usize) -> usize
+    requires { (length p.now ≡ plan_bytes s) × (steps ≤ s.m) × (a < s.k) }
+    ensures { result ≡ rest_time steps (plan_row s p.now) a }
 {
-    let k = s.k;
-    let mut rest: usize = 0;
-    let mut t: usize = 0;
-    while t + 1 < rows {
-        let row = t * k;
-        let next = row + k;
+    let mut rest = 0;
+    for t in 0..steps {
+        let row = t * s.k;
+        let next = row + s.k;
         if p[row + a] != p[next + a] {
             rest = t + 1;
         }
-        t += 1;
     }
     rest
 }
 
 // The plan's cost: the sum of its agents' times until rest.
-pub fn plan_cost(s: Sizes, p: &[u8]) -> usize
-    requires limits { Limits s }
-    requires p_len { length p.now ≡ plan_bytes s }
-    ensures { result ≡ cost s p.now }
+pub fn plan_cost(s: Shape, p: &[u8]) -> usize
+    requires { length p.now ≡ plan_bytes s.sizes }
+    ensures { result ≡ cost s.sizes p.now }
 {
-    let k = s.k;
-    let m = s.m;
-    let rows = m + 1;
-    let mut cost: usize = 0;
-    for a in 0..k {
-        cost += rest_time(s, p, rows, a);
+    let mut cost = 0;
+    for a in 0..s.sizes.k {
+        cost += rest_time(s.sizes, p, s.sizes.m, a);
     }
     cost
 }
 
-// The plan check, for every input: 0 and the plan's cost, or number and place of the first no.
-pub fn check_plan(b: &[u8], m: usize, rule: usize, p: &[u8]) -> Answer
-    ensures { result ≡ check_answer b.now m rule p.now }
+// The plan check, for every input: the plan's cost, or number and place of the first no.
+pub fn check_plan(b: &[u8], m: usize, rule: usize, p: &[u8]) -> Result<usize, Refusal>
+    ensures { answer_of result ≡ check_answer b.now m rule p.now }
 {
-    let inspection = instance_check::check_instance(b, m, rule);
-    let refusal = inspection.answer;
-    if refusal.number != 0 {
-        return refusal;
+    let problem = instance_check::check_instance(b, m, rule)?;
+    if p.len() != counts::plan_bytes(problem.shape) {
+        return Err(Reason::PlanLength.at(p.len()));
     }
-    let c = inspection.checked;
-    let s = c.sizes;
-    let len = p.len();
-    if len != counts::plan_bytes(s) {
-        return Answer {
-            number: 13,
-            second: len,
-        };
-    }
-    let starts = c.starts;
-    let goals = c.goals;
-    let answer = ask_plan(s, &starts, &goals, &c.near, p);
-    if answer.number != 0 {
-        return answer;
-    }
-    Answer {
-        number: 0,
-        second: plan_cost(s, p),
-    }
+    ask_plan(&problem, p)?;
+    Ok(plan_cost(problem.shape, p))
 }

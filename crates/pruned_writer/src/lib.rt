@@ -5,17 +5,17 @@
 ghost use Rattle.std.specs.Prelude.{◌≡◌, [], ◌∷◌, ◌++◌, ◌≤◌, ◌<◌, length, get_or};
 ghost use Rattle.lists.specs.Loop.{for, when, each};
 ghost use Rattle.lists.specs.Slice.{filled, Wrote};
-ghost use Rattle.instance.specs.Limits.{Limits};
-ghost use Rattle.instance.specs.Ready.{Ready};
+ghost use Rattle.answers.specs.Returned.{answer_of};
+ghost use Rattle.instance.specs.Problem.{checked_of};
 ghost use Rattle.formula.specs.Variables.{¬X};
 ghost use Rattle.formula.specs.Formula.{line};
 ghost use Rattle.formula.specs.Blocks.{held, family};
 ghost use Rattle.formula.specs.Pruned.{too_far, block_h, pruned};
 ghost use Rattle.calls.specs.Calls.{write_answer, write_slice};
-ghost use Rattle.pruned_writer.specs.ByTable.{step_by_table, by_table_h, Inside};
+ghost use Rattle.pruned_writer.specs.ByTable.{step_by_table, by_table_h};
 
-use answers::Answer;
-use instance::{Checked, Sizes};
+use answers::Refusal;
+use instance::{Problem, Shape};
 use variables::{Agent, Step, Vertex};
 
 // Is a vertex at distance x from the start and y from the goal too far at time t? The mark is more than any time.
@@ -23,30 +23,28 @@ fn too_far(m: usize, t: usize, x: u8, y: u8) -> bool
     requires { (t ≤ m) × (m ≤ 32) }
     ensures { result ≡ too_far m t x y }
 {
-    (t < numbers::wide(x)) | (m - t < numbers::wide(y))
+    (t < usize::from(x)) | (m - t < usize::from(y))
 }
 
 // H, of time t, agent a and vertex v, which is at distance x from the start and y from the goal.
-fn write_vertex(f: &mut [i32], s: Sizes, t: Step, a: Agent, v: Vertex, x: u8, y: u8) -> usize
-    requires limits { Limits s }
-    requires t_le_m { (t.0 ≤ s.m) × (a.0 < s.k) × (v.0 < s.n) }
-    requires v_in_bounds { length (each line (when (too_far s.m t.0 x y) ((¬X s t.0 a.0 v.0 ∷ []) ∷ []))) ≤ length f.old }
-    ensures { Wrote (each line (when (too_far s.m t.0 x y) ((¬X s t.0 a.0 v.0 ∷ []) ∷ []))) f.old f.new result }
+fn write_vertex(f: &mut [i32], s: Shape, t: Step, a: Agent, v: Vertex, x: u8, y: u8) -> usize
+    requires t_le_m { (t.0 ≤ s.sizes.m) × (a.0 < s.sizes.k) × (v.0 < s.sizes.n) }
+    requires v_in_bounds { length (each line (when (too_far s.sizes.m t.0 x y) ((¬X s.sizes t.0 a.0 v.0 ∷ []) ∷ []))) ≤ length f.old }
+    ensures { Wrote (each line (when (too_far s.sizes.m t.0 x y) ((¬X s.sizes t.0 a.0 v.0 ∷ []) ∷ []))) f.old f.new result }
 {
-    if too_far(s.m, t.0, x, y) {
+    if too_far(s.sizes.m, t.0, x, y) {
         return clauses::put_unit(f, clauses::negative(s, t, a, v));
     }
     0
 }
 
 // H, of time t and agent a.
-fn write_block(f: &mut [i32], s: Sizes, from: &[u8; 64], to: &[u8; 64], t: Step, a: Agent) -> usize
-    requires limits { Limits s }
-    requires t_le_m { (t.0 ≤ s.m) × (a.0 < s.k) }
-    requires a_in_bounds { length (each line (block_h s (λ v. get_or from.now v 0) (λ v. get_or to.now v 0) t.0 a.0)) ≤ length f.old }
-    ensures { Wrote (each line (block_h s (λ v. get_or from.now v 0) (λ v. get_or to.now v 0) t.0 a.0)) f.old f.new result }
+fn write_block(f: &mut [i32], s: Shape, from: &[u8; 64], to: &[u8; 64], t: Step, a: Agent) -> usize
+    requires t_le_m { (t.0 ≤ s.sizes.m) × (a.0 < s.sizes.k) }
+    requires a_in_bounds { length (each line (block_h s.sizes (λ v. get_or from.now v 0) (λ v. get_or to.now v 0) t.0 a.0)) ≤ length f.old }
+    ensures { Wrote (each line (block_h s.sizes (λ v. get_or from.now v 0) (λ v. get_or to.now v 0) t.0 a.0)) f.old f.new result }
 {
-    let n = s.n;
+    let n = s.sizes.n;
     let mut at: usize = 0;
     for v in 0..n {
         at += write_vertex(&mut f[at..], s, t, a, Vertex(v), from[v], to[v]);
@@ -55,83 +53,57 @@ fn write_block(f: &mut [i32], s: Sizes, from: &[u8; 64], to: &[u8; 64], t: Step,
 }
 
 // H, of time t.
-fn write_step(
-    f: &mut [i32],
-    s: Sizes,
-    starts: &[u8; 16],
-    goals: &[u8; 16],
-    table: &[[u8; 64]],
-    t: usize,
-) -> usize
-    requires limits { Limits s }
-    requires inside { Inside s starts.now goals.now }
-    requires t_le_m { (t ≤ s.m) × (length table.now ≡ 64) }
-    requires t_in_bounds { length (each line (step_by_table s table.now starts.now goals.now t)) ≤ length f.old }
-    ensures { Wrote (each line (step_by_table s table.now starts.now goals.now t)) f.old f.new result }
+fn write_step(f: &mut [i32], problem: &Problem, table: &[[u8; 64]], t: usize) -> usize
+    requires t_le_m { (t ≤ problem.now.shape.sizes.m) × (length table.now ≡ 64) }
+    requires t_in_bounds { length (each line (step_by_table problem.now.shape.sizes table.now problem.now.starts problem.now.goals t)) ≤ length f.old }
+    ensures { Wrote (each line (step_by_table problem.now.shape.sizes table.now problem.now.starts problem.now.goals t)) f.old f.new result }
 {
-    let k = s.k;
+    let s = problem.shape;
+    let k = s.sizes.k;
     let mut at: usize = 0;
     for a in 0..k {
-        let from = distance_table::row_for(table, starts, a);
-        let to = distance_table::goal_row(table, goals, a);
+        let from = distance_table::row_for(table, &problem.starts, a);
+        let to = distance_table::goal_row(table, &problem.goals, a);
         at += write_block(&mut f[at..], s, &from, &to, Step(t), Agent(a));
     }
     at
 }
 
 // H.
-fn write_h(
-    f: &mut [i32],
-    s: Sizes,
-    starts: &[u8; 16],
-    goals: &[u8; 16],
-    table: &[[u8; 64]],
-) -> usize
-    requires limits { Limits s }
-    requires inside { Inside s starts.now goals.now }
+fn write_h(f: &mut [i32], problem: &Problem, table: &[[u8; 64]]) -> usize
     requires table_len { length table.now ≡ 64 }
-    requires goals_in_bounds { length (each line (by_table_h s table.now starts.now goals.now)) ≤ length f.old }
-    ensures { Wrote (each line (by_table_h s table.now starts.now goals.now)) f.old f.new result }
+    requires table_in_bounds { length (each line (by_table_h problem.now.shape.sizes table.now problem.now.starts problem.now.goals)) ≤ length f.old }
+    ensures { Wrote (each line (by_table_h problem.now.shape.sizes table.now problem.now.starts problem.now.goals)) f.old f.new result }
 {
-    let end = s.m + 1;
+    let end = problem.shape.sizes.m + 1;
     let mut at: usize = 0;
     for t in 0..end {
-        at += write_step(&mut f[at..], s, starts, goals, table, t);
+        at += write_step(&mut f[at..], problem, table, t);
     }
     at
 }
 
 // The seven families of a checked instance, then H, to a slice with room for all.
-fn write_all(f: &mut [i32], c: Checked, table: &[[u8; 64]])
-    requires ready { Ready c.sizes c.starts c.goals c.near × (length table.now ≡ 64) }
-    requires goals_in_bounds { length (each line (for 7 (family (held c)) ++ by_table_h c.sizes table.now c.starts c.goals)) ≤ length f.old }
-    ensures { f.new ≡ filled (each line (for 7 (family (held c)) ++ by_table_h c.sizes table.now c.starts c.goals)) f.old }
+fn write_all(f: &mut [i32], problem: &Problem, table: &[[u8; 64]])
+    requires table_len { length table.now ≡ 64 }
+    requires table_in_bounds { length (each line (for 7 (family (held (checked_of problem.now))) ++ by_table_h problem.now.shape.sizes table.now problem.now.starts problem.now.goals)) ≤ length f.old }
+    ensures { f.new ≡ filled (each line (for 7 (family (held (checked_of problem.now))) ++ by_table_h problem.now.shape.sizes table.now problem.now.starts problem.now.goals)) f.old }
 {
-    let at = formula_writer::write_words(f, c);
-    let starts = c.starts;
-    let goals = c.goals;
-    write_h(&mut f[at..], c.sizes, &starts, &goals, table);
+    let at = formula_writer::write_words(f, problem);
+    write_h(&mut f[at..], problem, table);
 }
 
 // Questions 1 to 10, 31 and 12. A refusal changes no word of the slice.
-pub fn write_pruned(b: &[u8], m: usize, rule: usize, f: &mut [i32]) -> Answer
-    ensures value { result ≡ write_answer pruned b.now m rule (length f.old) }
+pub fn write_pruned(b: &[u8], m: usize, rule: usize, f: &mut [i32]) -> Result<usize, Refusal>
+    ensures value { answer_of result ≡ write_answer pruned b.now m rule (length f.old) }
     ensures f_after { f.new ≡ write_slice pruned b.now m rule f.old }
 {
-    let i = instance_check::check_instance(b, m, rule);
-    let first = i.answer;
-    let c = i.checked;
-    if first.number != 0 {
-        return first;
-    }
-    let s = c.sizes;
-    let table = distance_table::table_of(&c.near, s.n);
-    let more = formula_size::count_h(c, &table);
+    let problem = instance_check::check_instance(b, m, rule)?;
+    let s = problem.shape;
+    let table = distance_table::table_of(&problem.near, s.sizes.n);
+    let more = formula_size::count_h(&problem, &table);
     let needed = formula_size::pruned_words(s, more);
-    let answer = formula_writer::ask_room(needed, f.len());
-    if answer.number != 0 {
-        return answer;
-    }
-    write_all(f, c, &table);
-    answer
+    formula_writer::ask_room(needed, f.len())?;
+    write_all(f, &problem, &table);
+    Ok(0)
 }

@@ -1,64 +1,38 @@
 -- `ceiling_size::added` meets its contract. It follows from the contracts of the functions called and the laws cited. Assumes nothing.
+use mathlib.Core.Path.{◌∙◌}
 use native.Mathlib.Omega.{arith}
+use lib.Dec.{ltb}
+use Prim.Native.Nat.{◌*◌}
 use Rattle.ceiling.specs.Ceiling.{added_variables, added_count, added_words}
 use Rattle.counting.specs.Over.{variables_over, clause_count_over, word_count_over}
-use Rattle.formula.proofs.Limits.{agent_steps}
-use Rattle.ceiling_size.proofs.Laws.{some_steps, none_added, parts}
-use borrow.Author.Rules.{rules}
+use Rattle.ceiling_size.proofs.Laws.{as_number, none_added, parts}
 use Rattle.ceiling_size.proofs.added.Goals as goal
 
-pub overflow_mul-inputs : goal.overflow_mul-inputs
-overflow_mul-inputs c = let l = agent_steps c.args.s c.requires.limits in search rules
-
-pub returns-then-inputs-eq0 : goal.returns-then-inputs-eq0
-returns-then-inputs-eq0 c = record { variables_value = none_added c.args.s c.requires.limits c.args.c c.if-inputs-eq0.true; variables_bound = (omega arith, omega arith, omega arith) }
-
-pub tree_size-tree-requires : goal.tree_size-tree-requires
-tree_size-tree-requires c = (c.requires.c_bound, omega (arith, c.if-inputs-eq0.false), agent_steps c.args.s c.requires.limits)
-
-pub overflow_mul-moves : goal.overflow_mul-moves
-overflow_mul-moves c = let p = parts c.args.s c.requires.limits c.args.c c.requires.c_bound (omega (arith, c.if-inputs-eq0.false)) in search rules
-
-pub overflow_sub-waits : goal.overflow_sub-waits
-overflow_sub-waits c = let z = some_steps c.args.s c.requires.limits c.if-inputs-eq0.false in search rules
-
-pub overflow_mul-waits : goal.overflow_mul-waits
-overflow_mul-waits c = let p = parts c.args.s c.requires.limits c.args.c c.requires.c_bound (omega (arith, c.if-inputs-eq0.false)) in search rules
+pub returns-then-inputs-eq0-clause-variables_value : goal.returns-then-inputs-eq0-clause-variables_value
+returns-then-inputs-eq0-clause-variables_value c =
+    let (x, y, z) = none_added c.args.s.sizes c.args.s.limits c.args.ceiling.c c.if-inputs-eq0.true in (c.default.ensures.0 ∙ x, c.default.ensures.1.0 ∙ y, c.default.ensures.1.1 ∙ z)
 
 pub overflow_add-result : goal.overflow_add-result
-overflow_add-result c = let p = parts c.args.s c.requires.limits c.args.c c.requires.c_bound (omega (arith, c.if-inputs-eq0.false)) in search rules
-
-pub overflow_add-result-2 : goal.overflow_add-result-2
-overflow_add-result-2 c = let p = parts c.args.s c.requires.limits c.args.c c.requires.c_bound (omega (arith, c.if-inputs-eq0.false)) in search rules
+overflow_add-result c = let p = parts c.args.s.sizes c.args.s.limits c.args.ceiling.c c.args.ceiling.c_most (omega arith) in omega (arith, as_number)
 
 pub overflow_add-result-3 : goal.overflow_add-result-3
-overflow_add-result-3 c = let p = parts c.args.s c.requires.limits c.args.c c.requires.c_bound (omega (arith, c.if-inputs-eq0.false)) in search rules
+overflow_add-result-3 c = let p = parts c.args.s.sizes c.args.s.limits c.args.ceiling.c c.args.ceiling.c_most (omega arith) in omega (arith, as_number)
 
 pub overflow_add-result-4 : goal.overflow_add-result-4
-overflow_add-result-4 c = let p = parts c.args.s c.requires.limits c.args.c c.requires.c_bound (omega (arith, c.if-inputs-eq0.false)) in search rules
-
-pub overflow_mul-result : goal.overflow_mul-result
-overflow_mul-result c = let p = parts c.args.s c.requires.limits c.args.c c.requires.c_bound (omega (arith, c.if-inputs-eq0.false)) in search rules
-
-pub overflow_mul-result-2 : goal.overflow_mul-result-2
-overflow_mul-result-2 c = let p = parts c.args.s c.requires.limits c.args.c c.requires.c_bound (omega (arith, c.if-inputs-eq0.false)) in search rules
-
-pub overflow_add-result-5 : goal.overflow_add-result-5
-overflow_add-result-5 c = let p = parts c.args.s c.requires.limits c.args.c c.requires.c_bound (omega (arith, c.if-inputs-eq0.false)) in search rules
+overflow_add-result-4 c = let p = parts c.args.s.sizes c.args.s.limits c.args.ceiling.c c.args.ceiling.c_most (omega arith) in omega (arith, as_number)
 
 pub overflow_add-result-6 : goal.overflow_add-result-6
-overflow_add-result-6 c = let p = parts c.args.s c.requires.limits c.args.c c.requires.c_bound (omega (arith, c.if-inputs-eq0.false)) in search rules
-
-pub overflow_mul-result-3 : goal.overflow_mul-result-3
-overflow_mul-result-3 c = let p = parts c.args.s c.requires.limits c.args.c c.requires.c_bound (omega (arith, c.if-inputs-eq0.false)) in search rules
+overflow_add-result-6 c = let p = parts c.args.s.sizes c.args.s.limits c.args.ceiling.c c.args.ceiling.c_most (omega arith) in omega (arith, as_number)
 
 pub overflow_add-result-7 : goal.overflow_add-result-7
-overflow_add-result-7 c = let p = parts c.args.s c.requires.limits c.args.c c.requires.c_bound (omega (arith, c.if-inputs-eq0.false)) in search rules
+overflow_add-result-7 c = let p = parts c.args.s.sizes c.args.s.limits c.args.ceiling.c c.args.ceiling.c_most (omega arith) in omega (arith, as_number)
 
-pub returns : goal.returns
+pub returns-clause-variables_value : goal.returns-clause-variables_value
 unfolding added_variables added_count added_words variables_over clause_count_over word_count_over
-returns c =
-    let p = parts c.args.s c.requires.limits c.args.c c.requires.c_bound (omega (arith, c.if-inputs-eq0.false)) in
-    let (x, y, z) = c.tree_size-tree.ensures in
-    let (u, v) = c.limits-over.ensures in
-    record { variables_value = (omega arith, omega arith, omega arith); variables_bound = (omega arith, omega arith, omega arith) }
+returns-clause-variables_value c =
+    let o = as_number (ltb c.args.ceiling.c (c.args.s.sizes.m * c.args.s.sizes.k)) in (omega arith, omega arith, omega arith)
+
+pub returns-clause-variables_bound : goal.returns-clause-variables_bound
+returns-clause-variables_bound c =
+    let p = parts c.args.s.sizes c.args.s.limits c.args.ceiling.c c.args.ceiling.c_most (omega arith) in
+    let o = as_number (ltb c.args.ceiling.c (c.args.s.sizes.m * c.args.s.sizes.k)) in (omega arith, omega arith, omega arith)

@@ -5,11 +5,11 @@ use Rattle.conditions.proofs.Laws.{keeps_1, crosses_1}
 use Rattle.conditions.proofs.condition_1.Goals as goal
 
 pub returns-then-v-w : goal.returns-then-v-w
-returns-then-v-w c = keeps_1 _ _ c.args.a _ (sym c.wide-v.ensures.0 ∙ c.if-v-w.true ∙ c.wide-w.ensures.0)
+returns-then-v-w c = keeps_1 _ _ c.args.a _ (sym c.from-v.ensures ∙ c.if-v-w.true ∙ c.from-w.ensures)
 
 pub returns : goal.returns
 returns c =
     crosses_1 _ _ c.args.a _
-    (λ e. c.if-v-w.false (c.wide-v.ensures.0 ∙ e ∙ sym c.wide-w.ensures.0))
+    (λ e. c.if-v-w.false (c.from-v.ensures ∙ e ∙ sym c.from-w.ensures))
     c.has_bit.result
-    (c.has_bit.ensures ∙ ap₂ (joined c.args.near.now) c.wide-v.ensures.0 c.wide-w.ensures.0)
+    (c.has_bit.ensures ∙ ap₂ (joined c.args.near.now) c.from-v.ensures c.from-w.ensures)

@@ -1,18 +1,29 @@
 -- `conditions::condition_2` meets its contract: where the two places differ, the second is not among those on which agents stood, or no agent goes from there to the first. Assumes nothing.
-use mathlib.Core.Path.{◌∙◌}
+use mathlib.Core.Path.{◌≡◌, subst, ◌∙◌}
+use mathlib.Core.Bool.{not, ◌&&◌}
+use Prim.Native.Nat.{ℕ}
 use native.Mathlib.Omega.{arith}
+use lib.Dec.{eqb}
+use Rattle.std.specs.Prelude.{is_none}
+use Rattle.std.proofs.Common.{rules}
+use Rattle.answers.specs.Fault.{FirstFailing}
+use Rattle.plan.specs.Plan.{row}
 use Rattle.conditions.proofs.Laws.{keeps_2, enters_2, exchanges_2, unset}
 use Rattle.conditions.proofs.condition_2.Goals as goal
 
 pub has_bit-requires : goal.has_bit-requires
-has_bit-requires c = omega (arith, c.wide.ensures.0)
+has_bit-requires c = omega (arith, c.from.ensures)
 
 pub returns-then-s-eq2 : goal.returns-then-s-eq2
-returns-then-s-eq2 c = exchanges_2 _ _ c.args.a _ c.if-s-eq2.true c.if-v-w.true c.first_going.result c.first_going.ensures
+returns-then-s-eq2 c =
+    let e : c.is_none.result ≡ is_none c.first_going.result = search rules in
+    e
+    ∙ exchanges_2 (row c.args.here.now) (row c.args.next.now) c.args.a c.args.s c.if-s-eq2.true c.if-v-w.true c.first_going.result
+    (subst (λ (n : ℕ). FirstFailing n (λ b. not (eqb (row c.args.here.now b) (row c.args.next.now c.args.a) && eqb (row c.args.next.now b) (row c.args.here.now c.args.a))) c.first_going.result) c.requires.rows.0 c.first_going.ensures)
 
 pub returns-then-v-w : goal.returns-then-v-w
 returns-then-v-w c =
-    unset c.args.stood c.wide.ensures.0 c.has_bit.ensures
+    unset c.args.stood c.from.ensures c.has_bit.ensures
     ∙ enters_2 _ _ c.args.a _ c.if-s-eq2.false c.if-v-w.true _ c.requires.standing.0
 
 pub returns : goal.returns

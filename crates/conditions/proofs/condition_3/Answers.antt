@@ -5,7 +5,7 @@ use Rattle.conditions.proofs.Laws.{shares_3, unset}
 use Rattle.conditions.proofs.condition_3.Goals as goal
 
 pub has_bit-requires : goal.has_bit-requires
-has_bit-requires c = omega (arith, c.wide.ensures.0)
+has_bit-requires c = omega (arith, c.from.ensures)
 
 pub returns : goal.returns
-returns c = unset c.args.taken c.wide.ensures.0 c.has_bit.ensures ∙ shares_3 _ c.args.a _ c.requires.standing
+returns c = unset c.args.taken c.from.ensures c.has_bit.ensures ∙ shares_3 _ c.args.a _ c.requires.standing

@@ -1,17 +1,17 @@
--- `conditions::first_going` meets its contract. The loop keeps that no agent passed goes from x to y. Assumes nothing.
+-- `conditions::first_going` meets its contract: the library's position in the pairs of both rows. Assumes nothing.
+use mathlib.Core.Bool.{◌&&◌}
+use borrow.Author.Tests.{tests}
 use native.Mathlib.Omega.{arith}
-use borrow.Author.Count.{below_more, below_none}
-use Rattle.answers.proofs.Faults.{fault_at, fault_none}
+use lib.Dec.{eqb}
+use Rattle.std.proofs.Common.{rules}
+use Rattle.std.proofs.lemmas.Iterator.{YieldsList-from_slice, YieldsList-from_zip}
+use Rattle.std.proofs.lemmas.Iterator.Search.{position_from_yields_List}
+use Rattle.answers.proofs.Faults.{failing_zip}
 use Rattle.conditions.proofs.first_going.Goals as goal
 
-pub loop-a-init : goal.loop-a-init
-loop-a-init c = (omega arith, below_none _)
-
-pub returns-then-here-a : goal.returns-then-here-a
-returns-then-here-a c = fault_at (omega arith) c.loop-a.invariant.1 (rw c.if-here-a.true (λ f. f))
-
-pub loop-a-preserved : goal.loop-a-preserved
-loop-a-preserved c = (omega arith, below_more _ _ c.loop-a.invariant.1 (rw c.if-here-a.false tt))
-
 pub returns : goal.returns
-returns c = fault_none (omega arith) c.loop-a.invariant.1
+returns c =
+    failing_zip (λ v. eqb v.0 c.args.x && eqb v.1 c.args.y) c.args.here.now c.args.next.now 0 0 (omega arith) c.position.result
+    (position_from_yields_List _ c.position.new.self _ c.position.result c.position.ensures.ran
+    (YieldsList-from_zip {s = c.zip.result} (YieldsList-from_slice c.args.here.now cc) (YieldsList-from_slice c.args.next.now cc))
+    (λ x b q k. search (rules, tests)))

@@ -3,41 +3,43 @@ use Prim.Native.Nat.{◌+◌, ◌*◌}
 use native.Mathlib.Omega.{arith}
 use Rattle.instance.specs.Instance.{joined}
 use Rattle.plan.proofs.Rows.{Rows, rows, part_length, part_below, step_fault}
+use Rattle.answers.proofs.Faults.{failing_map}
+use Rattle.conditions.specs.Conditions.{place_of}
 use Rattle.conditions.proofs.step_fault.Goals as goal
 
 pub overflow_mul-row : goal.overflow_mul-row
 overflow_mul-row c =
-    let known : Rows c.args.s c.args.p.now c.args.t = rows _ _ _ c.requires.p_len.0 c.requires.p_len.1 in
+    let known : Rows c.args.problem.now.shape.sizes c.args.p.now c.args.t = rows _ _ _ c.requires.p_len.0 c.requires.p_len.1 in
     omega (arith, known)
 
 pub overflow_add-next : goal.overflow_add-next
 overflow_add-next c =
-    let known : Rows c.args.s c.args.p.now c.args.t = rows _ _ _ c.requires.p_len.0 c.requires.p_len.1 in
+    let known : Rows c.args.problem.now.shape.sizes c.args.p.now c.args.t = rows _ _ _ c.requires.p_len.0 c.requires.p_len.1 in
     omega (arith, known)
 
 pub overflow_add-end : goal.overflow_add-end
 overflow_add-end c =
-    let known : Rows c.args.s c.args.p.now c.args.t = rows _ _ _ c.requires.p_len.0 c.requires.p_len.1 in
+    let known : Rows c.args.problem.now.shape.sizes c.args.p.now c.args.t = rows _ _ _ c.requires.p_len.0 c.requires.p_len.1 in
     omega (arith, known)
 
 pub slice_bounds-fault-end : goal.slice_bounds-fault-end
 slice_bounds-fault-end c =
-    let known : Rows c.args.s c.args.p.now c.args.t = rows _ _ _ c.requires.p_len.0 c.requires.p_len.1 in
+    let known : Rows c.args.problem.now.shape.sizes c.args.p.now c.args.t = rows _ _ _ c.requires.p_len.0 c.requires.p_len.1 in
     omega (arith, known)
 
 pub slice_bounds-fault-end-2 : goal.slice_bounds-fault-end-2
 slice_bounds-fault-end-2 c =
-    let known : Rows c.args.s c.args.p.now c.args.t = rows _ _ _ c.requires.p_len.0 c.requires.p_len.1 in
+    let known : Rows c.args.problem.now.shape.sizes c.args.p.now c.args.t = rows _ _ _ c.requires.p_len.0 c.requires.p_len.1 in
     omega (arith, known)
 
 pub fault-requires : goal.fault-requires
 fault-requires c =
-    let known : Rows c.args.s c.args.p.now c.args.t = rows _ _ _ c.requires.p_len.0 c.requires.p_len.1 in
-    let k = c.args.s.k in
+    let known : Rows c.args.problem.now.shape.sizes c.args.p.now c.args.t = rows _ _ _ c.requires.p_len.0 c.requires.p_len.1 in
+    let k = c.args.problem.now.shape.sizes.k in
     let at = c.args.t * k in
     let x = part_length c.args.p.now at (at + k) (omega arith) (omega (arith, known)) in
     let y = part_length c.args.p.now (at + k) (at + k + k) (omega arith) (omega (arith, known)) in record {
-      k_in_bounds = (omega (arith, x), omega (arith, y));
+      rows = (omega (arith, x), omega (arith, y));
       inside = (
         part_below c.args.p.now 64 c.requires.inside at (at + k) (omega arith) (omega (arith, known)),
         part_below c.args.p.now 64 c.requires.inside (at + k) (at + k + k) (omega arith) (omega (arith, known)),
@@ -46,4 +48,5 @@ fault-requires c =
 
 pub returns : goal.returns
 returns c =
-    step_fault c.args.s (joined c.args.near.now) c.args.which c.args.p.now c.args.t c.fault.result c.fault.ensures
+    failing_map c.fault.result
+    (step_fault c.args.problem.now.shape.sizes (joined c.args.problem.now.near) (place_of c.args.which) c.args.p.now c.args.t) c.fault.ensures

@@ -1,5 +1,5 @@
 -- `formula_size::count_h` meets its contract. The loop keeps the sum over the agents passed. Assumes nothing.
-use mathlib.Core.Path.{◌≡◌, refl, ◌∙◌, ap, ap₂}
+use mathlib.Core.Path.{◌≡◌, ◌∙◌, ap, ap₂}
 use mathlib.Core.List.{List}
 use Prim.Native.Nat.{ℕ, ◌+◌}
 use native.Mathlib.Numerals.{add-one}
@@ -10,18 +10,6 @@ use Rattle.formula.specs.Pruned.{count_h}
 use Rattle.distances.specs.Table.{by_table, goal_by}
 use Rattle.formula_size.proofs.count_h.Invariants.{share}
 use Rattle.formula_size.proofs.count_h.Goals as goal
-
-pub loop-a-init : goal.loop-a-init
-loop-a-init c = (omega arith, (refl, omega arith))
-
-pub row_for-from-requires : goal.row_for-from-requires
-row_for-from-requires c = (omega (arith, c.args.problem.now.ready.limits.k_most, c.loop-a-test.true), omega (arith, c.args.problem.now.ready.starts_below c.loop-a.a c.loop-a-test.true, c.args.problem.now.ready.limits.n_most, c.requires))
-
-pub goal_row-to-requires : goal.goal_row-to-requires
-goal_row-to-requires c = (omega (arith, c.args.problem.now.ready.limits.k_most, c.loop-a-test.true), λ g. omega (arith, c.args.problem.now.ready.goals_below c.loop-a.a c.loop-a-test.true g, c.args.problem.now.ready.limits.n_most, c.requires))
-
-pub overflow_add-count : goal.overflow_add-count
-overflow_add-count c = omega (arith, c.count_for-count.ensures.1, c.args.problem.now.ready.limits.k_most, c.loop-a.invariant.1.1)
 
 pub loop-a-preserved : goal.loop-a-preserved
 loop-a-preserved c =

@@ -13,9 +13,6 @@ pub returns-in_err-problem : goal.returns-in_err-problem
 returns-in_err-problem c =
     size_passed_on _ _ c.from_residual.ensures.1 (refuses pruned c.args.b.now c.args.m c.args.rule _ c.in_err-problem.ensures.answer)
 
-pub table_of-table-requires : goal.table_of-table-requires
-table_of-table-requires c = let r = c.in_ok-problem.problem.ready in (r.limits.n_most, r.words_below)
-
 pub overflow_add-clauses : goal.overflow_add-clauses
 overflow_add-clauses c =
     omega (arith, c.count_h-more.ensures.1, c.clause_count.ensures, clauses_most _ c.in_ok-problem.problem.shape.limits)

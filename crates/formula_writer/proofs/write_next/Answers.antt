@@ -6,7 +6,7 @@ use Rattle.lists.proofs.Slices.{filled_behind}
 use Rattle.formula_writer.proofs.write_next.Goals as goal
 
 pub write_family-requires : goal.write_family-requires
-write_family-requires c = simp (length-take, length-drop) record { ready = c.requires.ready; which_bound = c.requires.which_bound.0; which_in_bounds = omega arith }
+write_family-requires c = simp (length-take, length-drop) (omega arith)
 
 pub returns : goal.returns
 returns c = filled_behind c.args.f.now _ _ c.args.at (omega arith) c.write_family.ensures

@@ -43,11 +43,11 @@ for_agents-goals-requires c =
     let h : (vertices c.args.b.now ≤ 64) × ((agents c.args.b.now ≤ 16) × (length c.args.b.now ≡ 4 + 2 * edges c.args.b.now + 2 * agents c.args.b.now)) = sizes_known c.args.b.now c.args.m c.args.rule (omega arith) (accept 0) c.in_ok-ask_sizes.ensures refl in
     (omega arith, omega arith)
 
-pub neighbour_words-near-requires-clause-e_value : goal.neighbour_words-near-requires-clause-e_value
-neighbour_words-near-requires-clause-e_value c =
+pub neighbour_words-near-requires-clause-n_value : goal.neighbour_words-near-requires-clause-n_value
+neighbour_words-near-requires-clause-n_value c =
     let h : (vertices c.args.b.now ≤ 64) × ((agents c.args.b.now ≤ 16) × (length c.args.b.now ≡ 4 + 2 * edges c.args.b.now + 2 * agents c.args.b.now)) = sizes_known c.args.b.now c.args.m c.args.rule (omega arith) (accept 0) c.in_ok-ask_sizes.ensures refl in
     let r = c.sizes_of-sizes.ensures.0 in
-    (r.e_same, omega arith, r.n_same, omega arith)
+    (r.n_same, omega arith)
 
 pub neighbour_words-near-requires-clause-edges : goal.neighbour_words-near-requires-clause-edges
 neighbour_words-near-requires-clause-edges c =
@@ -93,3 +93,8 @@ returns-clause-problem c =
     ∙ ap₂ (λ (m rule : ℕ). decide (question6 b ∷ question7 b ∷ question8 b ∷ question9 b ∷ question10 m ∷ question31 rule ∷ []) 0) c.sizes_of-sizes.ensures.1 c.sizes_of-sizes.ensures.2
     ∙ sizes_passed b c.args.m c.args.rule (omega arith) (accept 0) c.in_ok-ask_sizes.ensures refl in
     held_checked c.args.b.now c.args.m c.args.rule asked c.sizes_of-sizes.result c.sizes_of-sizes.ensures.0 c.count-g.result c.for_agents-starts.result c.for_agents-goals.result c.neighbour_words-near.result c.for_agents-starts.ensures c.for_agents-goals.ensures (c.neighbour_words-near.ensures c.args.m c.args.rule) c.count-g.ensures.0
+
+pub invariant_of-neighbour_words : goal.invariant_of-neighbour_words
+invariant_of-neighbour_words c =
+    let h : (vertices c.args.b.now ≤ 64) × ((agents c.args.b.now ≤ 16) × (length c.args.b.now ≡ 4 + 2 * edges c.args.b.now + 2 * agents c.args.b.now)) = sizes_known c.args.b.now c.args.m c.args.rule (omega arith) (accept 0) c.in_ok-ask_sizes.ensures refl in
+    record { counted = c.sizes_of-sizes.ensures.0.e_same; long = omega (arith, c.sizes_of-sizes.ensures.0.e_same) }

@@ -1,20 +1,16 @@
--- `instance_check::for_agents` meets its contract. The invariant says what the turns so far have done. Assumes nothing.
-use mathlib.Core.Path.{◌≡◌, refl, ◌∙◌, ap}
-use Prim.Native.Nat.{ℕ}
+-- `instance_check::for_agents` meets its contract. Assumes nothing.
+use mathlib.Core.Path.{◌≡◌, ◌∙◌, ap}
+use Prim.Native.Nat.{ℕ, ◌+◌, ◌-◌}
 use native.Mathlib.Omega.{arith}
-use lib.ListN.{take, drop, replicate, length-set}
+use lib.ListN.{take, drop}
 use Rattle.lists.specs.Slice.{filled}
-use Rattle.instance_check.proofs.Laws.{filled_more}
+use Rattle.lists.proofs.Slices.{part_length}
 use Rattle.instance_check.proofs.for_agents.Goals as goal
 
-pub loop-a-init : goal.loop-a-init
-unfolding filled
-loop-a-init c = (omega arith, (refl, refl))
-
-pub loop-a-preserved : goal.loop-a-preserved
-loop-a-preserved c = (omega arith, (simp length-set c.loop-a.invariant.1.0, filled_more c.args.b.now (replicate 16 0) c.loop-a.row c.args.offset c.loop-a.a c.loop-a.invariant.1.1 (omega arith) (omega arith)))
-
 pub returns : goal.returns
+unfolding filled
 returns c =
-    let e : c.loop-a.a ≡ c.args.k = omega arith in
-    c.loop-a.invariant.1.1 ∙ ap (λ (j : ℕ). filled (take j (drop c.args.offset c.args.b.now)) (replicate 16 0)) e
+    let b = c.args.b.now in
+    let count : c.args.offset + c.args.k - c.args.offset ≡ c.args.k = omega arith in
+    let part : c.copy_from_slice.new.self ≡ take c.args.k (drop c.args.offset b) = c.copy_from_slice.ensures.after ∙ ap (λ (j : ℕ). take j (drop c.args.offset b)) count in
+    rw (part, part_length b c.args.offset c.args.k c.requires.1)

@@ -10,43 +10,43 @@ use Rattle.instance_check.proofs.mark_edges.Goals as goal
 
 pub overflow_sub-to : goal.overflow_sub-to
 overflow_sub-to c =
-    let high_is : c.wide-high.result ≡ high_end c.args.b.now c.args.from = c.wide-high.ensures.0 ∙ ap (λ (x : ℕ). get_or c.args.b.now (4 + x + c.args.from) 0) c.requires.from_lt_e.1 in
-    let ends : (c.wide-low.result < c.wide-high.result) × (c.wide-high.result < c.args.n) = let (o, h) = ends_in c.args.b.now c.requires.edges.0 c.args.from (omega arith) in
+    let high_is : c.from-high.result ≡ high_end c.args.edges.now.b.now c.args.from = c.from-high.ensures ∙ ap (λ (x : ℕ). get_or c.args.edges.now.b.now (4 + x + c.args.from) 0) c.args.edges.now.counted in
+    let ends : (c.from-low.result < c.from-high.result) × (c.from-high.result < c.args.n) = let (o, h) = ends_in c.args.edges.now.b.now c.requires.edges.0 c.args.from (omega arith) in
     let x = high_is in
-    (omega (arith, c.wide-low.ensures.0), omega arith) in
+    (omega (arith, c.from-low.ensures), omega arith) in
     omega (arith, ends.1)
 
 pub mark_fan-requires : goal.mark_fan-requires
 mark_fan-requires c =
-    let high_is : c.wide-high.result ≡ high_end c.args.b.now c.args.from = c.wide-high.ensures.0 ∙ ap (λ (x : ℕ). get_or c.args.b.now (4 + x + c.args.from) 0) c.requires.from_lt_e.1 in
-    let ends : (c.wide-low.result < c.wide-high.result) × (c.wide-high.result < c.args.n) = let (o, h) = ends_in c.args.b.now c.requires.edges.0 c.args.from (omega arith) in
+    let high_is : c.from-high.result ≡ high_end c.args.edges.now.b.now c.args.from = c.from-high.ensures ∙ ap (λ (x : ℕ). get_or c.args.edges.now.b.now (4 + x + c.args.from) 0) c.args.edges.now.counted in
+    let ends : (c.from-low.result < c.from-high.result) × (c.from-high.result < c.args.n) = let (o, h) = ends_in c.args.edges.now.b.now c.requires.edges.0 c.args.from (omega arith) in
     let x = high_is in
-    (omega (arith, c.wide-low.ensures.0), omega arith) in
+    (omega (arith, c.from-low.ensures), omega arith) in
     let h = ends in
     (h.0, omega arith, omega arith, c.requires.edges.1.long)
 
-pub shape_of-near-then-wide-low : goal.shape_of-near-then-wide-low
-shape_of-near-then-wide-low c = c.mark_fan.ensures.0 ∙ sym c.requires.edges.1.long
+pub shape_of-near-then-from-low : goal.shape_of-near-then-from-low
+shape_of-near-then-from-low c = c.mark_fan.ensures.0 ∙ sym c.requires.edges.1.long
 
-pub returns-then-wide-low : goal.returns-then-wide-low
-returns-then-wide-low c =
-    let high_is : c.wide-high.result ≡ high_end c.args.b.now c.args.from = c.wide-high.ensures.0 ∙ ap (λ (x : ℕ). get_or c.args.b.now (4 + x + c.args.from) 0) c.requires.from_lt_e.1 in
-    let ends : (c.wide-low.result < c.wide-high.result) × (c.wide-high.result < c.args.n) = let (o, h) = ends_in c.args.b.now c.requires.edges.0 c.args.from (omega arith) in
+pub returns-then-from-low : goal.returns-then-from-low
+returns-then-from-low c =
+    let high_is : c.from-high.result ≡ high_end c.args.edges.now.b.now c.args.from = c.from-high.ensures ∙ ap (λ (x : ℕ). get_or c.args.edges.now.b.now (4 + x + c.args.from) 0) c.args.edges.now.counted in
+    let ends : (c.from-low.result < c.from-high.result) × (c.from-high.result < c.args.n) = let (o, h) = ends_in c.args.edges.now.b.now c.requires.edges.0 c.args.from (omega arith) in
     let x = high_is in
-    (omega (arith, c.wide-low.ensures.0), omega arith) in
+    (omega (arith, c.from-low.ensures), omega arith) in
     let h = ends in
     let x = high_is in
-    let at : 4 + (c.args.from + (c.args.n - c.wide-high.result - 1)) ≡ 3 + (c.args.from + (c.args.n - c.wide-high.result)) = omega arith in
-    let top : high_end c.args.b.now c.args.from + (c.args.n - c.wide-high.result) ≡ vertices c.args.b.now = omega arith in (
+    let at : 4 + (c.args.from + (c.args.n - c.from-high.result - 1)) ≡ 3 + (c.args.from + (c.args.n - c.from-high.result)) = omega arith in
+    let top : high_end c.args.edges.now.b.now c.args.from + (c.args.n - c.from-high.result) ≡ vertices c.args.edges.now.b.now = omega arith in (
       omega arith,
       c.if-to-e.true,
-      marked_fan c.args.b.now c.requires.edges.0 c.args.from (c.args.n - c.wide-high.result) (omega arith) (omega arith)
-          (sym c.wide-low.ensures.0 ∙ sym c.if-wide-low.true ∙ c.wide.ensures.0 ∙ ap (λ (i : ℕ). get_or c.args.b.now i 0) (sym at)) top c.requires.edges.1 c.mark_fan.ensures.0
-          (λ v u l. c.mark_fan.ensures.1 v u l ∙ rw (c.wide-low.ensures.0, x, c.requires.from_lt_e.3)),
+      marked_fan c.args.edges.now.b.now c.requires.edges.0 c.args.from (c.args.n - c.from-high.result) (omega arith) (omega arith)
+          (sym c.from-low.ensures ∙ sym c.if-from-low.true ∙ c.from.ensures ∙ ap (λ (i : ℕ). get_or c.args.edges.now.b.now i 0) (sym at)) top c.requires.edges.1 c.mark_fan.ensures.0
+          (λ v u l. c.mark_fan.ensures.1 v u l ∙ rw (c.from-low.ensures, x, c.requires.from_lt_e.1)),
     )
 
 pub mark_run-requires : goal.mark_run-requires
-mark_run-requires c = record { from_lt_e = (c.requires.from_lt_e.0, c.requires.from_lt_e.1, c.requires.from_lt_e.2); ends = (ends_known c.args.b.now (omega arith) c.requires.edges.0, c.requires.edges.1) }
+mark_run-requires c = record { from_lt_e = c.requires.from_lt_e.0; ends = (ends_known c.args.edges.now.b.now (omega arith) c.requires.edges.0, c.requires.edges.1) }
 
 pub returns : goal.returns
 returns c = c.mark_run.ensures

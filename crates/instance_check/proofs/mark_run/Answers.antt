@@ -11,27 +11,27 @@ use Rattle.instance_check.proofs.mark_run.Goals as goal
 
 pub offset_bounds-near-low : goal.offset_bounds-near-low
 offset_bounds-near-low c =
-    let low_below : c.wide-low.result < 64 = let (o, h) = c.requires.ends.0 c.args.from (omega arith) in
-    omega (arith, c.wide-low.ensures.0) in
+    let low_below : c.from-low.result < 64 = let (o, h) = c.requires.ends.0 c.args.from (omega arith) in
+    omega (arith, c.from-low.ensures) in
     omega (arith, low_below)
 
 pub bounds-near-low : goal.bounds-near-low
 bounds-near-low c =
-    let low_below : c.wide-low.result < 64 = let (o, h) = c.requires.ends.0 c.args.from (omega arith) in
-    omega (arith, c.wide-low.ensures.0) in
+    let low_below : c.from-low.result < 64 = let (o, h) = c.requires.ends.0 c.args.from (omega arith) in
+    omega (arith, c.from-low.ensures) in
     omega (arith, low_below, c.requires.ends.1.long)
 
 pub loop-j-init : goal.loop-j-init
 loop-j-init c =
-    let low_below : c.wide-low.result < 64 = let (o, h) = c.requires.ends.0 c.args.from (omega arith) in
-    omega (arith, c.wide-low.ensures.0) in
-    (omega arith, omega arith, c.requires.ends.1.long, marked_beside c.args.b.now c.requires.ends.1 c.wide-low.result low_below)
+    let low_below : c.from-low.result < 64 = let (o, h) = c.requires.ends.0 c.args.from (omega arith) in
+    omega (arith, c.from-low.ensures) in
+    (omega arith, omega arith, c.requires.ends.1.long, marked_beside c.args.edges.now.b.now c.requires.ends.1 c.from-low.result low_below)
 
 pub with_bit-row-requires : goal.with_bit-row-requires
 with_bit-row-requires c =
-    let low_is : c.wide-low.result ≡ low_end c.args.b.now c.loop-j.j = sym c.if-wide-low.false ∙ c.wide.ensures.0 in
-    let high_is : c.wide-high.result ≡ high_end c.args.b.now c.loop-j.j = c.wide-high.ensures.0 ∙ ap (λ (x : ℕ). get_or c.args.b.now (4 + x + c.loop-j.j) 0) c.requires.from_lt_e.1 in
-    let ends : (c.wide-low.result < c.wide-high.result) × (c.wide-high.result < 64) = let (o, h) = c.requires.ends.0 c.loop-j.j (omega arith) in
+    let low_is : c.from-low.result ≡ low_end c.args.edges.now.b.now c.loop-j.j = sym c.if-from-low.false ∙ c.from.ensures in
+    let high_is : c.from-high.result ≡ high_end c.args.edges.now.b.now c.loop-j.j = c.from-high.ensures ∙ ap (λ (x : ℕ). get_or c.args.edges.now.b.now (4 + x + c.loop-j.j) 0) c.args.edges.now.counted in
+    let ends : (c.from-low.result < c.from-high.result) × (c.from-high.result < 64) = let (o, h) = c.requires.ends.0 c.loop-j.j (omega arith) in
     let x = low_is in
     let y = high_is in
     (omega arith, omega arith) in
@@ -39,9 +39,9 @@ with_bit-row-requires c =
 
 pub offset_bounds-near-high : goal.offset_bounds-near-high
 offset_bounds-near-high c =
-    let low_is : c.wide-low.result ≡ low_end c.args.b.now c.loop-j.j = sym c.if-wide-low.false ∙ c.wide.ensures.0 in
-    let high_is : c.wide-high.result ≡ high_end c.args.b.now c.loop-j.j = c.wide-high.ensures.0 ∙ ap (λ (x : ℕ). get_or c.args.b.now (4 + x + c.loop-j.j) 0) c.requires.from_lt_e.1 in
-    let ends : (c.wide-low.result < c.wide-high.result) × (c.wide-high.result < 64) = let (o, h) = c.requires.ends.0 c.loop-j.j (omega arith) in
+    let low_is : c.from-low.result ≡ low_end c.args.edges.now.b.now c.loop-j.j = sym c.if-from-low.false ∙ c.from.ensures in
+    let high_is : c.from-high.result ≡ high_end c.args.edges.now.b.now c.loop-j.j = c.from-high.ensures ∙ ap (λ (x : ℕ). get_or c.args.edges.now.b.now (4 + x + c.loop-j.j) 0) c.args.edges.now.counted in
+    let ends : (c.from-low.result < c.from-high.result) × (c.from-high.result < 64) = let (o, h) = c.requires.ends.0 c.loop-j.j (omega arith) in
     let x = low_is in
     let y = high_is in
     (omega arith, omega arith) in
@@ -49,9 +49,9 @@ offset_bounds-near-high c =
 
 pub bounds-near-high : goal.bounds-near-high
 bounds-near-high c =
-    let low_is : c.wide-low.result ≡ low_end c.args.b.now c.loop-j.j = sym c.if-wide-low.false ∙ c.wide.ensures.0 in
-    let high_is : c.wide-high.result ≡ high_end c.args.b.now c.loop-j.j = c.wide-high.ensures.0 ∙ ap (λ (x : ℕ). get_or c.args.b.now (4 + x + c.loop-j.j) 0) c.requires.from_lt_e.1 in
-    let ends : (c.wide-low.result < c.wide-high.result) × (c.wide-high.result < 64) = let (o, h) = c.requires.ends.0 c.loop-j.j (omega arith) in
+    let low_is : c.from-low.result ≡ low_end c.args.edges.now.b.now c.loop-j.j = sym c.if-from-low.false ∙ c.from.ensures in
+    let high_is : c.from-high.result ≡ high_end c.args.edges.now.b.now c.loop-j.j = c.from-high.ensures ∙ ap (λ (x : ℕ). get_or c.args.edges.now.b.now (4 + x + c.loop-j.j) 0) c.args.edges.now.counted in
+    let ends : (c.from-low.result < c.from-high.result) × (c.from-high.result < 64) = let (o, h) = c.requires.ends.0 c.loop-j.j (omega arith) in
     let x = low_is in
     let y = high_is in
     (omega arith, omega arith) in
@@ -59,15 +59,15 @@ bounds-near-high c =
 
 pub with_bit-requires : goal.with_bit-requires
 with_bit-requires c =
-    let low_below : c.wide-low.result < 64 = let (o, h) = c.requires.ends.0 c.args.from (omega arith) in
-    omega (arith, c.wide-low.ensures.0) in
+    let low_below : c.from-low.result < 64 = let (o, h) = c.requires.ends.0 c.args.from (omega arith) in
+    omega (arith, c.from-low.ensures) in
     low_below
 
 pub offset_bounds-near-high-in-loop-j : goal.offset_bounds-near-high-in-loop-j
 offset_bounds-near-high-in-loop-j c =
-    let low_is : c.wide-low.result ≡ low_end c.args.b.now c.loop-j.j = sym c.if-wide-low.false ∙ c.wide.ensures.0 in
-    let high_is : c.wide-high.result ≡ high_end c.args.b.now c.loop-j.j = c.wide-high.ensures.0 ∙ ap (λ (x : ℕ). get_or c.args.b.now (4 + x + c.loop-j.j) 0) c.requires.from_lt_e.1 in
-    let ends : (c.wide-low.result < c.wide-high.result) × (c.wide-high.result < 64) = let (o, h) = c.requires.ends.0 c.loop-j.j (omega arith) in
+    let low_is : c.from-low.result ≡ low_end c.args.edges.now.b.now c.loop-j.j = sym c.if-from-low.false ∙ c.from.ensures in
+    let high_is : c.from-high.result ≡ high_end c.args.edges.now.b.now c.loop-j.j = c.from-high.ensures ∙ ap (λ (x : ℕ). get_or c.args.edges.now.b.now (4 + x + c.loop-j.j) 0) c.args.edges.now.counted in
+    let ends : (c.from-low.result < c.from-high.result) × (c.from-high.result < 64) = let (o, h) = c.requires.ends.0 c.loop-j.j (omega arith) in
     let x = low_is in
     let y = high_is in
     (omega arith, omega arith) in
@@ -75,9 +75,9 @@ offset_bounds-near-high-in-loop-j c =
 
 pub bounds-near-high-in-loop-j : goal.bounds-near-high-in-loop-j
 bounds-near-high-in-loop-j c =
-    let low_is : c.wide-low.result ≡ low_end c.args.b.now c.loop-j.j = sym c.if-wide-low.false ∙ c.wide.ensures.0 in
-    let high_is : c.wide-high.result ≡ high_end c.args.b.now c.loop-j.j = c.wide-high.ensures.0 ∙ ap (λ (x : ℕ). get_or c.args.b.now (4 + x + c.loop-j.j) 0) c.requires.from_lt_e.1 in
-    let ends : (c.wide-low.result < c.wide-high.result) × (c.wide-high.result < 64) = let (o, h) = c.requires.ends.0 c.loop-j.j (omega arith) in
+    let low_is : c.from-low.result ≡ low_end c.args.edges.now.b.now c.loop-j.j = sym c.if-from-low.false ∙ c.from.ensures in
+    let high_is : c.from-high.result ≡ high_end c.args.edges.now.b.now c.loop-j.j = c.from-high.ensures ∙ ap (λ (x : ℕ). get_or c.args.edges.now.b.now (4 + x + c.loop-j.j) 0) c.args.edges.now.counted in
+    let ends : (c.from-low.result < c.from-high.result) × (c.from-high.result < 64) = let (o, h) = c.requires.ends.0 c.loop-j.j (omega arith) in
     let x = low_is in
     let y = high_is in
     (omega arith, omega arith) in
@@ -85,24 +85,24 @@ bounds-near-high-in-loop-j c =
 
 pub loop-j-preserved : goal.loop-j-preserved
 loop-j-preserved c =
-    let low_is : c.wide-low.result ≡ low_end c.args.b.now c.loop-j.j = sym c.if-wide-low.false ∙ c.wide.ensures.0 in
-    let high_is : c.wide-high.result ≡ high_end c.args.b.now c.loop-j.j = c.wide-high.ensures.0 ∙ ap (λ (x : ℕ). get_or c.args.b.now (4 + x + c.loop-j.j) 0) c.requires.from_lt_e.1 in
-    let ends : (c.wide-low.result < c.wide-high.result) × (c.wide-high.result < 64) = let (o, h) = c.requires.ends.0 c.loop-j.j (omega arith) in
+    let low_is : c.from-low.result ≡ low_end c.args.edges.now.b.now c.loop-j.j = sym c.if-from-low.false ∙ c.from.ensures in
+    let high_is : c.from-high.result ≡ high_end c.args.edges.now.b.now c.loop-j.j = c.from-high.ensures ∙ ap (λ (x : ℕ). get_or c.args.edges.now.b.now (4 + x + c.loop-j.j) 0) c.args.edges.now.counted in
+    let ends : (c.from-low.result < c.from-high.result) × (c.from-high.result < 64) = let (o, h) = c.requires.ends.0 c.loop-j.j (omega arith) in
     let x = low_is in
     let y = high_is in
     (omega arith, omega arith) in
-    (omega arith, omega arith, simp length-set c.loop-j.invariant.2, rw (c.with_bit.ensures, c.with_bit-row.ensures) (marked_more c.args.b.now c.loop-j.j c.loop-j.near c.loop-j.row c.wide-low.result c.wide-high.result c.loop-j.invariant.2 c.loop-j.invariant.3 low_is high_is ends.0 ends.1))
+    (omega arith, omega arith, simp length-set c.loop-j.invariant.2, rw (c.with_bit.ensures, c.with_bit-row.ensures) (marked_more c.args.edges.now.b.now c.loop-j.j c.loop-j.near c.loop-j.row c.from-low.result c.from-high.result c.loop-j.invariant.2 c.loop-j.invariant.3 low_is high_is ends.0 ends.1))
 
 pub offset_bounds-near-low-2 : goal.offset_bounds-near-low-2
 offset_bounds-near-low-2 c =
-    let low_below : c.wide-low.result < 64 = let (o, h) = c.requires.ends.0 c.args.from (omega arith) in
-    omega (arith, c.wide-low.ensures.0) in
+    let low_below : c.from-low.result < 64 = let (o, h) = c.requires.ends.0 c.args.from (omega arith) in
+    omega (arith, c.from-low.ensures) in
     omega (arith, low_below)
 
 pub bounds-near-low-2 : goal.bounds-near-low-2
 bounds-near-low-2 c =
-    let low_below : c.wide-low.result < 64 = let (o, h) = c.requires.ends.0 c.args.from (omega arith) in
-    omega (arith, c.wide-low.ensures.0) in
+    let low_below : c.from-low.result < 64 = let (o, h) = c.requires.ends.0 c.args.from (omega arith) in
+    omega (arith, c.from-low.ensures) in
     omega (arith, low_below, c.loop-j.invariant.2)
 
 pub shape_of-near : goal.shape_of-near
@@ -111,10 +111,10 @@ shape_of-near c = simp length-set (c.loop-j.invariant.2 ∙ sym c.requires.ends.
 pub returns : goal.returns
 returns c = (
   ⊎_elim
-      (λ x. omega (arith, x.loop-j-test.false, c.requires.from_lt_e.0))
+      (λ x. omega (arith, x.loop-j-test.false, c.requires.from_lt_e))
       (λ x.
       ⊎_elim
-      (λ q. absurd (x.if-wide-low.true (x.wide.ensures.0 ∙ ap (λ (i : ℕ). get_or c.args.b.now (4 + i) 0) (sym q) ∙ sym c.wide-low.ensures.0)))
+      (λ q. absurd (x.if-from-low.true (x.from.ensures ∙ ap (λ (i : ℕ). get_or c.args.edges.now.b.now (4 + i) 0) (sym q) ∙ sym c.from-low.ensures)))
       (λ l. l)
       (eq-or-lt_of_le c.loop-j.invariant.0))
       c.loop-j-test.branch-raw,

@@ -24,19 +24,19 @@ pub returns-then-n-v : goal.returns-then-n-v
 returns-then-n-v c =
     let byte : ℕ → ℕ = λ a. get_or c.args.b.now (c.args.offset + a) 0 in
     let new : ℕ → Bool = λ a. new_vertex c.args.b.now byte a in
-    let test : ltb c.wide-v.result (vertices c.args.b.now) && not (get_or c.loop-a.seen c.wide-v.result false) ≡ new c.loop-a.a = seen_test byte c.loop-a.a c.wide-v.result c.loop-a.seen c.wide-v.ensures.0 c.loop-a.invariant.1.1.0 c.args.b.now c.requires.3 in
-    let fault : ltb c.wide-v.result (vertices c.args.b.now) && not (get_or c.loop-a.seen c.wide-v.result false) ≡ false
+    let test : ltb c.from-v.result (vertices c.args.b.now) && not (get_or c.loop-a.seen c.from-v.result false) ≡ new c.loop-a.a = seen_test byte c.loop-a.a c.from-v.result c.loop-a.seen c.from-v.ensures c.loop-a.invariant.1.1.0 c.args.b.now c.requires.3 in
+    let fault : ltb c.from-v.result (vertices c.args.b.now) && not (get_or c.loop-a.seen c.from-v.result false) ≡ false
     → T (c.args.optional && free (byte c.loop-a.a) || new c.loop-a.a) → ⊥ = λ d t. fails test d ((asked_iff c.args.optional (byte c.loop-a.a) c.is_free.ensures (new c.loop-a.a) c.if-not-optional-is_free.true-raw).0 t) in
-    fault_at (omega arith) c.loop-a.invariant.1.1.1 (fault (rw (le-ltb c.wide-v.result (vertices c.args.b.now) (omega arith))))
+    (omega arith, fault_at (omega arith) c.loop-a.invariant.1.1.1 (fault (rw (le-ltb c.from-v.result (vertices c.args.b.now) (omega arith)))))
 
 pub returns-then-seen-v : goal.returns-then-seen-v
 returns-then-seen-v c =
     let byte : ℕ → ℕ = λ a. get_or c.args.b.now (c.args.offset + a) 0 in
     let new : ℕ → Bool = λ a. new_vertex c.args.b.now byte a in
-    let test : ltb c.wide-v.result (vertices c.args.b.now) && not (get_or c.loop-a.seen c.wide-v.result false) ≡ new c.loop-a.a = seen_test byte c.loop-a.a c.wide-v.result c.loop-a.seen c.wide-v.ensures.0 c.loop-a.invariant.1.1.0 c.args.b.now c.requires.3 in
-    let fault : ltb c.wide-v.result (vertices c.args.b.now) && not (get_or c.loop-a.seen c.wide-v.result false) ≡ false
+    let test : ltb c.from-v.result (vertices c.args.b.now) && not (get_or c.loop-a.seen c.from-v.result false) ≡ new c.loop-a.a = seen_test byte c.loop-a.a c.from-v.result c.loop-a.seen c.from-v.ensures c.loop-a.invariant.1.1.0 c.args.b.now c.requires.3 in
+    let fault : ltb c.from-v.result (vertices c.args.b.now) && not (get_or c.loop-a.seen c.from-v.result false) ≡ false
     → T (c.args.optional && free (byte c.loop-a.a) || new c.loop-a.a) → ⊥ = λ d t. fails test d ((asked_iff c.args.optional (byte c.loop-a.a) c.is_free.ensures (new c.loop-a.a) c.if-not-optional-is_free.true-raw).0 t) in
-    fault_at (omega arith) c.loop-a.invariant.1.1.1 (fault (rw (lt-ltb c.wide-v.result (vertices c.args.b.now) (omega arith), c.if-seen-v.true)))
+    (omega arith, fault_at (omega arith) c.loop-a.invariant.1.1.1 (fault (rw (lt-ltb c.from-v.result (vertices c.args.b.now) (omega arith), c.if-seen-v.true))))
 
 pub loop-a-preserved : goal.loop-a-preserved
 loop-a-preserved c =
@@ -47,14 +47,14 @@ loop-a-preserved c =
     let inv = c.loop-a.invariant.1 in
     ⊎_elim
     (λ w.
-    let v = w.wide-v.result in
+    let v = w.from-v.result in
     let l = lt-ltb v (vertices c.args.b.now) (omega (arith, w.if-n-v.false)) in (
       omega arith,
       (
         rw w.seen-is (simp length-set inv.0),
         (
-          rw w.seen-is (seen_more byte a v seen w.wide-v.ensures.0 inv.1.0 (omega (arith, w.if-n-v.false))),
-          below_more _ _ inv.1.1 ((asked_iff c.args.optional (byte a) c.is_free.ensures (new a) w.if-not-optional-is_free.true-raw).1 (holds (seen_test byte a v seen w.wide-v.ensures.0 inv.1.0 c.args.b.now c.requires.3) (rw (l, w.if-seen-v.false)))),
+          rw w.seen-is (seen_more byte a v seen w.from-v.ensures inv.1.0 (omega (arith, w.if-n-v.false))),
+          below_more _ _ inv.1.1 ((asked_iff c.args.optional (byte a) c.is_free.ensures (new a) w.if-not-optional-is_free.true-raw).1 (holds (seen_test byte a v seen w.from-v.ensures inv.1.0 c.args.b.now c.requires.3) (rw (l, w.if-seen-v.false)))),
         ),
       ),
     ))

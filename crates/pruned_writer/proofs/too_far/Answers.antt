@@ -8,4 +8,4 @@ use Rattle.formula.proofs.Pruned.{too_far_ltb}
 use Rattle.pruned_writer.proofs.too_far.Goals as goal
 
 pub returns : goal.returns
-returns c = ap₂ (λ (x y : ℕ). ltb c.args.t x || ltb (c.args.m - c.args.t) y) c.wide.ensures.0 c.wide-2.ensures.0 ∙ sym (too_far_ltb c.args.m c.args.t c.args.x c.args.y (omega arith) c.requires.0)
+returns c = ap₂ (λ (x y : ℕ). ltb c.args.t x || ltb (c.args.m - c.args.t) y) c.from.ensures c.from-2.ensures ∙ sym (too_far_ltb c.args.m c.args.t c.args.x c.args.y (omega arith) c.requires.0)

@@ -14,7 +14,7 @@ abbrev pub clauses : Sizes → List ℕ → List ℕ → ℕ → ℕ → ℕ →
 clauses s from to t a v = when (too_far s.m t (get_or from v 0) (get_or to v 0)) ((¬X s t a v ∷ []) ∷ [])
 
 abbrev pub invariant-loop-v : goal.invariant-loop-v
-invariant-loop-v l = Filling (λ k. each line (clauses l.s l.from l.to l.t.0 l.a.0 k)) l.n l.initial.f l.v l.at l.f
+invariant-loop-v l = Filling (λ k. each line (clauses l.s.sizes l.from l.to l.t.0 l.a.0 k)) l.n l.initial.f l.v l.at l.f
 
 abbrev pub decreases-loop-v : goal.decreases-loop-v
 decreases-loop-v l = l.n - l.v

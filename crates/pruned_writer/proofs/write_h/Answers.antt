@@ -9,22 +9,22 @@ use Rattle.pruned_writer.specs.ByTable.{step_by_table}
 use Rattle.pruned_writer.proofs.write_h.Goals as goal
 
 pub overflow_add-end : goal.overflow_add-end
-overflow_add-end c = omega (arith, c.requires.limits.m_most)
+overflow_add-end c = omega (arith, c.args.problem.now.shape.limits.m_most)
 
 pub loop-t-init : goal.loop-t-init
 unfolding H
-loop-t-init c = each_filling line (step_by_table c.args.s c.args.table.now c.args.starts.now c.args.goals.now) c.requires.goals_in_bounds
+loop-t-init c = each_filling line (step_by_table c.args.problem.now.shape.sizes c.args.table.now c.args.problem.now.starts c.args.problem.now.goals) c.requires.table_in_bounds
 
 pub write_step-at-requires : goal.write_step-at-requires
 write_step-at-requires c =
-    let turn : c.loop-t.t < suc c.args.s.m = omega (arith, c.loop-t-test.true) in
+    let turn : c.loop-t.t < suc c.args.problem.now.shape.sizes.m = omega (arith, c.loop-t-test.true) in
     simp (length-take, length-drop)
     (let r = filling_room c.loop-t.invariant turn in
-    record { limits = c.requires.limits; inside = c.requires.inside; t_le_m = (omega (arith, turn), c.requires.table_len); t_in_bounds = omega arith })
+    record { t_le_m = (omega (arith, turn), c.requires.table_len); t_in_bounds = omega arith })
 
 pub loop-t-preserved : goal.loop-t-preserved
 loop-t-preserved c =
-    let turn : c.loop-t.t < suc c.args.s.m = omega (arith, c.loop-t-test.true) in
+    let turn : c.loop-t.t < suc c.args.problem.now.shape.sizes.m = omega (arith, c.loop-t-test.true) in
     filling_next c.loop-t.invariant turn c.write_step-at.ensures
 
 pub overflow_add-at : goal.overflow_add-at
@@ -32,7 +32,7 @@ overflow_add-at c = let q = (loop-t-preserved c).fits in omega arith
 
 pub returns : goal.returns
 unfolding H
-returns c = each_filled line (step_by_table c.args.s c.args.table.now c.args.starts.now c.args.goals.now) c.loop-t.invariant (omega arith)
+returns c = each_filled line (step_by_table c.args.problem.now.shape.sizes c.args.table.now c.args.problem.now.starts c.args.problem.now.goals) c.loop-t.invariant (omega arith)
 
 pub shape_of-f : goal.shape_of-f
 shape_of-f c = c.loop-t.invariant.same

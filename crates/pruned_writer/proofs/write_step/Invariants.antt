@@ -13,7 +13,7 @@ abbrev pub block : Sizes → List ℕ → List ℕ → List (List ℕ) → ℕ �
 block s starts goals table t a = block_h s (by_table table starts a) (goal_by table goals a) t a
 
 abbrev pub invariant-loop-a : goal.invariant-loop-a
-invariant-loop-a l = Filling (λ i. each line (block l.s l.starts l.goals l.table l.t i)) l.k l.initial.f l.a l.at l.f
+invariant-loop-a l = Filling (λ i. each line (block l.problem.shape.sizes l.problem.starts l.problem.goals l.table l.t i)) l.k l.initial.f l.a l.at l.f
 
 abbrev pub decreases-loop-a : goal.decreases-loop-a
 decreases-loop-a l = l.k - l.a
