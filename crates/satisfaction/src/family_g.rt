@@ -37,7 +37,7 @@ fn fault_following(problem: &Problem, p: &[u8], t: usize) -> Option<usize>
     let here = row_at(problem.shape, p, t);
     let w = row_at(problem.shape, p, t + 1)[a];
     let stander = conditions::first_on(here, w).unwrap();
-    Some(a * ((k - 1) * n) + (other_at(a, stander) * n + numbers::wide(w)))
+    Some(a * ((k - 1) * n) + (other_at(a, stander) * n + usize::from(w)))
 }
 
 // The first agent that goes from u to v in step t.
@@ -71,7 +71,7 @@ fn high_crossed(problem: &Problem, p: &[u8], t: usize, u: usize) -> Option<usize
     let a = conditions::first_on(row_at(problem.shape, p, t), u as u8)?;
     let v = row_at(problem.shape, p, t + 1)[a];
     if is_crossed(problem.shape, p, t, u as u8, v) {
-        return Some(numbers::wide(v));
+        return Some(usize::from(v));
     }
     None
 }

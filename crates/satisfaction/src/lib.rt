@@ -196,7 +196,7 @@ fn unit_fault(entries: &[i32], s: Shape, t: usize, ends: &[u8; 16]) -> Option<us
         let end = ends[a];
         if !goals::is_free(end) {
             let base = variables::first_entry(s, Step(t), Agent(a));
-            if denied(entries, base, numbers::wide(end)) {
+            if denied(entries, base, usize::from(end)) {
                 return Some(a);
             }
         }
@@ -258,7 +258,7 @@ fn lower(here: &[u8], a: usize, low: Option<usize>, n: usize) -> Option<usize>
     ensures { LowestShared (a + 1) (λ i. get_or here.now i 0) n result }
 {
     let x = here[a];
-    let v = numbers::wide(x);
+    let v = usize::from(x);
     if low.unwrap_or(n) <= v {
         return low;
     }
@@ -298,7 +298,7 @@ fn fault_f(problem: &Problem, p: &[u8], t: usize) -> Option<usize>
     ensures { (es : List ℤ) → Valuation (variable_count problem.now.shape.sizes) es → Places problem.now.shape.sizes (true? es) (plan_row problem.now.shape.sizes p.now) → Failing es (for problem.now.shape.sizes.k (block_f problem.now.shape.sizes (joined problem.now.near) t)) result }
 {
     let a = conditions::step_fault(problem, Condition::Crossing, p, t)?;
-    Some(a * problem.shape.sizes.n + numbers::wide(row_at(problem.shape, p, t)[a]))
+    Some(a * problem.shape.sizes.n + usize::from(row_at(problem.shape, p, t)[a]))
 }
 
 // Row t of a family, where the families before it have a true literal in every clause.

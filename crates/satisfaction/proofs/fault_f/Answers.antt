@@ -6,9 +6,6 @@ use Rattle.plan.specs.Plan.{plan_row, condition1}
 use Rattle.satisfaction.proofs.Truth.{none_row_f, here_row_f}
 use Rattle.satisfaction.proofs.fault_f.Goals as goal
 
-pub step_fault-requires-clause-stub : goal.step_fault-requires-clause-stub
-step_fault-requires-clause-stub c = ?
-
 pub returns-in_err-a : goal.returns-in_err-a
 unfolding condition1
 returns-in_err-a c =
@@ -20,4 +17,4 @@ unfolding condition1
 returns c =
     let s = c.args.problem.now.shape.sizes in
     let f = c.in_ok-a.ensures in
-    λ es w c'. rw (c.wide.ensures.0, c.row_at.ensures.1 c.in_ok-a.a f.0) (here_row_f s es w (plan_row s c.args.p.now) c' (joined c.args.problem.now.near) c.args.t c.requires.1 c.in_ok-a.a f.1 f.0)
+    λ es w c'. rw (c.from.ensures, c.row_at.ensures.1 c.in_ok-a.a f.0) (here_row_f s es w (plan_row s c.args.p.now) c' (joined c.args.problem.now.near) c.args.t c.requires.1 c.in_ok-a.a f.1 f.0)

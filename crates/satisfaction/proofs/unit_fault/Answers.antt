@@ -38,7 +38,7 @@ returns-then-denied c =
     let a = c.loop-a.a in
     let v = get_or c.args.ends.now a 0 in
     let bound = fails c.is_free.ensures c.if-not-is_free.true in
-    let away = not_there c.args.s.sizes c.args.entries.now c.requires.valuation c.args.t a v c.first_entry-base.result c.wide.result c.requires.t_le_m.0 c.loop-a-test.true (c.requires.t_le_m.1 a c.loop-a-test.true bound) c.first_entry-base.ensures.0 c.wide.ensures.0 c.denied.ensures c.if-denied.true in
+    let away = not_there c.args.s.sizes c.args.entries.now c.requires.valuation c.args.t a v c.first_entry-base.result c.from.result c.requires.t_le_m.0 c.loop-a-test.true (c.requires.t_le_m.1 a c.loop-a-test.true bound) c.first_entry-base.ensures.0 c.from.ensures c.denied.ensures c.if-denied.true in
     (c.loop-a-test.true, fault_at c.loop-a-test.true c.loop-a.invariant.1 (λ h. ⊎_elim bound away ((or_iff (free v) _).0 h)))
 
 pub loop-a-preserved : goal.loop-a-preserved
@@ -48,7 +48,7 @@ loop-a-preserved c =
     elim c.if-not-is_free.branch [
       | then-not-is_free+else-denied w ↦
           let bound = fails c.is_free.ensures w.if-not-is_free.true in
-          let here = there c.args.s.sizes c.args.entries.now c.requires.valuation c.args.t a v w.first_entry-base.result w.wide.result c.requires.t_le_m.0 c.loop-a-test.true (c.requires.t_le_m.1 a c.loop-a-test.true bound) w.first_entry-base.ensures.0 w.wide.ensures.0 w.denied.ensures w.if-denied.false in
+          let here = there c.args.s.sizes c.args.entries.now c.requires.valuation c.args.t a v w.first_entry-base.result w.from.result c.requires.t_le_m.0 c.loop-a-test.true (c.requires.t_le_m.1 a c.loop-a-test.true bound) w.first_entry-base.ensures.0 w.from.ensures w.denied.ensures w.if-denied.false in
           (omega arith, below_more _ _ c.loop-a.invariant.1 ((or_iff (free v) _).1 (inr here)))
       | else-not-is_free w ↦ (omega arith, below_more _ _ c.loop-a.invariant.1 ((or_iff (free v) _).1 (inl (holds c.is_free.ensures w.if-not-is_free.false))))
     ]

@@ -8,9 +8,6 @@ use Rattle.satisfaction.specs.Rows.{LowestCrossed, crossed}
 use Rattle.satisfaction.proofs.Exchanges.{none_exchange, uncrossed, none_lowest}
 use Rattle.satisfaction.proofs.family_g.fault_exchange.Goals as goal
 
-pub step_fault-requires-clause-stub : goal.step_fault-requires-clause-stub
-step_fault-requires-clause-stub c = ?
-
 pub returns-in_err-step_fault : goal.returns-in_err-step_fault
 returns-in_err-step_fault c =
     let s = c.args.problem.now.shape.sizes in

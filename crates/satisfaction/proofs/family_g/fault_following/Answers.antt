@@ -10,9 +10,6 @@ use Rattle.satisfaction.proofs.Steps.{on_row, plain_2, entered, enters}
 use Rattle.satisfaction.proofs.Truth.{none_row_g, here_row_g}
 use Rattle.satisfaction.proofs.family_g.fault_following.Goals as goal
 
-pub step_fault-requires-clause-stub : goal.step_fault-requires-clause-stub
-step_fault-requires-clause-stub c = ?
-
 -- `fails_2`: what the call has found
 pub returns-in_err-a : goal.returns-in_err-a
 returns-in_err-a c =
@@ -42,4 +39,4 @@ returns c =
     let stander = rw c.unwrap-stander.ensures at c.first_on.ensures in
     let enter = enters s.k P Q c.in_ok-a.a agent.0 fails_2 c.unwrap-stander.result (rw goes at (on_row s.k c.row_at-here.result.now P c.row_at-here.ensures _ (Some c.unwrap-stander.result) stander)) in
     λ es w c'.
-        rw (c.wide.ensures.0, goes) (here_row_g s es w (plan_row s c.args.p.now) c' c.args.t c.requires.sound.time c.requires.sound.apart c.in_ok-a.a fails_2 c.unwrap-stander.result c.other_at.result enter c.other_at.ensures.0 c.other_at.ensures.1)
+        rw (c.from.ensures, goes) (here_row_g s es w (plan_row s c.args.p.now) c' c.args.t c.requires.sound.time c.requires.sound.apart c.in_ok-a.a fails_2 c.unwrap-stander.result c.other_at.result enter c.other_at.ensures.0 c.other_at.ensures.1)

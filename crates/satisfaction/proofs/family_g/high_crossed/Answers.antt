@@ -24,7 +24,7 @@ returns-then-is_crossed c =
     let Q = plan_row s c.args.p.now (suc c.args.t) in
     let agent = on_row s.k c.row_at.result.now P c.row_at.ensures c.args.u (Some c.in_ok-a.a) c.in_ok-a.ensures in
     let goes = c.row_at-2.ensures.1 c.in_ok-a.a agent.0 ∙ ap (λ (u : ℕ). plan_row s c.args.p.now u c.in_ok-a.a) (add-one c.args.t) in
-    rw (c.wide.ensures.0, goes)
+    rw (c.from.ensures, goes)
     (high_one s.k P Q s.n c.args.u c.in_ok-a.a agent.1 c.requires.sound.apart agent.0 c.requires.sound.inside (c.if-is_crossed.ensures ∙ ap (crossed s.k P Q c.args.u) goes))
 
 pub returns : goal.returns
