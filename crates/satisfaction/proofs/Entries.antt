@@ -95,14 +95,14 @@ module _ (es : List ℤ) where
                 here = λ r. absurd (let z : ⊥ = omega arith in z);
               },
               record {
-                    most = omega arith;
-                    one = λ x u l. (
-                      (λ y. by_cases (ℕ_discrete u v) (λ p. p) (λ p. absurd (not_both (base + u) y ((o.one e).2 u l p)))),
-                      (λ y. rw y t),
-                    );
-                    none = λ x. absurd (let z : ⊥ = omega arith in z);
-                    several = λ x. absurd (let z : ⊥ = omega arith in z);
-                  },
+                most = omega arith;
+                one = λ x u l. (
+                  (λ y. by_cases (ℕ_discrete u v) (λ p. p) (λ p. absurd (not_both (base + u) y ((o.one e).2 u l p)))),
+                  (λ y. rw y t),
+                );
+                none = λ x. absurd (let z : ⊥ = omega arith in z);
+                several = λ x. absurd (let z : ⊥ = omega arith in z);
+              },
             )
 
         pub came_wrong : (T (right_entry es (base + v)) → ⊥) → Came es base n (Err (base + v))

@@ -1,9 +1,9 @@
 -- Agents that exchange vertices: in the rows of a plan alone, and in the clauses of G under rule 2.
-use mathlib.Core.Path.{◌≡◌, refl, sym, ◌∙◌, ap, ap₂, subst}
+use mathlib.Core.Path.{◌≡◌, refl, sym, ◌∙◌, ap, subst}
 use mathlib.Core.Logic.Iff
 use mathlib.Core.Logic.{◌↔◌, ◌≢◌, by_cases}
 use mathlib.Core.List.{List, [], ◌∷◌}
-use mathlib.Core.Bool.{Bool, true, false, not, ◌&&◌}
+use mathlib.Core.Bool.{Bool, true, false, not}
 use Prim.Native.Nat.{ℕ, suc, ◌+◌, ◌*◌, ◌-◌, ◌≤◌, ◌<◌}
 use native.Mathlib.Nat.{le_refl, add-mul, not-suc-le-zero}
 use native.Mathlib.Decide.{dec_lt, ℕ_discrete}
@@ -14,7 +14,7 @@ use lib.Dec.{T, ltb, eqb}
 use lib.IntN.{ℤ}
 use Rattle.std.specs.Prelude.{Option, None, Some, IsSome}
 use Rattle.std.specs.Option.{is_some}
-use Rattle.lists.specs.Loop.{for, when, all, some, every, sum}
+use Rattle.lists.specs.Loop.{for, when, all, some, sum}
 use Rattle.lists.proofs.Tests.{and_iff, or_imp, not_iff, ltb_iff, eqb_iff, some_iff, every_iff}
 use Rattle.lists.proofs.Loops.{for_all, one_all, when_all, any_four, for_length}
 use Rattle.lists.proofs.Blocks.{place_lt}
@@ -99,11 +99,11 @@ module _ (k : ℕ) (P Q : Row) where
         pub high_one : ((i : ℕ) → i < k → P i < n) → true ≡ crossed k P Q u (Q a) → High (Some (Q a))
         high_one inside e =
             let h : Q a < n = (let (b, r, (x, y)) = ((crossed_iff u (Q a)).0 (subst T e tt)).1.1 in omega (arith, inside b r)) in (
-          h,
-          fault_at h
-          (λ v r. (not_iff (crossed k P Q u v)).1 (λ t. let z = only v t in omega arith))
-          (λ t. (not_iff (crossed k P Q u (Q a))).0 t (subst T e tt)),
-        )
+              h,
+              fault_at h
+                  (λ v r. (not_iff (crossed k P Q u v)).1 (λ t. let z = only v t in omega arith))
+                  (λ t. (not_iff (crossed k P Q u (Q a))).0 t (subst T e tt)),
+            )
 
   -- whether u and v are exchanged, by the first agent that goes from u to v and the first that goes from v to u
   module _ (u v : ℕ) where

@@ -33,7 +33,13 @@ fn fault_following(problem: &Problem, p: &[u8], t: usize) -> Option<usize>
     ensures { (es : List ℤ) → Valuation (variable_count problem.now.shape.sizes) es → Places problem.now.shape.sizes (true? es) (plan_row problem.now.shape.sizes p.now) → Failing es (for problem.now.shape.sizes.k (no_following problem.now.shape.sizes t)) result }
 {
     let Sizes { n, k, .. } = problem.shape.sizes;
-    let a = conditions::step_fault(problem, Condition::Entering, p, t)?;
+    let a = conditions::step_fault(
+        problem.shape.sizes,
+        &problem.near,
+        Condition::Entering,
+        p,
+        t,
+    )?;
     let here = row_at(problem.shape, p, t);
     let w = row_at(problem.shape, p, t + 1)[a];
     let stander = conditions::first_on(here, w).unwrap();
@@ -94,7 +100,7 @@ fn lowest_crossed(problem: &Problem, p: &[u8], t: usize) -> Option<(usize, usize
 fn exchange_place(problem: &Problem, p: &[u8], t: usize, u: usize, v: usize) -> usize
     requires sound { Sound problem.now.shape.sizes (joined problem.now.near) p.now t }
     requires lowest { LowestCrossed problem.now.shape.sizes.n (crossed problem.now.shape.sizes.k (plan_row problem.now.shape.sizes p.now t) (plan_row problem.now.shape.sizes p.now (suc t))) (Some (u, v)) }
-    ensures { (result ≤ 1000000) × ((es : List ℤ) → Valuation (variable_count problem.now.shape.sizes) es → Places problem.now.shape.sizes (true? es) (plan_row problem.now.shape.sizes p.now) → Failing es (for problem.now.shape.sizes.n (no_exchange_from problem.now.shape.sizes (joined problem.now.near) t)) (Some result)) }
+    ensures { (es : List ℤ) → Valuation (variable_count problem.now.shape.sizes) es → Places problem.now.shape.sizes (true? es) (plan_row problem.now.shape.sizes p.now) → Failing es (for problem.now.shape.sizes.n (no_exchange_from problem.now.shape.sizes (joined problem.now.near) t)) (Some result) }
 {
     let Sizes { n, k, .. } = problem.shape.sizes;
     let a = first_from_to(problem.shape, p, t, u as u8, v as u8).unwrap();
@@ -108,7 +114,13 @@ fn fault_exchange(problem: &Problem, p: &[u8], t: usize) -> Option<usize>
     requires sound { Sound problem.now.shape.sizes (joined problem.now.near) p.now t }
     ensures { (es : List ℤ) → Valuation (variable_count problem.now.shape.sizes) es → Places problem.now.shape.sizes (true? es) (plan_row problem.now.shape.sizes p.now) → Failing es (for problem.now.shape.sizes.n (no_exchange_from problem.now.shape.sizes (joined problem.now.near) t)) result }
 {
-    conditions::step_fault(problem, Condition::Entering, p, t)?;
+    conditions::step_fault(
+        problem.shape.sizes,
+        &problem.near,
+        Condition::Entering,
+        p,
+        t,
+    )?;
     let (u, v) = lowest_crossed(problem, p, t)?;
     Some(exchange_place(problem, p, t, u, v))
 }

@@ -217,7 +217,12 @@ fn fault_b(problem: &Problem, entries: &[i32]) -> Option<usize>
     requires { Valuation (variable_count problem.now.shape.sizes) entries.now }
     ensures { (t : ℕ) → Failing entries.now (row (held (checked_of problem.now)) 1 t) result }
 {
-    let a = unit_fault(entries, problem.shape, problem.shape.sizes.m, &problem.goals)?;
+    let a = unit_fault(
+        entries,
+        problem.shape,
+        problem.shape.sizes.m,
+        &problem.goals,
+    )?;
     Some(goals::count(&problem.goals, a))
 }
 
@@ -297,7 +302,13 @@ fn fault_f(problem: &Problem, p: &[u8], t: usize) -> Option<usize>
     requires { (length p.now ≡ plan_bytes problem.now.shape.sizes) × (t < problem.now.shape.sizes.m) × Inside p.now }
     ensures { (es : List ℤ) → Valuation (variable_count problem.now.shape.sizes) es → Places problem.now.shape.sizes (true? es) (plan_row problem.now.shape.sizes p.now) → Failing es (for problem.now.shape.sizes.k (block_f problem.now.shape.sizes (joined problem.now.near) t)) result }
 {
-    let a = conditions::step_fault(problem, Condition::Crossing, p, t)?;
+    let a = conditions::step_fault(
+        problem.shape.sizes,
+        &problem.near,
+        Condition::Crossing,
+        p,
+        t,
+    )?;
     Some(a * problem.shape.sizes.n + usize::from(row_at(problem.shape, p, t)[a]))
 }
 

@@ -1,9 +1,9 @@
 -- `satisfaction::clause_fault` meets its contract: the rows and families before have a true literal in every clause, and at is their number of clauses. Assumes nothing.
-use Prim.Native.Nat.{◌+◌, ◌*◌, ◌≤◌, ◌<◌}
+use Prim.Native.Nat.{◌<◌}
 use mathlib.Core.Path.{◌≡◌}
 use native.Mathlib.Numerals.{add-one}
 use native.Mathlib.Omega.{arith}
-use lib.ListN.{length, get_or, length-append}
+use lib.ListN.{get_or, length-append}
 use Rattle.lists.specs.Loop.{for}
 use Rattle.lists.proofs.Loops.{for_all}
 use Rattle.instance.specs.Problem.{checked_of}
@@ -11,7 +11,7 @@ use Rattle.counts.specs.Families.{place_of}
 use Rattle.counts.specs.declared.Family.TheVariants.{A}
 use Rattle.formula.specs.Blocks.{times, family, held}
 use Rattle.valuation.specs.Valuation.{satisfied?}
-use Rattle.satisfaction.specs.Rows.{row, Before, Failing}
+use Rattle.satisfaction.specs.Rows.{row, Before}
 use Rattle.satisfaction.proofs.Laws.{failing_none, failing_below, row_passed}
 use Rattle.satisfaction.proofs.Families.{families, place_at, in_families, next_family}
 use Rattle.satisfaction.proofs.clause_fault.Goals as goal

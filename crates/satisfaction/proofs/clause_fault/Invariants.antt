@@ -1,5 +1,5 @@
 -- `satisfaction::clause_fault` meets its contract: the rows and families before have a true literal in every clause, and at is their number of clauses. Assumes nothing.
-use Prim.Native.Nat.{◌+◌, ◌*◌, ◌-◌, ◌≤◌}
+use Prim.Native.Nat.{◌+◌, ◌*◌, ◌≤◌}
 use mathlib.Core.Path.{◌≡◌}
 use lib.ListN.{length}
 use lib.Dec.{T}

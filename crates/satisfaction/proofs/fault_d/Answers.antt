@@ -1,5 +1,5 @@
 -- `satisfaction::fault_d` meets its contract: the first two vertices of the first agent with several. Assumes nothing.
-use Prim.Native.Nat.{suc, ◌+◌, ◌<◌}
+use Prim.Native.Nat.{◌+◌}
 use mathlib.Core.Path.{refl}
 use native.Mathlib.Omega.{arith}
 use Rattle.std.specs.Prelude.{None, Some}

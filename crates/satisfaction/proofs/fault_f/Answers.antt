@@ -1,6 +1,5 @@
 -- `satisfaction::fault_f` meets its contract: the first agent that fails condition 1, and its vertex. Assumes nothing.
 use mathlib.Core.Path.{refl}
-use native.Mathlib.Omega.{arith}
 use Rattle.instance.specs.Instance.{joined}
 use Rattle.plan.specs.Plan.{plan_row, condition1}
 use Rattle.satisfaction.proofs.Truth.{none_row_f, here_row_f}

@@ -1,5 +1,4 @@
 -- `satisfaction::lower` meets its contract: agent a's vertex is no lower, or shared, or not shared. Assumes nothing.
-use Prim.Native.Nat.{ℕ}
 use native.Mathlib.Omega.{arith}
 use lib.ListN.{get_or}
 use Rattle.satisfaction.proofs.Steps.{lowest_keep, earlier_alone, earlier_shares}

@@ -1,13 +1,13 @@
 -- `satisfaction::read_entries` meets its contract: before turn t of agent a the rows before theirs are read, and their entries are right. Assumes nothing.
-use Prim.Native.Nat.{ℕ, suc, ◌+◌, ◌*◌, ◌≤◌, ◌<◌}
-use mathlib.Core.Path.{◌≡◌, refl, sym, ◌∙◌, subst}
+use Prim.Native.Nat.{ℕ, suc, ◌+◌, ◌*◌, ◌<◌}
+use mathlib.Core.Path.{◌≡◌, refl, subst}
 use native.Mathlib.Omega.{arith}
 use lib.Dec.{T}
 use Rattle.lists.proofs.Blocks.{place_lt}
 use Rattle.instance.specs.declared.Sizes.{Sizes}
 use Rattle.instance.specs.Limits.{Limits}
 use Rattle.formula.specs.Variables.{index, variable_count}
-use Rattle.formula.proofs.Variables.{run_fits, runs_before, first_run, next_run, next_agent, last_run}
+use Rattle.formula.proofs.Variables.{runs_before, first_run, next_run, next_agent, last_run}
 use Rattle.satisfaction.proofs.Bounds.{products}
 use Rattle.satisfaction.proofs.Entries.{Sofar, sofar_none, sofar_more, sofar_wrong, done_right, done_read}
 use Rattle.satisfaction.proofs.read_entries.Goals as goal

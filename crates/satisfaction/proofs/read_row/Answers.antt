@@ -1,5 +1,4 @@
 -- `satisfaction::read_row` meets its contract: its four ends, one law each. Assumes nothing.
-use native.Mathlib.Omega.{arith}
 use Rattle.answers.proofs.Faults.{holds, fails}
 use Rattle.satisfaction.proofs.Entries as laws
 use Rattle.satisfaction.proofs.read_row.Goals as goal

@@ -2,7 +2,6 @@
 use Prim.Native.Nat.{ℕ, suc}
 use mathlib.Core.Path.{refl, ◌∙◌, ap}
 use native.Mathlib.Numerals.{add-one}
-use native.Mathlib.Omega.{arith}
 use Rattle.std.specs.Prelude.{Some}
 use Rattle.instance.specs.Instance.{joined}
 use Rattle.plan.specs.Plan.{plan_row}
@@ -39,4 +38,4 @@ returns c =
     let stander = rw c.unwrap-stander.ensures at c.first_on.ensures in
     let enter = enters s.k P Q c.in_ok-a.a agent.0 fails_2 c.unwrap-stander.result (rw goes at (on_row s.k c.row_at-here.result.now P c.row_at-here.ensures _ (Some c.unwrap-stander.result) stander)) in
     λ es w c'.
-        rw (c.from.ensures, goes) (here_row_g s es w (plan_row s c.args.p.now) c' c.args.t c.requires.sound.time c.requires.sound.apart c.in_ok-a.a fails_2 c.unwrap-stander.result c.other_at.result enter c.other_at.ensures.0 c.other_at.ensures.1)
+    rw (c.from.ensures, goes) (here_row_g s es w (plan_row s c.args.p.now) c' c.args.t c.requires.sound.time c.requires.sound.apart c.in_ok-a.a fails_2 c.unwrap-stander.result c.other_at.result enter c.other_at.ensures.0 c.other_at.ensures.1)

@@ -1,8 +1,7 @@
 -- `satisfaction::family_g::high_crossed` meets its contract: no two agents share a vertex, so only the first agent found on u can exchange it. Assumes nothing.
 use Prim.Native.Nat.{ℕ, suc}
-use mathlib.Core.Path.{refl, ◌∙◌, ap, sym}
+use mathlib.Core.Path.{refl, ◌∙◌, ap}
 use native.Mathlib.Numerals.{add-one}
-use native.Mathlib.Omega.{arith}
 use Rattle.std.specs.Prelude.{None, Some}
 use Rattle.plan.specs.Plan.{plan_row}
 use Rattle.satisfaction.specs.Rows.{crossed}

@@ -1,7 +1,6 @@
 -- `satisfaction::family_g::is_crossed` meets its contract: an agent that goes up, and one that goes back. Assumes nothing.
 use Prim.Native.Nat.{suc}
-use mathlib.Core.Path.{sym, ◌∙◌}
-use native.Mathlib.Omega.{arith}
+use mathlib.Core.Path.{◌∙◌}
 use Rattle.plan.specs.Plan.{plan_row}
 use Rattle.satisfaction.proofs.Exchanges.{crossed_down, crossed_none, crossed_up}
 use Rattle.satisfaction.proofs.family_g.is_crossed.Goals as goal

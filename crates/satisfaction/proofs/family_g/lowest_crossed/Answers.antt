@@ -1,5 +1,5 @@
 -- `satisfaction::family_g::lowest_crossed` meets its contract: the loop keeps that no vertex passed is exchanged with a higher one. Assumes nothing.
-use Prim.Native.Nat.{ℕ, suc}
+use Prim.Native.Nat.{suc}
 use mathlib.Core.Bool.{not}
 use native.Mathlib.Omega.{arith}
 use borrow.Author.Count.{below_more}
