@@ -10,10 +10,10 @@ use lib.Dec.{eqb}
 use lib.IntN.{ℤ, pos, negsuc}
 use lib.ListN.{length, get_or, drop, set, length-set}
 use lib.Seq.{get_or-drop, drop-drop}
-use Rattle.std.specs.Prelude.{Option, None, Some, is_some}
+use Rattle.std.specs.Prelude.{None, Some, is_some}
 use Rattle.std.specs.Bool.{then_some}
 use Rattle.lists.specs.Loop.{unless}
-use Rattle.solver_text.specs.Text.{ahead, behind, pieces, token?, zero?, value, values}
+use Rattle.solver_text.specs.Text.{ahead, behind, pieces, zero?, value, values}
 use Rattle.solver_text.specs.Form.{literals_on}
 use Rattle.solver_text.proofs.Walk.{split}
 use Rattle.solver_tokens.specs.declared.Token.{Token}

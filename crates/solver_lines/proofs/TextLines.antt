@@ -1,8 +1,8 @@
 -- Lines by their kinds, and one after another.
-use mathlib.Core.Path.{◌≡◌, refl, sym, ◌∙◌, ap, ap₂, subst}
+use mathlib.Core.Path.{◌≡◌, refl, sym, ◌∙◌, ap, ap₂}
 use mathlib.Core.Logic.{by_cases, ◌⊎◌, inl, inr, ⊎_elim}
 use mathlib.Core.List.{List, [], ◌∷◌}
-use mathlib.Core.Bool.{Bool, true, false, not, ◌&&◌, ◌||◌, cond}
+use mathlib.Core.Bool.{Bool, true, false, ◌&&◌, ◌||◌, cond}
 use Prim.Native.Nat.{ℕ, suc, ◌+◌, ◌-◌, ◌≤◌, ◌<◌}
 use native.Mathlib.Nat.{le_refl}
 use native.Mathlib.Decide.{dec_lt}
@@ -21,7 +21,7 @@ use Rattle.solver_text.specs.declared.Verdict.{Verdict}
 use Rattle.solver_text.specs.declared.Said.{Said}
 use Rattle.solver_text.specs.Text.{ahead, behind, pieces, lines, same, zero?, Kind, skipped, status, values, neither, kind, satisfiable, unsatisfiable, unknown}
 use Rattle.solver_text.specs.Form.{literals_on, literals_of}
-use Rattle.solver_text.specs.Walk.{nothing, stated?, right?, after, said_after, wrong_lines}
+use Rattle.solver_text.specs.Walk.{stated?, right?, after, said_after, wrong_lines}
 use Rattle.solver_text.proofs.Walk.{split}
 use Rattle.solver_tokens.specs.Token.{byte, line}
 use Rattle.solver_tokens.proofs.Laws.{line_end, line_more, some_cond, none_cond}

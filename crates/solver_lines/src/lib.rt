@@ -77,10 +77,16 @@ fn read_values(text: &[u8], from: usize, n: usize, marks: &mut [Mark]) -> Option
         mark_literal(marks, t.negative, t.size);
         let next = solver_tokens::byte_at(text, t.end);
         if t.size == 0 {
-            return (next == b'\n').then_some(Values { closed: true, end: t.end });
+            return (next == b'\n').then_some(Values {
+                closed: true,
+                end: t.end,
+            });
         }
         if next == b'\n' {
-            return Some(Values { closed: false, end: t.end });
+            return Some(Values {
+                closed: false,
+                end: t.end,
+            });
         }
         at = t.end + 1;
     }
@@ -132,7 +138,10 @@ fn read_v_line(text: &[u8], from: usize, n: usize, said: Said, marks: &mut [Mark
         return None;
     }
     let v = read_values(text, from + 2, n, marks)?;
-    let said = Said { verdict: said.verdict, closed: v.closed };
+    let said = Said {
+        verdict: said.verdict,
+        closed: v.closed,
+    };
     Some(Line { end: v.end, said })
 }
 
@@ -146,8 +155,14 @@ fn read_s_line(text: &[u8], from: usize, said: Said) -> Option<Line>
     }
     let end = line_end(text, from);
     let status = status_of(&text[from..end])?;
-    let verdict = Verdict { satisfiable: status == Status::Satisfiable, place: from };
-    let said = Said { verdict: Some(verdict), closed: said.closed };
+    let verdict = Verdict {
+        satisfiable: status == Status::Satisfiable,
+        place: from,
+    };
+    let said = Said {
+        verdict: Some(verdict),
+        closed: said.closed,
+    };
     Some(Line { end, said })
 }
 
@@ -160,7 +175,10 @@ fn read_line(text: &[u8], from: usize, n: usize, said: Said, marks: &mut [Mark])
     match solver_tokens::byte_at(text, from) {
         b'v' => read_v_line(text, from, n, said, marks),
         b's' => read_s_line(text, from, said),
-        b'c' => Some(Line { end: line_end(text, from), said }),
+        b'c' => Some(Line {
+            end: line_end(text, from),
+            said,
+        }),
         b'\n' => Some(Line { end: from, said }),
         _ => None,
     }
@@ -172,7 +190,10 @@ pub fn read_lines(text: &[u8], n: usize, marks: &mut [Mark]) -> Result<Said, usi
     ensures value { IsLines n (lines text.now) 0 nothing result }
     ensures marks_after { IsOk result → marks.new ≡ marked marks.old (literals_of (lines text.now)) }
 {
-    let mut said = Said { verdict: None, closed: false };
+    let mut said = Said {
+        verdict: None,
+        closed: false,
+    };
     let mut at: usize = 0;
     while at <= text.len() {
         let Some(l) = read_line(text, at, n, said, marks) else {

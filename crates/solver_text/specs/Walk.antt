@@ -1,9 +1,8 @@
 -- The form met line after line, from the offset `at` on, after lines that said `said`: as a loop meets it. `proofs/Walk` shows that it
 -- is the form of `Form`.
-use Rattle.std.specs.Prelude.{List, [], ◌∷◌, ◌++◌, Bool, true, false, not, ◌&&◌, ◌||◌, ℕ, ◌+◌, length, Option, None, Some, is_some, option_map, unwrap_or}
+use Rattle.std.specs.Prelude.{List, [], ◌∷◌, ◌++◌, Bool, true, false, not, ◌&&◌, ◌||◌, ℕ, ◌+◌, length, None, Some, is_some, option_map, unwrap_or}
 use Rattle.lists.specs.Loop.{unless, any}
 use Rattle.answers.specs.Answers.{Question, refuse}
-use Rattle.solver_text.specs.declared.Verdict.{Verdict}
 use Rattle.solver_text.specs.declared.Said.{Said}
 use Rattle.solver_text.specs.Text.{Kind, skipped, status, values, neither, kind, tokens?, zero?}
 

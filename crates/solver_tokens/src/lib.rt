@@ -101,12 +101,24 @@ pub fn read_token(text: &[u8], from: usize, n: usize) -> Option<Token>
     if first == b'0' {
         let end = from + 1;
         let next = byte_at(text, end);
-        return is_end(next).then_some(Token { negative: false, size: 0, end });
+        return is_end(next).then_some(Token {
+            negative: false,
+            size: 0,
+            end,
+        });
     }
     if first == b'-' {
         let x = read_size(text, from + 1, n)?;
-        return Some(Token { negative: true, size: x.size, end: x.end });
+        return Some(Token {
+            negative: true,
+            size: x.size,
+            end: x.end,
+        });
     }
     let x = read_size(text, from, n)?;
-    Some(Token { negative: false, size: x.size, end: x.end })
+    Some(Token {
+        negative: false,
+        size: x.size,
+        end: x.end,
+    })
 }

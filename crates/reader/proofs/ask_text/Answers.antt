@@ -1,8 +1,7 @@
 -- `reader::ask_text` meets its contract. Assumes nothing.
-use Rattle.std.proofs.Common.{sym, ◌∙◌, ap, arith, refl, length, replicate, List, ◌≡◌}
+use Rattle.std.proofs.Common.{◌∙◌, ap, refl, length, List}
 use Rattle.answers.proofs.Returned.{passed_on}
 use Rattle.solver_lines.specs.declared.Mark.{Mark}
-use Rattle.solver_lines.specs.declared.Mark.TheVariants.{Absent}
 use Rattle.solver_lines.specs.Lines.{marked}
 use Rattle.solver_text.specs.Form.{given}
 use Rattle.reader.proofs.Questions.{text_form, text_stop, text_pass, text_says}

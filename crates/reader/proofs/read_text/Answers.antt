@@ -1,5 +1,5 @@
 -- `reader::read_text` meets its contract. Assumes nothing.
-use Rattle.std.proofs.Common.{ℕ, refl, sym, ◌∙◌, ap, List}
+use Rattle.std.proofs.Common.{refl, sym, ◌∙◌, ap, List}
 use lib.IntN.{ℤ}
 use Rattle.lists.specs.Slice.{filled}
 use Rattle.answers.specs.Answers.{lent}

@@ -1,9 +1,6 @@
 -- `solver_lines::read_lines` meets its contract. Assumes nothing.
-use Rattle.std.proofs.Common.{sym, ◌∙◌, ap, arith, refl, List, ◌∷◌}
+use Rattle.std.proofs.Common.{sym, ◌∙◌, ap, arith, refl, ◌∷◌}
 use Rattle.answers.specs.Answers.{Question, decide}
-use Rattle.solver_text.specs.Form.{literals_of}
-use Rattle.solver_text.specs.Walk.{nothing, said_after, wrong_lines}
-use Rattle.solver_lines.specs.Lines.{marked}
 use Rattle.solver_lines.proofs.TextLines.{all_lines, line_room, end_is, first_wrong, next_wrong, next_said, next_marked, none_wrong, none_said, none_marked}
 use Rattle.solver_lines.proofs.read_lines.Goals as goal
 

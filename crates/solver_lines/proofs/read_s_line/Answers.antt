@@ -1,5 +1,5 @@
 -- `solver_lines::read_s_line` meets its contract. Assumes nothing.
-use Rattle.std.proofs.Common.{◌≡◌, true, false, sym, ◌∙◌, refl, ap, arith, ◌≤◌, length}
+use Rattle.std.proofs.Common.{◌≡◌, sym, ◌∙◌, refl, ap, arith, ◌≤◌, length}
 use denote.Enum.Bare.{sameb}
 use Rattle.solver_tokens.proofs.Laws.{byte_in}
 use Rattle.solver_lines.specs.declared.Status.{Status}

@@ -1,6 +1,5 @@
 -- `solver_lines::read_v_line` meets its contract. Assumes nothing.
-use Rattle.std.proofs.Common.{sym, ◌∙◌, ap, List}
-use lib.IntN.{ℤ}
+use Rattle.std.proofs.Common.{sym, ◌∙◌, ap}
 use Rattle.solver_lines.specs.Lines.{marked}
 use Rattle.solver_lines.proofs.TextLines.{line_v_other, line_v_ended, line_v_wrong, line_v, marks_v}
 use Rattle.solver_lines.proofs.read_v_line.Goals as goal

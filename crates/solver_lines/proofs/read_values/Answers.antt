@@ -33,9 +33,11 @@ returns-then-next-eq10-clause-marks_after c = λ s.
 
 pub loop-t-smaller : goal.loop-t-smaller
 loop-t-smaller c =
-    omega
-    (arith, values_next c.args.text.now c.args.n c.loop-t.at c.in_ok-t.t c.in_ok-t.ensures c.byte_at-next.result c.byte_at-next.ensures c.if-t-eq0.false c.if-next-eq10.false,
-    token_later c.args.text.now c.args.n c.loop-t.at c.in_ok-t.t c.in_ok-t.ensures)
+    omega (
+      arith,
+      values_next c.args.text.now c.args.n c.loop-t.at c.in_ok-t.t c.in_ok-t.ensures c.byte_at-next.result c.byte_at-next.ensures c.if-t-eq0.false c.if-next-eq10.false,
+      token_later c.args.text.now c.args.n c.loop-t.at c.in_ok-t.t c.in_ok-t.ensures,
+    )
 
 pub loop-t-preserved : goal.loop-t-preserved
 loop-t-preserved c =

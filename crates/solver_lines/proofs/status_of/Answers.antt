@@ -17,22 +17,25 @@ returns-then-eq c = rw (is c.args.line.now satisfiable _ _ true c.eq.ensures c.a
 pub returns-then-eq-2 : goal.returns-then-eq-2
 unfolding status_of
 returns-then-eq-2 c =
-    rw
-    (is c.args.line.now satisfiable _ _ false c.eq.ensures c.as_slice.ensures c.if-eq.false,
-    is c.args.line.now unsatisfiable _ _ true c.eq-2.ensures c.as_slice-2.ensures c.if-eq-2.true)
+    rw (
+      is c.args.line.now satisfiable _ _ false c.eq.ensures c.as_slice.ensures c.if-eq.false,
+      is c.args.line.now unsatisfiable _ _ true c.eq-2.ensures c.as_slice-2.ensures c.if-eq-2.true,
+    )
 
 pub returns-then-eq-3 : goal.returns-then-eq-3
 unfolding status_of
 returns-then-eq-3 c =
-    rw
-    (is c.args.line.now satisfiable _ _ false c.eq.ensures c.as_slice.ensures c.if-eq.false,
-    is c.args.line.now unsatisfiable _ _ false c.eq-2.ensures c.as_slice-2.ensures c.if-eq-2.false,
-    is c.args.line.now unknown _ _ true c.eq-3.ensures c.as_slice-3.ensures c.if-eq-3.true)
+    rw (
+      is c.args.line.now satisfiable _ _ false c.eq.ensures c.as_slice.ensures c.if-eq.false,
+      is c.args.line.now unsatisfiable _ _ false c.eq-2.ensures c.as_slice-2.ensures c.if-eq-2.false,
+      is c.args.line.now unknown _ _ true c.eq-3.ensures c.as_slice-3.ensures c.if-eq-3.true,
+    )
 
 pub returns : goal.returns
 unfolding status_of
 returns c =
-    rw
-    (is c.args.line.now satisfiable _ _ false c.eq.ensures c.as_slice.ensures c.if-eq.false,
-    is c.args.line.now unsatisfiable _ _ false c.eq-2.ensures c.as_slice-2.ensures c.if-eq-2.false,
-    is c.args.line.now unknown _ _ false c.eq-3.ensures c.as_slice-3.ensures c.if-eq-3.false)
+    rw (
+      is c.args.line.now satisfiable _ _ false c.eq.ensures c.as_slice.ensures c.if-eq.false,
+      is c.args.line.now unsatisfiable _ _ false c.eq-2.ensures c.as_slice-2.ensures c.if-eq-2.false,
+      is c.args.line.now unknown _ _ false c.eq-3.ensures c.as_slice-3.ensures c.if-eq-3.false,
+    )

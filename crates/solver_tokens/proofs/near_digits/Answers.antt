@@ -1,7 +1,7 @@
 -- `solver_tokens::near_digits` meets its contract. Assumes nothing.
-use Rattle.std.proofs.Common.{◌≡◌, ◌<◌, length, get_or, true, sym, ◌∙◌, arith}
+use Rattle.std.proofs.Common.{get_or, sym, ◌∙◌, arith}
 use Rattle.std.proofs.lemmas.List.{get_or_default}
-use Rattle.solver_tokens.specs.Token.{byte, token}
+use Rattle.solver_tokens.specs.Token.{token}
 use Rattle.solver_tokens.proofs.Laws.{number_done, number_begun, number_over}
 use Rattle.solver_tokens.proofs.near_digits.Goals as goal
 

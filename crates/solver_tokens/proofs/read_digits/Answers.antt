@@ -1,6 +1,5 @@
 -- `solver_tokens::read_digits` meets its contract. Assumes nothing.
-use Rattle.std.proofs.Common.{◌≡◌, true, sym, ◌∙◌, ap₂, arith}
-use Rattle.std.specs.Bool.{then_some}
+use Rattle.std.proofs.Common.{◌≡◌, true, sym, ◌∙◌, arith}
 use Rattle.decimals.specs.Decimals.{digit?}
 use Rattle.solver_tokens.specs.Token.{token}
 use Rattle.solver_tokens.proofs.Laws.{number_done, number_begun, number_over, digit_in}

@@ -1,5 +1,5 @@
 -- `solver_tokens::read_token` meets its contract. Assumes nothing.
-use Rattle.std.proofs.Common.{None, Some, sym, ◌∙◌}
+use Rattle.std.proofs.Common.{None, Some, ◌∙◌}
 use Rattle.solver_tokens.proofs.Laws.{token_zero, token_negative, token_positive}
 use Rattle.solver_tokens.proofs.read_token.Goals as goal
 
