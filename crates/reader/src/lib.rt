@@ -58,7 +58,7 @@ fn is_once(mark: Mark) -> bool
     (mark == Mark::Positive) | (mark == Mark::Negative)
 }
 
-// Do all marks say once? A loop with one way out, which the compiler takes many marks at a time.
+// Do all marks say once? Beside `position` for speed: a loop with one way out, which the compiler takes many marks at a time.
 fn all_once(marks: &[Mark]) -> bool
     ensures { result ≡ list_all once? marks.now }
 {
@@ -106,7 +106,7 @@ fn entry_of(mark: Mark, i: usize) -> i32
     }
 }
 
-// The entries that the marks say, first in the slice.
+// The entries that the marks say, first in the slice. By index: an entry is of its mark and of its place, in two slices.
 fn write_entries(z: &mut [i32], marks: &[Mark], n: usize)
     requires { (n ≤ 65536) × (n ≤ length marks.now) × (n ≤ length z.old) }
     ensures { z.new ≡ filled (entries_of n marks.now) z.old }

@@ -7,9 +7,6 @@ use Rattle.answers.proofs.Returned.{passed_on, refused_lent}
 use Rattle.solver_text.specs.Form.{given, in_order}
 use Rattle.reader.proofs.read_text.Goals as goal
 
-pub returns-in_err-ask_text-clause-value : goal.returns-in_err-ask_text-clause-value
-returns-in_err-ask_text-clause-value c = passed_on (λ k. k) c.in_err-ask_text.field-0.0 c.from_residual.result c.from_residual.ensures.1 c.in_err-ask_text.ensures.value
-
 pub returns-in_err-ask_text-clause-z_after : goal.returns-in_err-ask_text-clause-z_after
 returns-in_err-ask_text-clause-z_after c =
     refused_lent c.in_err-ask_text.field-0.0 (in_order c.args.n (given c.args.text.now)) c.args.z.now

@@ -16,14 +16,8 @@ use Rattle.reader.proofs.write_entries.Goals as goal
 pub loop-i-init : goal.loop-i-init
 loop-i-init c = filling_from 0 (omega arith) refl (omega (arith, for1_length c.args.n (λ j. entry_of (get_or c.args.marks.now j Absent) j), c.requires))
 
-pub bounds-z-i : goal.bounds-z-i
-bounds-z-i c = omega (arith, c.loop-i.invariant.same, c.loop-i-test.true, c.requires)
-
 pub loop-i-preserved : goal.loop-i-preserved
 loop-i-preserved c = filling_set c.loop-i.invariant c.loop-i-test.true _ (ap (λ (x : ℤ). x ∷ []) (sym (to_z-of_z {w = w32} (sfits_of c.entry_of.type_inv) ∙ c.entry_of.ensures)))
-
-pub shape_of-z : goal.shape_of-z
-shape_of-z c = c.loop-i.invariant.same
 
 pub returns : goal.returns
 returns c = (filling_done c.loop-i.invariant (omega arith)).1
