@@ -36,7 +36,7 @@ fn is_end(d: u8) -> bool
     (d == b' ') | (d == b'\n')
 }
 
-// Digits that say at most n.
+// Digits that say at most n. By index, not over a slice: behind the text stands a newline, which no slice holds.
 fn read_digits(text: &[u8], from: usize, n: usize) -> Option<Number>
     requires { (from ≤ length text.now) × (n ≤ 65536) }
     ensures { result ≡ number_of n 0 (token text.now from) from }
