@@ -14,7 +14,7 @@ ghost use Rattle.solver_lines.specs.Lines.{marked};
 ghost use Rattle.calls.specs.Calls.{text_questions, read_rest, read_answer, read_slice};
 ghost use Rattle.reader.specs.Marks.{once?, entry_of, entries_of, Says, form_questions};
 
-use answers::{Answer, Reason, Refusal};
+use answers::{Reason, Refusal};
 use solver_lines::Mark;
 use solver_text::Said;
 use variables::Variable;
@@ -129,31 +129,28 @@ fn read_text(text: &[u8], n: usize, z: &mut [i32]) -> Result<usize, Refusal>
 }
 
 // Questions 16 and 27 to 29, of a formula of n variables, and the entries written where all are answered yes.
-pub fn read_entries(n: usize, text: &[u8], z: &mut [i32]) -> Answer
+pub fn read_entries(n: usize, text: &[u8], z: &mut [i32]) -> Result<usize, Refusal>
     requires { n ≤ 38912 }
-    ensures value { result ≡ decide (read_rest n text.now (length z.old)) n }
-    ensures z_after { z.new ≡ lent result (in_order n (given text.now)) z.old }
+    ensures value { answer_of result ≡ decide (read_rest n text.now (length z.old)) n }
+    ensures z_after { z.new ≡ lent (answer_of result) (in_order n (given text.now)) z.old }
 {
     if z.len() < n {
-        return Answer {
-            number: 16,
-            second: n,
-        };
+        return Err(Reason::ValuationRoom.at(n));
     }
-    Answer::from(read_text(text, n, z))
+    read_text(text, n, z)
 }
 
 // The call, for every byte string, every two numbers, all bytes given as a text and every slice.
-pub fn read_valuation(b: &[u8], m: usize, rule: usize, text: &[u8], z: &mut [i32]) -> Answer
-    ensures value { result ≡ read_answer b.now m rule text.now (length z.old) }
+pub fn read_valuation(
+    b: &[u8],
+    m: usize,
+    rule: usize,
+    text: &[u8],
+    z: &mut [i32],
+) -> Result<usize, Refusal>
+    ensures value { answer_of result ≡ read_answer b.now m rule text.now (length z.old) }
     ensures z_after { z.new ≡ read_slice b.now m rule text.now z.old }
 {
-    let inspection = instance_check::check_instance(b, m, rule);
-    let refusal = inspection.answer;
-    if refusal.number != 0 {
-        return refusal;
-    }
-    let c = inspection.checked;
-    let n = counts::variable_count(c.sizes);
-    read_entries(n, text, z)
+    let problem = instance_check::check_instance(b, m, rule)?;
+    read_entries(counts::variable_count(problem.shape), text, z)
 }
