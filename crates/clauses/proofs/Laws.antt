@@ -1,17 +1,18 @@
 -- The lengths of the longer clauses, and the loops that write them.
-use mathlib.Core.Path.{◌≡◌, refl, sym, ◌∙◌, ap}
+use mathlib.Core.Path.{◌≡◌, refl, sym, ◌∙◌, ap, ap₂}
 use mathlib.Core.Bool.{Bool, true, false, cond}
 use mathlib.Core.List.{List, [], ◌∷◌, ◌++◌, append-nil}
-use Prim.Native.Nat.{ℕ, ◌+◌, ◌≤◌, ◌<◌}
+use Prim.Native.Nat.{ℕ, ◌+◌, ◌-◌, ◌≤◌, ◌<◌}
 use native.Mathlib.Nat.{add-zero}
 use native.Mathlib.Numerals.{add-one}
 use native.Mathlib.Omega.{arith}
-use lib.ListN.{length, set, length-append, length-set}
+use borrow.Rule.Slice.PartMut.{put_mid}
+use lib.ListN.{length, take, drop, set, length-append, length-set}
 use lib.Seq.{set-set}
 use lib.IntN.{ℤ, pos}
 use Rattle.lists.specs.Loop.{for, when}
-use Rattle.lists.specs.Slice.{filled}
-use Rattle.lists.proofs.Slices.{sets_filled, filled_set, for_room, for_next}
+use Rattle.lists.specs.Slice.{filled, Wrote}
+use Rattle.lists.proofs.Slices.{sets_filled, filled_set, filled_part, for_room, for_next}
 use Rattle.lists.proofs.Blocks.{for1_length}
 use Rattle.instance.specs.declared.Sizes.{Sizes}
 use Rattle.formula.specs.Variables.{X}
@@ -91,3 +92,8 @@ module _ {g : ℕ → List ℤ} {n : ℕ} {s : List ℤ} where
           omega (arith, w.here, ap (λ (j : ℕ). length (for j g)) e, line_length (for n g)),
           w.slice ∙ ap (λ (j : ℕ). filled (line (for j g)) s) e,
         )
+
+-- what was written behind what was written first, by a call on `&mut f[at..]` that left ys there and answered r
+pub wrote_behind : (out more s f ys : List ℤ) {at r : ℕ} → Wrote out s f at → at ≤ length s → Wrote more (take (length f - at) (drop at f)) ys r
+    → Wrote (out ++ more) s (put_mid at (length f - at) f ys) (at + r)
+wrote_behind out more s f ys {at} w l o = (ap₂ (λ (i j : ℕ). i + j) w.0 o.0 ∙ sym (length-append out more), filled_part f s out more ys at w.1 (sym w.0) l o.1)

@@ -1,14 +1,28 @@
 // The words of single clauses, each written to the start of the slice that is lent. The answer is the number of words.
 #![tactic(auto)]
 
-ghost use Rattle.std.specs.Prelude.{◌≡◌, [], ◌∷◌, ◌^◌, ◌≤◌, ◌<◌, length};
+ghost use Rattle.std.specs.Prelude.{◌≡◌, List, [], ◌∷◌, ℕ, ◌^◌, ◌≤◌, ◌<◌, length};
+ghost use Rattle.lists.specs.Loop.{for, each};
 ghost use Rattle.lists.specs.Slice.{filled, Wrote};
 ghost use Rattle.bits.specs.Bits.{set?};
 ghost use Rattle.formula.specs.Variables.{X, ¬X};
-ghost use Rattle.formula.specs.Formula.{line, somewhere, nearby, onward};
+ghost use Rattle.formula.specs.Formula.{Clause, line, somewhere, nearby, onward};
+ghost use Rattle.clauses.specs.Blocks.{Takes, Writes};
 
 use instance::Shape;
 use variables::{Agent, Step, Vertex};
+
+// The words of blocks 0, 1, .. below count, one after another: `write` writes those of a block to the start of what it is lent.
+pub fn write_each<W: Fn(&mut [i32], usize) -> usize>(f: &mut [i32], count: usize, write: W) -> usize
+    requires { (blocks : ℕ → List Clause) × (length (each line (for count blocks)) ≤ length f.old) × Takes count blocks (W.pre write) × Writes count blocks (W.post write) }
+    ensures { (blocks : ℕ → List Clause) → Writes count blocks (W.post write) → length (each line (for count blocks)) ≤ length f.old → Wrote (each line (for count blocks)) f.old f.new result }
+{
+    let mut at: usize = 0;
+    for i in 0..count {
+        at += write(&mut f[at..], i);
+    }
+    at
+}
 
 // The literal X(t,a,v).
 pub fn positive(s: Shape, t: Step, a: Agent, v: Vertex) -> i32

@@ -8,7 +8,7 @@ ghost use Rattle.plan.specs.Plan.{row, plan_bytes, plan_row, condition, conditio
 ghost use Rattle.conditions.specs.Inside.{Inside, Standing};
 ghost use Rattle.conditions.specs.Conditions.{place_of};
 
-use instance::{Problem, Sizes};
+use instance::Sizes;
 
 // The conditions, in their order: of crossing an edge, of entering a vertex, of sharing one.
 #[derive(Clone, Copy, PartialEq, Eq)]
@@ -90,7 +90,8 @@ fn condition_3(taken: u64, next: &[u8], a: usize) -> bool
 
 // A condition of agent a, before whom the lower agents have taken their vertices in the next row.
 fn passes(
-    problem: &Problem,
+    s: Sizes,
+    near: &[u64; 64],
     which: Condition,
     stood: u64,
     taken: u64,
@@ -98,28 +99,28 @@ fn passes(
     next: &[u8],
     a: usize,
 ) -> bool
-    requires rows { (length here.now ≡ problem.now.shape.sizes.k) × (length next.now ≡ problem.now.shape.sizes.k) × (a < problem.now.shape.sizes.k) }
+    requires rows { (length here.now ≡ s.k) × (length next.now ≡ s.k) × (a < s.k) }
     requires inside { Inside here.now × Inside next.now }
-    requires standing { Standing (row here.now) problem.now.shape.sizes.k stood × Standing (row next.now) a taken }
-    ensures { result ≡ condition problem.now.shape.sizes (joined problem.now.near) (place_of which) (row here.now) (row next.now) a }
+    requires standing { Standing (row here.now) s.k stood × Standing (row next.now) a taken }
+    ensures { result ≡ condition s (joined near.now) (place_of which) (row here.now) (row next.now) a }
 {
     match which {
-        Condition::Crossing => condition_1(&problem.near, here, next, a),
-        Condition::Entering => condition_2(problem.shape.sizes, stood, here, next, a),
+        Condition::Crossing => condition_1(near, here, next, a),
+        Condition::Entering => condition_2(s, stood, here, next, a),
         Condition::Sharing => condition_3(taken, next, a),
     }
 }
 
 // The first agent that fails it.
-fn fault(problem: &Problem, which: Condition, here: &[u8], next: &[u8]) -> Option<usize>
-    requires rows { (length here.now ≡ problem.now.shape.sizes.k) × (length next.now ≡ problem.now.shape.sizes.k) }
+fn fault(s: Sizes, near: &[u64; 64], which: Condition, here: &[u8], next: &[u8]) -> Option<usize>
+    requires rows { (length here.now ≡ s.k) × (length next.now ≡ s.k) }
     requires inside { Inside here.now × Inside next.now }
-    ensures { FirstFailing problem.now.shape.sizes.k (condition problem.now.shape.sizes (joined problem.now.near) (place_of which) (row here.now) (row next.now)) result }
+    ensures { FirstFailing s.k (condition s (joined near.now) (place_of which) (row here.now) (row next.now)) result }
 {
     let stood = occupied(here);
     let mut taken = 0u64;
-    for a in 0..problem.shape.sizes.k {
-        if !passes(problem, which, stood, taken, here, next, a) {
+    for a in 0..s.k {
+        if !passes(s, near, which, stood, taken, here, next, a) {
             return Some(a);
         }
         taken = bits::with_bit(taken, usize::from(next[a]));
@@ -128,14 +129,14 @@ fn fault(problem: &Problem, which: Condition, here: &[u8], next: &[u8]) -> Optio
 }
 
 // The first agent that fails it between rows t and t + 1 of a plan.
-pub fn step_fault(problem: &Problem, which: Condition, p: &[u8], t: usize) -> Option<usize>
-    requires p_len { (length p.now ≡ plan_bytes problem.now.shape.sizes) × (t < problem.now.shape.sizes.m) }
+pub fn step_fault(s: Sizes, near: &[u64; 64], which: Condition, p: &[u8], t: usize) -> Option<usize>
+    requires p_len { (length p.now ≡ plan_bytes s) × (t < s.m) }
     requires inside { Inside p.now }
-    ensures { FirstFailing problem.now.shape.sizes.k (condition problem.now.shape.sizes (joined problem.now.near) (place_of which) (plan_row problem.now.shape.sizes p.now t) (plan_row problem.now.shape.sizes p.now (suc t))) result }
+    ensures { FirstFailing s.k (condition s (joined near.now) (place_of which) (plan_row s p.now t) (plan_row s p.now (suc t))) result }
 {
-    let k = problem.shape.sizes.k;
+    let k = s.k;
     let row = t * k;
     let next = row + k;
     let end = next + k;
-    fault(problem, which, &p[row..next], &p[next..end])
+    fault(s, near, which, &p[row..next], &p[next..end])
 }

@@ -70,14 +70,9 @@ fn write_above(f: &mut [i32], run: Run, i: usize) -> usize
     requires i_in_bounds { length (each line (for run.count (above (nots run) i))) ≤ length f.old }
     ensures { Wrote (each line (for run.count (above (nots run) i))) f.old f.new result }
 {
-    let end = run.count;
     let next = i + 1;
     let x = not_in(run, i);
-    let mut at: usize = 0;
-    for j in next..end {
-        at += clauses::put_pair(&mut f[at..], x, not_in(run, j));
-    }
-    at
+    clauses::write_each(f, run.count - next, |f, j| clauses::put_pair(f, x, not_in(run, next + j)))
 }
 
 // No two of a run hold.
@@ -86,12 +81,7 @@ fn write_no_two(f: &mut [i32], run: Run) -> usize
     requires run_in_bounds { length (each line (no_two run.count (nots run))) ≤ length f.old }
     ensures { Wrote (each line (no_two run.count (nots run))) f.old f.new result }
 {
-    let end = run.count;
-    let mut at: usize = 0;
-    for i in 0..end {
-        at += write_above(&mut f[at..], run, i);
-    }
-    at
+    clauses::write_each(f, run.count, |f, i| write_above(f, run, i))
 }
 
 // D, of time t and agent a: the vertices are a run.
@@ -131,12 +121,7 @@ fn write_f(f: &mut [i32], problem: &Problem, t: Step, a: Agent) -> usize
     ensures { Wrote (each line (block_f problem.now.shape.sizes (joined problem.now.near) t.0 a.0)) f.old f.new result }
 {
     let s = problem.shape;
-    let n = s.sizes.n;
-    let mut at: usize = 0;
-    for v in 0..n {
-        at += clauses::put_onward(&mut f[at..], s, problem.near[v], t, a, Vertex(v));
-    }
-    at
+    clauses::write_each(f, s.sizes.n, |f, v| clauses::put_onward(f, s, problem.near[v], t, a, Vertex(v)))
 }
 
 // Of G under rule 1, time t and agents a and b: where they are two, a does not go where b was.
@@ -148,17 +133,11 @@ fn write_apart(f: &mut [i32], s: Shape, t: Step, a: Agent, b: Agent) -> usize
     if a.0 == b.0 {
         return 0;
     }
-    let n = s.sizes.n;
     let next = Step(t.0 + 1);
-    let mut at: usize = 0;
-    for v in 0..n {
-        at += clauses::put_pair(
-            &mut f[at..],
-            clauses::negative(s, t, b, Vertex(v)),
-            clauses::negative(s, next, a, Vertex(v)),
-        );
-    }
-    at
+    clauses::write_each(f, s.sizes.n, |f, v| {
+        let x = clauses::negative(s, t, b, Vertex(v));
+        clauses::put_pair(f, x, clauses::negative(s, next, a, Vertex(v)))
+    })
 }
 
 // G under rule 1, of time t and agent a.
@@ -167,12 +146,7 @@ fn write_following(f: &mut [i32], s: Shape, t: Step, a: Agent) -> usize
     requires a_in_bounds { length (each line (no_following s.sizes t.0 a.0)) ≤ length f.old }
     ensures { Wrote (each line (no_following s.sizes t.0 a.0)) f.old f.new result }
 {
-    let k = s.sizes.k;
-    let mut at: usize = 0;
-    for b in 0..k {
-        at += write_apart(&mut f[at..], s, t, a, Agent(b));
-    }
-    at
+    clauses::write_each(f, s.sizes.k, |f, b| write_apart(f, s, t, a, Agent(b)))
 }
 
 // Of G under rule 2, time t and agent b: the clause that begins with x and y, which say that another agent does not go from u to v.
@@ -206,20 +180,14 @@ fn write_exchanges(f: &mut [i32], s: Shape, t: Step, u: Vertex, v: Vertex, a: Ag
     requires a_in_bounds { length (each line (for s.sizes.k (exchanging s.sizes t.0 u.0 v.0 a.0))) ≤ length f.old }
     ensures { Wrote (each line (for s.sizes.k (exchanging s.sizes t.0 u.0 v.0 a.0))) f.old f.new result }
 {
-    let k = s.sizes.k;
     let next = Step(t.0 + 1);
     let x = clauses::negative(s, t, a, u);
     let y = clauses::negative(s, next, a, v);
     let below = a.0;
-    let mut at: usize = 0;
-    for b in 0..below {
-        at += put_partner(&mut f[at..], s, t, u, v, x, y, b);
-    }
     let above = below + 1;
-    for b in above..k {
-        at += put_partner(&mut f[at..], s, t, u, v, x, y, b);
-    }
-    at
+    let at = clauses::write_each(f, below, |f, b| put_partner(f, s, t, u, v, x, y, b));
+    let more = s.sizes.k - above;
+    at + clauses::write_each(&mut f[at..], more, |f, b| put_partner(f, s, t, u, v, x, y, above + b))
 }
 
 // The same, of each agent.
@@ -228,12 +196,7 @@ fn write_no_exchange(f: &mut [i32], s: Shape, t: Step, u: Vertex, v: Vertex) -> 
     requires v_in_bounds { length (each line (no_exchange s.sizes t.0 u.0 v.0)) ≤ length f.old }
     ensures { Wrote (each line (no_exchange s.sizes t.0 u.0 v.0)) f.old f.new result }
 {
-    let k = s.sizes.k;
-    let mut at: usize = 0;
-    for a in 0..k {
-        at += write_exchanges(&mut f[at..], s, t, u, v, Agent(a));
-    }
-    at
+    clauses::write_each(f, s.sizes.k, |f, a| write_exchanges(f, s, t, u, v, Agent(a)))
 }
 
 // G under rule 2, of time t and the edges with the low end u: each high end is a neighbour above it, and the neighbours of u are the
@@ -296,12 +259,8 @@ fn write_step(f: &mut [i32], problem: &Problem, which: Family, t: usize) -> usiz
     requires t_in_bounds { length (each line (for (blocks_at problem.now.shape.sizes (place_of which)) (block (held (checked_of problem.now)) (place_of which) t))) ≤ length f.old }
     ensures { Wrote (each line (for (blocks_at problem.now.shape.sizes (place_of which)) (block (held (checked_of problem.now)) (place_of which) t))) f.old f.new result }
 {
-    let end = counts::blocks_at(problem.shape, which);
-    let mut at: usize = 0;
-    for x in 0..end {
-        at += write_block(&mut f[at..], problem, which, t, x);
-    }
-    at
+    let count = counts::blocks_at(problem.shape, which);
+    clauses::write_each(f, count, |f, x| write_block(f, problem, which, t, x))
 }
 
 // A family.
@@ -309,10 +268,6 @@ pub fn write_family(f: &mut [i32], problem: &Problem, which: Family) -> usize
     requires { length (each line (family (held (checked_of problem.now)) (place_of which))) ≤ length f.old }
     ensures { Wrote (each line (family (held (checked_of problem.now)) (place_of which))) f.old f.new result }
 {
-    let end = counts::times_of(problem.shape, which);
-    let mut at: usize = 0;
-    for t in 0..end {
-        at += write_step(&mut f[at..], problem, which, t);
-    }
-    at
+    let count = counts::times_of(problem.shape, which);
+    clauses::write_each(f, count, |f, t| write_step(f, problem, which, t))
 }

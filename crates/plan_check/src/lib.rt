@@ -1,7 +1,7 @@
 // The plan check: questions 1 to 10, 31, 13 and 17 to 22, of any bytes and any numbers given as horizon and rule.
 #![tactic(auto)]
 
-ghost use Rattle.std.specs.Prelude.{◌≡◌, suc, ◌+◌, ◌<◌, ◌≤◌, length, get_or, T, ltb, eqb, ◌||◌, ◌≢◌};
+ghost use Rattle.std.specs.Prelude.{◌≡◌, suc, ◌+◌, ◌-◌, ◌<◌, ◌≤◌, length, get_or, T, ltb, eqb, ◌||◌, ◌≢◌};
 ghost use Rattle.lists.specs.Loop.{for};
 ghost use Rattle.answers.specs.Answers.{decide};
 ghost use Rattle.answers.specs.Returned.{number_of, asked, answer_of};
@@ -10,13 +10,12 @@ ghost use Rattle.plan.specs.Plan.{row, plan_bytes, plan_row, condition2, occupan
 ghost use Rattle.calls.specs.Questions.{occupied_number, second_number};
 ghost use Rattle.calls.specs.Calls.{step_questions, plan_questions, check_answer};
 ghost use Rattle.instance.specs.Instance.{Instance, free};
-ghost use Rattle.instance.specs.Problem.{ShowsAll};
-ghost use Rattle.instance.specs.Shows.{ShowsGraph};
+ghost use Rattle.instance.specs.Shows.{Shows, ShowsGraph};
 ghost use Rattle.conditions.specs.Inside.{Inside};
 
 use answers::{Reason, Refusal};
 use conditions::Condition;
-use instance::{Problem, Shape, Sizes};
+use instance::{Shape, Sizes};
 
 // Under rule 1 the reason for which agent a is refused, which enters an occupied vertex in step t: by what the occupant does.
 fn occupied_reason(s: Sizes, p: &[u8], t: usize, a: usize) -> Reason
@@ -54,31 +53,30 @@ fn second_reason(s: Sizes, p: &[u8], t: usize, a: usize) -> Reason
 }
 
 // Questions 19 to 21 of step t.
-fn ask_step(problem: &Problem, p: &[u8], t: usize) -> Result<(), Refusal>
-    requires { (length p.now ≡ plan_bytes problem.now.shape.sizes) × (t < problem.now.shape.sizes.m) × Inside p.now }
-    ensures { (I : Instance) → ShowsGraph I problem.now.shape.sizes problem.now.near → asked result ≡ decide (step_questions I p.now t) 0 }
+fn ask_step(s: Sizes, near: &[u64; 64], p: &[u8], t: usize) -> Result<(), Refusal>
+    requires { (length p.now ≡ plan_bytes s) × (t < s.m) × Inside p.now }
+    ensures { (I : Instance) → ShowsGraph I s near.now → asked result ≡ decide (step_questions I p.now t) 0 }
 {
-    let s = problem.shape.sizes;
     let next = (t + 1) * s.k;
-    if let Some(a) = conditions::step_fault(problem, Condition::Crossing, p, t) {
+    if let Some(a) = conditions::step_fault(s, near, Condition::Crossing, p, t) {
         return Err(Reason::Jump.at(next + a));
     }
-    if let Some(a) = conditions::step_fault(problem, Condition::Entering, p, t) {
+    if let Some(a) = conditions::step_fault(s, near, Condition::Entering, p, t) {
         return Err(second_reason(s, p, t, a).at(next + a));
     }
-    if let Some(a) = conditions::step_fault(problem, Condition::Sharing, p, t) {
+    if let Some(a) = conditions::step_fault(s, near, Condition::Sharing, p, t) {
         return Err(Reason::Shared.at(next + a));
     }
     Ok(())
 }
 
 // Questions 19 to 21 of each step, step by step.
-fn ask_steps(problem: &Problem, p: &[u8]) -> Result<(), Refusal>
-    requires { (length p.now ≡ plan_bytes problem.now.shape.sizes) × Inside p.now }
-    ensures { (I : Instance) → ShowsGraph I problem.now.shape.sizes problem.now.near → asked result ≡ decide (for problem.now.shape.sizes.m (step_questions I p.now)) 0 }
+fn ask_steps(s: Sizes, near: &[u64; 64], p: &[u8]) -> Result<(), Refusal>
+    requires { (length p.now ≡ plan_bytes s) × Inside p.now }
+    ensures { (I : Instance) → ShowsGraph I s near.now → asked result ≡ decide (for s.m (step_questions I p.now)) 0 }
 {
-    for t in 0..problem.shape.sizes.m {
-        ask_step(problem, p, t)?;
+    for t in 0..s.m {
+        ask_step(s, near, p, t)?;
     }
     Ok(())
 }
@@ -108,32 +106,40 @@ fn goal_fault(here: &[u8], goals: &[u8; 16]) -> Option<usize>
         .position(|(v, goal)| !(goals::is_free(*goal) | (*v == *goal)))
 }
 
-// Questions 17 to 22 of a plan of the right length; its count is 0.
-pub fn ask_plan(problem: &Problem, p: &[u8]) -> Result<(), Refusal>
-    requires { length p.now ≡ plan_bytes problem.now.shape.sizes }
-    ensures { (I : Instance) → ShowsAll I problem.now → asked result ≡ decide (plan_questions I p.now) 0 }
+// Questions 17 to 22 of a plan of the right length; its count is 0. It is lent the parts of a problem one by one, since
+// `encoder::ask_encoding`, which docs/DECISIONS.md names, asks no more of them than the limits.
+pub fn ask_plan(
+    s: Shape,
+    starts: &[u8; 16],
+    goals: &[u8; 16],
+    near: &[u64; 64],
+    p: &[u8],
+) -> Result<(), Refusal>
+    requires { length p.now ≡ plan_bytes s.sizes }
+    ensures { (I : Instance) → Shows I s.sizes starts.now goals.now near.now → asked result ≡ decide (plan_questions I p.now) 0 }
 {
-    let Sizes { n, k, m, .. } = problem.shape.sizes;
+    let Sizes { n, k, m, .. } = s.sizes;
     if let Some(i) = byte_fault(p, n) {
         return Err(Reason::NoVertex.at(i));
     }
-    if let Some(a) = start_fault(&p[..k], &problem.starts) {
+    if let Some(a) = start_fault(&p[..k], starts) {
         return Err(Reason::NotAtStart.at(a));
     }
-    ask_steps(problem, p)?;
+    ask_steps(s.sizes, near, p)?;
     let last = m * k;
-    if let Some(a) = goal_fault(&p[last..], &problem.goals) {
+    if let Some(a) = goal_fault(&p[last..], goals) {
         return Err(Reason::NotAtGoal.at(last + a));
     }
     Ok(())
 }
 
-// The time until rest of agent a within the first `steps` steps: where its last move there ends, or 0.
-pub fn rest_time(s: Sizes, p: &[u8], steps: usize, a: usize) -> usize
-    requires { (length p.now ≡ plan_bytes s) × (steps ≤ s.m) × (a < s.k) }
-    ensures { result ≡ rest_time steps (plan_row s p.now) a }
+// The time until rest of agent a in the first `rows` rows: where its last move there ends, or 0.
+pub fn rest_time(s: Sizes, p: &[u8], rows: usize, a: usize) -> usize
+    requires { (length p.now ≡ plan_bytes s) × (rows ≤ s.m + 1) × (a < s.k) }
+    ensures { result ≡ rest_time (rows - 1) (plan_row s p.now) a }
 {
     let mut rest = 0;
+    let steps = rows.saturating_sub(1);
     for t in 0..steps {
         let row = t * s.k;
         let next = row + s.k;
@@ -149,9 +155,10 @@ pub fn plan_cost(s: Shape, p: &[u8]) -> usize
     requires { length p.now ≡ plan_bytes s.sizes }
     ensures { result ≡ cost s.sizes p.now }
 {
+    let rows = s.sizes.m + 1;
     let mut cost = 0;
     for a in 0..s.sizes.k {
-        cost += rest_time(s.sizes, p, s.sizes.m, a);
+        cost += rest_time(s.sizes, p, rows, a);
     }
     cost
 }
@@ -164,6 +171,12 @@ pub fn check_plan(b: &[u8], m: usize, rule: usize, p: &[u8]) -> Result<usize, Re
     if p.len() != counts::plan_bytes(problem.shape) {
         return Err(Reason::PlanLength.at(p.len()));
     }
-    ask_plan(&problem, p)?;
+    ask_plan(
+        problem.shape,
+        &problem.starts,
+        &problem.goals,
+        &problem.near,
+        p,
+    )?;
     Ok(plan_cost(problem.shape, p))
 }

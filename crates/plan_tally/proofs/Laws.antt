@@ -1,7 +1,7 @@
--- Counts that are each taken as at most c, the record with one more plan that passed, and what is known by the answer to 34.
-use mathlib.Core.Path.{◌≡◌, refl, sym, subst}
+-- Counts that are each taken as at most c, the record with one more plan that passed, and question 34.
+use mathlib.Core.Path.{◌≡◌, refl}
 use mathlib.Core.Logic.{◌≢◌}
-use mathlib.Core.Bool.{Bool, true, false, not}
+use mathlib.Core.Bool.{false}
 use Prim.Native.Nat.{ℕ, zero, suc, ◌+◌, ◌*◌, ◌≤◌, ◌<◌, min, max}
 use native.Mathlib.Omega.{arith}
 use borrow.Author.Tests.{lt-ltb, le-ltb, eq-eqb, ne_eqb}
@@ -42,26 +42,10 @@ module _ (t : Tally) (r : ℕ) (e : min r 65535 ≡ min (total t) 65535) where
   unfolding takes_more
   full l = let h : 65535 ≤ total t = omega arith in rw (le-ltb (total t) 65535 h) refl
 
--- what is known of the record by the answer to 34
-true_of : (x : Bool) → not x ≡ false → T x
-true_of true e = tt
-true_of false e = subst T e tt
-
-false_of : (x : Bool) → not x ≡ true → T x → ⊥
-false_of true e h = subst T (sym e) tt
-false_of false e h = h
-
-module _ (t : Tally) (x : Bool) (e : x ≡ takes_more t) where
-  pub no_more : not x ≡ true → T (takes_more t) → ⊥
-  no_more h more = false_of x h (subst T (sym e) more)
-
-  pub more : not x ≡ false → T (takes_more t)
-  more h = subst T e (true_of x h)
-
 -- where it takes one answer more, what is counted stays small
 module _ (t : Tally) (h : T (takes_more t)) where
-  pub under_room : (q : ℕ) → q < 34 → (q < 36) × (under t q < 65535)
-  under_room q l = (omega arith, omega (arith, under_most t q (omega arith), ((takes_iff t).0 h).0))
+  pub under_room : (q : ℕ) → q < 36 → under t q < 65535
+  under_room q l = omega (arith, under_most t q l, ((takes_iff t).0 h).0)
 
   pub pass_room : (cost : ℕ) → cost ≤ 512 → (t.passed < 65535) × (t.sum < 2147483648) × (cost ≤ 512)
   pass_room cost l =

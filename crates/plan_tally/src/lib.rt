@@ -1,53 +1,35 @@
 // The plan check, counted in a record: question 34, then the plan check, of any record, any bytes and any numbers.
 #![tactic(auto)]
 
-ghost use Rattle.std.specs.Prelude.{◌≡◌, ◌≤◌, ◌<◌, min, max};
+ghost use Rattle.std.specs.Prelude.{◌≡◌, ◌≤◌, ◌<◌, min};
+ghost use Rattle.answers.specs.Returned.{number_of, answer_of};
 ghost use Rattle.tally.specs.Tally.{under, total, takes_more, with_pass, with_refusal};
 ghost use Rattle.calls.specs.Tally.{tally_answer, tally_record};
 
-use answers::Answer;
+use answers::{Reason, Refusal};
 use tally::Tally;
 
 // A call's answer, and the record after it.
 #[derive(Clone, Copy)]
 pub struct Tallied {
-    pub answer: Answer,
+    pub answer: Result<usize, Refusal>,
     pub tally: Tally,
 }
 
-fn lesser(x: usize, y: usize) -> usize
-    ensures { result ≡ min x y }
-{
-    if x < y {
-        return x;
-    }
-    y
-}
-
-fn greater(x: usize, y: usize) -> usize
-    ensures { result ≡ max x y }
-{
-    if x < y {
-        return y;
-    }
-    x
-}
-
 // The total of the counts, where it is below 65,535. Each count is taken as at most that, so that no sum is too large.
-fn total_of(t: Tally) -> usize
-    ensures { min result 65535 ≡ min (total t) 65535 }
+fn total_of(t: &Tally) -> usize
+    ensures { min result 65535 ≡ min (total t.now) 65535 }
 {
-    let refused = t.refused;
-    let mut sum = lesser(t.passed, 65535);
-    for q in 0..36usize {
-        sum += lesser(refused[q], 65535);
+    let mut sum = t.passed.min(65535);
+    for count in &t.refused {
+        sum += (*count).min(65535);
     }
     sum
 }
 
 // Question 34.
-fn takes_more(t: Tally) -> bool
-    ensures { result ≡ takes_more t }
+fn takes_more(t: &Tally) -> bool
+    ensures { result ≡ takes_more t.now }
 {
     if total_of(t) < 65535 {
         return t.sum <= 512 * t.passed;
@@ -55,66 +37,44 @@ fn takes_more(t: Tally) -> bool
     false
 }
 
-// One more plan that passed.
-fn with_pass(t: Tally, cost: usize) -> Tally
-    requires { (t.passed < 65535) × (t.sum < 2147483648) × (cost ≤ 512) }
-    ensures { result ≡ with_pass t cost }
+// Counts one more plan that passed.
+fn count_pass(t: &mut Tally, cost: usize)
+    requires { (t.old.passed < 65535) × (t.old.sum < 2147483648) × (cost ≤ 512) }
+    ensures { t.new ≡ with_pass t.old cost }
 {
-    let refused = t.refused;
-    let mut least = cost;
-    let mut greatest = cost;
-    if t.passed != 0 {
-        least = lesser(t.least, cost);
-        greatest = greater(t.greatest, cost);
+    if t.passed == 0 {
+        t.least = cost;
+        t.greatest = cost;
     }
-    Tally {
-        passed: t.passed + 1,
-        refused: refused,
-        sum: t.sum + cost,
-        least: least,
-        greatest: greatest,
-    }
+    t.passed += 1;
+    t.sum += cost;
+    t.least = t.least.min(cost);
+    t.greatest = t.greatest.max(cost);
 }
 
-// One more refusal under the number q.
-fn with_refusal(t: Tally, q: u32) -> Tally
-    requires { (q < 36) × (under t q < 65535) }
-    ensures { result ≡ with_refusal t q }
+// Counts one more refusal for a reason.
+fn count_refusal(t: &mut Tally, reason: Reason)
+    requires { under t.old (number_of reason) < 65535 }
+    ensures { t.new ≡ with_refusal t.old (number_of reason) }
 {
-    let at = q as usize;
-    let mut refused = t.refused;
-    refused[at] = refused[at] + 1;
-    Tally {
-        passed: t.passed,
-        refused: refused,
-        sum: t.sum,
-        least: t.least,
-        greatest: t.greatest,
-    }
+    t.refused[reason.number() as usize] += 1;
 }
 
-// The call, for every input: the record goes in by value, and comes back.
+// The call, for every input. The record goes in by value and comes back, as document 01 and README have it.
 pub fn tally_plan(t: Tally, b: &[u8], m: usize, rule: usize, p: &[u8]) -> Tallied
-    ensures { (result.answer ≡ tally_answer b.now m rule p.now t) × (result.tally ≡ tally_record b.now m rule p.now t) }
+    ensures { (answer_of result.answer ≡ tally_answer b.now m rule p.now t) × (result.tally ≡ tally_record b.now m rule p.now t) }
 {
-    if !takes_more(t) {
+    let mut tally = t;
+    if !takes_more(&tally) {
         return Tallied {
-            answer: Answer {
-                number: 34,
-                second: 65535,
-            },
-            tally: t,
+            answer: Err(Reason::FullRecord.at(65535)),
+            tally,
         };
     }
     let answer = plan_check::check_plan(b, m, rule, p);
-    if answer.number != 0 {
-        return Tallied {
-            answer: answer,
-            tally: with_refusal(t, answer.number),
-        };
+    match answer {
+        Ok(cost) => count_pass(&mut tally, cost),
+        Err(refusal) => count_refusal(&mut tally, refusal.reason),
     }
-    Tallied {
-        answer: answer,
-        tally: with_pass(t, answer.second),
-    }
+    Tallied { answer, tally }
 }

@@ -1,7 +1,8 @@
 -- The words that are written are those of the pruned formula.
-use mathlib.Core.Path.{◌≡◌, sym, ◌∙◌, ap, ap₂}
+use mathlib.Core.Path.{◌≡◌, refl, sym, ◌∙◌, ap, ap₂}
 use mathlib.Core.List.{List, ◌++◌}
-use Prim.Native.Nat.{ℕ}
+use Prim.Native.Nat.{ℕ, ◌+◌}
+use native.Mathlib.Numerals.{add-one}
 use Rattle.lists.specs.Loop.{for, each}
 use Rattle.instance.specs.declared.Sizes.{Sizes}
 use Rattle.instance.specs.declared.Checked.{Checked}
@@ -14,8 +15,12 @@ use Rattle.formula.specs.Blocks.{held, family}
 use Rattle.formula.specs.Pruned.{H, from_start, from_goal, family_h, pruned}
 use Rattle.formula.proofs.Held.{families_held}
 use Rattle.formula.proofs.Pruned.{H_ext}
-use Rattle.pruned_writer.specs.ByTable.{by_table_h}
+use Rattle.pruned_writer.specs.ByTable.{step_by_table, by_table_h}
 use Rattle.formula_size.proofs.Laws.{from_start_lem, from_goal_lem}
+
+pub steps_by_table : (s : Sizes) (table : List (List ℕ)) (starts goals : List ℕ) → by_table_h s table starts goals ≡ for (s.m + 1) (step_by_table s table starts goals)
+unfolding H
+steps_by_table s table starts goals = rw add-one refl
 
 module _ (b : List ℕ) (c : Checked) (w : Accepted b c) (table : List (List ℕ)) (t : TableOf c.sizes.n c.near table) where
   abbrev I : Instance

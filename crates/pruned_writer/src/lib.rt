@@ -2,7 +2,7 @@
 // start, `to` those from its goal.
 #![tactic(auto)]
 
-ghost use Rattle.std.specs.Prelude.{◌≡◌, [], ◌∷◌, ◌++◌, ◌≤◌, ◌<◌, length, get_or};
+ghost use Rattle.std.specs.Prelude.{◌≡◌, [], ◌∷◌, ◌++◌, ◌≤◌, ◌<◌, length};
 ghost use Rattle.lists.specs.Loop.{for, when, each};
 ghost use Rattle.lists.specs.Slice.{filled, Wrote};
 ghost use Rattle.answers.specs.Returned.{answer_of};
@@ -10,9 +10,9 @@ ghost use Rattle.instance.specs.Problem.{checked_of};
 ghost use Rattle.formula.specs.Variables.{¬X};
 ghost use Rattle.formula.specs.Formula.{line};
 ghost use Rattle.formula.specs.Blocks.{held, family};
-ghost use Rattle.formula.specs.Pruned.{too_far, block_h, pruned};
+ghost use Rattle.formula.specs.Pruned.{too_far, pruned};
 ghost use Rattle.calls.specs.Calls.{write_answer, write_slice};
-ghost use Rattle.pruned_writer.specs.ByTable.{step_by_table, by_table_h};
+ghost use Rattle.pruned_writer.specs.ByTable.{block_by_table, step_by_table, by_table_h};
 
 use answers::Refusal;
 use instance::{Problem, Shape};
@@ -39,17 +39,15 @@ fn write_vertex(f: &mut [i32], s: Shape, t: Step, a: Agent, v: Vertex, x: u8, y:
 }
 
 // H, of time t and agent a.
-fn write_block(f: &mut [i32], s: Shape, from: &[u8; 64], to: &[u8; 64], t: Step, a: Agent) -> usize
-    requires t_le_m { (t.0 ≤ s.sizes.m) × (a.0 < s.sizes.k) }
-    requires a_in_bounds { length (each line (block_h s.sizes (λ v. get_or from.now v 0) (λ v. get_or to.now v 0) t.0 a.0)) ≤ length f.old }
-    ensures { Wrote (each line (block_h s.sizes (λ v. get_or from.now v 0) (λ v. get_or to.now v 0) t.0 a.0)) f.old f.new result }
+fn write_block(f: &mut [i32], problem: &Problem, table: &[[u8; 64]], t: Step, a: Agent) -> usize
+    requires t_le_m { (t.0 ≤ problem.now.shape.sizes.m) × (a.0 < problem.now.shape.sizes.k) × (length table.now ≡ 64) }
+    requires a_in_bounds { length (each line (block_by_table problem.now.shape.sizes table.now problem.now.starts problem.now.goals t.0 a.0)) ≤ length f.old }
+    ensures { Wrote (each line (block_by_table problem.now.shape.sizes table.now problem.now.starts problem.now.goals t.0 a.0)) f.old f.new result }
 {
-    let n = s.sizes.n;
-    let mut at: usize = 0;
-    for v in 0..n {
-        at += write_vertex(&mut f[at..], s, t, a, Vertex(v), from[v], to[v]);
-    }
-    at
+    let s = problem.shape;
+    let from = distance_table::row_for(table, &problem.starts, a.0);
+    let to = distance_table::goal_row(table, &problem.goals, a.0);
+    clauses::write_each(f, s.sizes.n, |f, v| write_vertex(f, s, t, a, Vertex(v), from[v], to[v]))
 }
 
 // H, of time t.
@@ -58,15 +56,7 @@ fn write_step(f: &mut [i32], problem: &Problem, table: &[[u8; 64]], t: usize) ->
     requires t_in_bounds { length (each line (step_by_table problem.now.shape.sizes table.now problem.now.starts problem.now.goals t)) ≤ length f.old }
     ensures { Wrote (each line (step_by_table problem.now.shape.sizes table.now problem.now.starts problem.now.goals t)) f.old f.new result }
 {
-    let s = problem.shape;
-    let k = s.sizes.k;
-    let mut at: usize = 0;
-    for a in 0..k {
-        let from = distance_table::row_for(table, &problem.starts, a);
-        let to = distance_table::goal_row(table, &problem.goals, a);
-        at += write_block(&mut f[at..], s, &from, &to, Step(t), Agent(a));
-    }
-    at
+    clauses::write_each(f, problem.shape.sizes.k, |f, a| write_block(f, problem, table, Step(t), Agent(a)))
 }
 
 // H.
@@ -75,12 +65,8 @@ fn write_h(f: &mut [i32], problem: &Problem, table: &[[u8; 64]]) -> usize
     requires table_in_bounds { length (each line (by_table_h problem.now.shape.sizes table.now problem.now.starts problem.now.goals)) ≤ length f.old }
     ensures { Wrote (each line (by_table_h problem.now.shape.sizes table.now problem.now.starts problem.now.goals)) f.old f.new result }
 {
-    let end = problem.shape.sizes.m + 1;
-    let mut at: usize = 0;
-    for t in 0..end {
-        at += write_step(&mut f[at..], problem, table, t);
-    }
-    at
+    let times = problem.shape.sizes.m + 1;
+    clauses::write_each(f, times, |f, t| write_step(f, problem, table, t))
 }
 
 // The seven families of a checked instance, then H, to a slice with room for all.

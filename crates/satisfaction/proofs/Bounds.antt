@@ -1,23 +1,14 @@
 -- Every number that is worked out is far below 2 ^ 64.
-use Prim.Native.Nat.{ℕ, suc, ◌+◌, ◌*◌, ◌-◌, ◌/◌, ◌≤◌, ◌<◌}
-use native.Mathlib.Nat.{mul-le-mul, mul-le-mul_right, suc-mul}
-use native.Mathlib.Numerals.{add-one}
+use Prim.Native.Nat.{ℕ, suc, ◌*◌, ◌-◌, ◌/◌, ◌≤◌}
+use native.Mathlib.Nat.{mul-le-mul, mul-le-mul_right}
 use native.Mathlib.Omega.{arith}
-use mathlib.Core.Path.{◌≡◌}
-use mathlib.Core.List.{List}
-use lib.ListN.{length}
 use Rattle.instance.specs.declared.Sizes.{Sizes}
 use Rattle.instance.specs.Limits.{Limits}
-use Rattle.plan.specs.Plan.{plan_bytes}
 
--- cells: times and agents; pairs, twos: twice the pairs of vertices and of agents; the rest: the sizes of the rows of D to G, of G
--- under either rule
+-- cells: times and agents; twos: twice the pairs of agents; the rest: the sizes of the rows of D to G, of G under either rule
 pub record Products (s : Sizes) : Type 0 where
   pub cells : suc s.m * s.k ≤ 528
-  pub after : (s.m + 1) * s.k ≡ suc s.m * s.k
-  pub pairs : s.n * (s.n - 1) ≤ 4096
   pub twos : s.k * (s.k - 1) ≤ 240
-  pub rest : (s.k - 1) * s.n ≤ 1024
   pub D : s.k * (s.n * (s.n - 1) / 2) ≤ 32768
   pub E : s.n * (s.k * (s.k - 1) / 2) ≤ 8192
   pub F : s.k * s.n ≤ 1024
@@ -32,31 +23,13 @@ products s w =
     let g : (s.k - 1) * s.n ≤ 1024 = mul-le-mul {n₂ = 16} {m₂ = 64} (omega (arith, w.k_most)) w.n_most in
     record {
       cells = c;
-      after = rw add-one;
-      pairs = p;
       twos = t;
-      rest = g;
       D = mul-le-mul {n₂ = 16} {m₂ = 2048} w.k_most (omega arith);
       E = mul-le-mul {n₂ = 64} {m₂ = 128} w.n_most (omega arith);
       F = mul-le-mul {n₂ = 16} {m₂ = 64} w.k_most w.n_most;
       G = mul-le-mul {n₂ = 16} {m₂ = 1024} w.k_most g;
       exchanges = mul-le-mul {n₂ = 2016} {m₂ = 240} w.e_most t;
     }
-
--- row t of the plan
-pub row_fits : (s : Sizes) (t : ℕ) → t ≤ s.m → t * s.k + s.k ≤ plan_bytes s
-row_fits s t l = let o : suc t ≤ suc s.m = omega arith in omega (arith, suc-mul t s.k, mul-le-mul_right s.k o)
-
-pub two_fit : (s : Sizes) (t : ℕ) → t < s.m → t * s.k + s.k + s.k ≤ plan_bytes s
-two_fit s t l = omega (arith, row_fits s (suc t) l, suc-mul t s.k)
-
--- row t stands within the plan's bytes p, and where t is a step, row t + 1 behind it
-module _ (s : Sizes) (w : Limits s) (p : List ℕ) (t : ℕ) (e : length p ≡ plan_bytes s) where
-  pub row_within : t ≤ s.m → (t * s.k + s.k ≤ length p) × (length p ≤ 528)
-  row_within h = (omega (arith, row_fits s t h), omega (arith, (products s w).cells))
-
-  pub rows_within : t < s.m → (t * s.k + s.k + s.k ≤ length p) × (length p ≤ 528)
-  rows_within h = (omega (arith, two_fit s t h), omega (arith, (products s w).cells))
 
 -- what stands before block i of c blocks of one size
 pub blocks_fit : (i c size : ℕ) → i ≤ c → i * size ≤ c * size

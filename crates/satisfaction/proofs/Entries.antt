@@ -12,9 +12,10 @@ use lib.ListN.{length, get_or, set, take, length-set}
 use lib.Seq.{get_or-set_same, get_or-set_other, get_or-take, length-take-le}
 use lib.Dec.{T}
 use lib.IntN.{ℤ, pos, negsuc}
+use Rattle.std.specs.Prelude.{Some, Ok, Err}
 use Rattle.lists.proofs.Tests.{or_iff}
 use Rattle.lists.proofs.Blocks.{place_lt, place_inj}
-use Rattle.answers.specs.Fault.{FirstFault}
+use Rattle.answers.specs.Fault.{FirstFault, FirstFailing}
 use Rattle.answers.proofs.Faults.{fault_none}
 use Rattle.instance.specs.declared.Sizes.{Sizes}
 use Rattle.formula.specs.Variables.{X, index, variable_count}
@@ -23,7 +24,9 @@ use Rattle.valuation.specs.Valuation.{entry, right_entry, true?}
 use Rattle.valuation.specs.Satisfying.{Valuation}
 use Rattle.formula.proofs.Variables.{index_lt, vertices_run, runs_apart}
 use Rattle.valuation.proofs.Entries.{same_number_iff, true_yes}
-use Rattle.satisfaction.specs.Rows.{Stop, Tallied, says, denies, Seen, Read}
+use Rattle.satisfaction.specs.Rows.{Stop, Tallied, says, denies, Seen, Came, byte_of, Read}
+use Rattle.satisfaction.specs.declared.Said.{Said}
+use Rattle.satisfaction.specs.declared.Said.TheVariants.{Nothing, One, Several}
 
 module _ (es : List ℤ) where
   -- an entry is right where it says its variable or denies it, and never does both
@@ -52,16 +55,12 @@ module _ (es : List ℤ) where
     abbrev Right : ℕ → Type 0
     Right r = Stop (right_entry es) base (base + n) r
 
-    -- what a row comes to: its first wrong entry, and its vertex where there is none
-    abbrev pub Came : ℕ → ℕ → Type 0
-    Came r x = Right r × (base + n ≤ r → Seen n q x)
-
     -- entry i of the row, by its vertex
     row_at : (P : ℕ → Type 0) → ((v : ℕ) → v < n → P (base + v)) → (i : ℕ) → base ≤ i → i < base + n → P i
     row_at P h i l r = let e : base + (i - base) ≡ i = omega arith in subst P e (h (i - base) (omega arith))
 
     module _ (count v : ℕ) (o : Tallied (λ u. denies es (base + u)) n count v) where
-      pub came_none : count ≡ 0 → Came (base + n) n
+      pub came_none : count ≡ 0 → Came es base n (Ok Nothing)
       came_none e =
           let (z, g) = o.none e in (
             record {
@@ -70,7 +69,7 @@ module _ (es : List ℤ) where
               before = row_at (λ i. T (right_entry es i)) (λ u l. denied_right (base + u) (g u l));
               here = λ l. absurd (let f : ⊥ = omega arith in f);
             },
-            λ h. record {
+            record {
               most = omega arith;
               one = λ l. absurd (let z : ⊥ = omega arith in z);
               none = λ d u l t. not_both (base + u) t (g u l);
@@ -85,7 +84,7 @@ module _ (es : List ℤ) where
         rest : (u : ℕ) → u < n → u ≢ v → T (right_entry es (base + u))
         rest u l d = denied_right (base + u) ((o.one e).2 u l d)
 
-        pub came_one : T (right_entry es (base + v)) → Came (base + n) v
+        pub came_one : T (right_entry es (base + v)) → Came es base n (Ok (One v))
         came_one r =
             let t = right_says (base + v) r (o.one e).1 in
             let b = most in (
@@ -95,21 +94,21 @@ module _ (es : List ℤ) where
                 before = row_at (λ i. T (right_entry es i)) (λ u l. by_cases (ℕ_discrete u v) (λ p. rw p r) (λ p. rest u l p));
                 here = λ r. absurd (let z : ⊥ = omega arith in z);
               },
-              λ h.
-                  record {
-                    most = omega arith;
-                    one = λ x u l. (
-                      (λ y. by_cases (ℕ_discrete u v) (λ p. p) (λ p. absurd (not_both (base + u) y ((o.one e).2 u l p)))),
-                      (λ y. rw y t),
-                    );
-                    none = λ x. absurd (let z : ⊥ = omega arith in z);
-                    several = λ x. absurd (let z : ⊥ = omega arith in z);
-                  },
+              record {
+                most = omega arith;
+                one = λ x u l. (
+                  (λ y. by_cases (ℕ_discrete u v) (λ p. p) (λ p. absurd (not_both (base + u) y ((o.one e).2 u l p)))),
+                  (λ y. rw y t),
+                );
+                none = λ x. absurd (let z : ⊥ = omega arith in z);
+                several = λ x. absurd (let z : ⊥ = omega arith in z);
+              },
             )
 
-        pub came_wrong : (T (right_entry es (base + v)) → ⊥) → Came (base + v) 0
+        pub came_wrong : (T (right_entry es (base + v)) → ⊥) → Came es base n (Err (base + v))
         came_wrong t =
             let b = most in (
+              omega arith,
               record {
                 least = omega arith;
                 within = omega arith;
@@ -117,14 +116,12 @@ module _ (es : List ℤ) where
                     row_at (λ i. i < base + v → T (right_entry es i)) (λ u l q. rest u l (λ z. let f : ⊥ = omega arith in f)) i h (omega arith) p;
                 here = λ r. t;
               },
-              λ h. absurd (let z : ⊥ = omega arith in z),
             )
 
-      pub came_several : count ≢ 0 → count ≢ 1 → (u : ℕ) → Right u → Came u (n + 1)
-      came_several d d' u r = (
+      pub came_several : count ≢ 0 → count ≢ 1 → Right (base + n) → Came es base n (Ok Several)
+      came_several d d' r = (
         r,
-        λ h.
-            let (x, y, a, b, f, g) = o.more (omega arith) in
+        let (x, y, a, b, f, g) = o.more (omega arith) in
             record {
               most = omega arith;
               one = λ l. absurd (let z : ⊥ = omega arith in z);
@@ -169,9 +166,9 @@ module _ (s : Sizes) (es : List ℤ) (vertices : List ℕ) where
       }
 
   -- the row of agent a at time t comes next
-  module _ (t a : ℕ) (x : t < suc m) (y : a < k) (base r v : ℕ) (e : base ≡ index s t a 0) (o : Sofar s es vertices base) (c : Came es base n r v) where
-    pub sofar_more : (at : ℕ) → at ≡ t * k + a → at < 528 → base + n ≤ r → Sofar s es (set vertices at v) (base + n)
-    sofar_more at w l h =
+  module _ (t a : ℕ) (x : t < suc m) (y : a < k) (base : ℕ) (e : base ≡ index s t a 0) (o : Sofar s es vertices base) where
+    pub sofar_more : (said : Said) → Came es base n (Ok said) → (at v : ℕ) → at ≡ t * k + a → at < 528 → v ≡ byte_of n said → Sofar s es (set vertices at v) (base + n)
+    sofar_more said c at v w l ev =
         rw w (record {
           size = simp length-set o.size;
           right = λ j b. by_cases (dec_lt j base) (λ p. o.right j p) (λ p. c.0.before j (omega arith) (omega arith));
@@ -182,19 +179,21 @@ module _ (s : Sizes) (es : List ℤ) (vertices : List ℕ) where
         })
       where
         here : Seen n (λ u. says es (index s t a u)) v
-        here = seen_cong n _ _ v (λ u z. ap (says es) (let q : base + u ≡ index s t a u = omega (arith, vertices_run s t a u) in q)) (c.1 h)
+        here = seen_cong n _ _ v (λ u z. ap (says es) (let q : base + u ≡ index s t a u = omega (arith, vertices_run s t a u) in q)) (rw ev c.1)
 
         earlier : (u b : ℕ) → u < suc m → index s u b 0 < base + n → u * k + b ≢ t * k + a → index s u b 0 < base
         earlier u b x' g p =
             ⊎_elim (λ q. omega arith) (λ q. absurd (p (rw (q.0, q.1)))) (runs_apart s t a u b x x' (omega arith))
 
-    pub sofar_wrong : (N : ℕ) → base + n ≤ N → r < base + n → FirstFault N (right_entry es) r
-    sofar_wrong N h l =
-        record {
-          within = omega arith;
-          before = λ j b. by_cases (dec_lt j base) (λ p. o.right j p) (λ p. c.0.before j (omega arith) b);
-          here = λ b. c.0.here l;
-        }
+    pub sofar_wrong : (N r : ℕ) → Came es base n (Err r) → base + n ≤ N → FirstFailing N (right_entry es) (Some r)
+    sofar_wrong N r c h = (
+      omega (arith, c.0),
+      record {
+        within = omega (arith, c.0);
+        before = λ j b. by_cases (dec_lt j base) (λ p. o.right j p) (λ p. c.1.before j (omega arith) b);
+        here = λ b. c.1.here c.0;
+      },
+    )
 
 -- ---- truth under a valuation goes by one entry
 bool_same : (a b : Bool) → T a ↔ T b → a ≡ b

@@ -1,39 +1,39 @@
 -- Agents that exchange vertices: in the rows of a plan alone, and in the clauses of G under rule 2.
-use mathlib.Core.Path.{◌≡◌, refl, sym, ◌∙◌, ap, ap₂, subst}
+use mathlib.Core.Path.{◌≡◌, refl, sym, ◌∙◌, ap, subst}
 use mathlib.Core.Logic.Iff
 use mathlib.Core.Logic.{◌↔◌, ◌≢◌, by_cases}
 use mathlib.Core.List.{List, [], ◌∷◌}
-use mathlib.Core.Bool.{Bool, true, false, not, ◌&&◌}
+use mathlib.Core.Bool.{Bool, true, false, not}
 use Prim.Native.Nat.{ℕ, suc, ◌+◌, ◌*◌, ◌-◌, ◌≤◌, ◌<◌}
 use native.Mathlib.Nat.{le_refl, add-mul, not-suc-le-zero}
 use native.Mathlib.Decide.{dec_lt, ℕ_discrete}
 use native.Mathlib.Omega.{arith}
 use borrow.Author.Tests.{lt-ltb, le-ltb, eq-eqb, ne_eqb}
-use lib.ListN.{length, take, drop}
+use lib.ListN.{length}
 use lib.Dec.{T, ltb, eqb}
 use lib.IntN.{ℤ}
-use Rattle.lists.specs.Loop.{for, when, all, some, every, sum}
+use Rattle.std.specs.Prelude.{Option, None, Some, IsSome}
+use Rattle.std.specs.Option.{is_some}
+use Rattle.lists.specs.Loop.{for, when, all, some, sum}
 use Rattle.lists.proofs.Tests.{and_iff, or_imp, not_iff, ltb_iff, eqb_iff, some_iff, every_iff}
 use Rattle.lists.proofs.Loops.{for_all, one_all, when_all, any_four, for_length}
 use Rattle.lists.proofs.Blocks.{place_lt}
 use Rattle.lists.proofs.Slices.{for_room}
 use Rattle.lists.proofs.Rising.{when_yes}
-use Rattle.answers.specs.Fault.{FirstFault}
-use Rattle.answers.proofs.Faults.{T_true, T_false, fault_at, fault_none, fault_ext, fault_of, fault_first}
+use Rattle.answers.specs.Fault.{FirstFault, FirstFailing}
+use Rattle.answers.proofs.Faults.{T_true, T_false, fault_at, fault_none, fault_first}
 use Rattle.instance.specs.declared.Sizes.{Sizes}
 use Rattle.instance.specs.Instance.{upward, higher, edges_before}
 use Rattle.formula.specs.Formula.{Clause, exchange, no_exchange}
 use Rattle.formula.specs.Blocks.{no_exchange_from}
 use Rattle.formula.proofs.Counts.{exchange_agents, count_exchange}
-use Rattle.formula.proofs.Places.{exchanges_below, exchanges_before, exchanges_all}
-use Rattle.plan.specs.Plan.{Row, row, plan_row, condition, condition1, condition2}
-use Rattle.plan.proofs.Rows.{part_at}
+use Rattle.formula.proofs.Places.{exchanges_below, exchanges_before}
+use Rattle.plan.specs.Plan.{Row, condition, condition1, condition2}
 use Rattle.plan.proofs.Steps.{apart_any}
 use Rattle.valuation.specs.Valuation.{true?, satisfied?}
 use Rattle.valuation.specs.Places.{Places}
-use Rattle.satisfaction.specs.Rows.{Fault, goes, crossed}
-use Rattle.satisfaction.proofs.Laws.{others_before, fault_all, for_stop, singles}
-use Rattle.satisfaction.proofs.Steps.{next_row}
+use Rattle.satisfaction.specs.Rows.{Fault, Failing, LowestCrossed, goes, crossed}
+use Rattle.satisfaction.proofs.Laws.{others_before, failing_none, for_stop, for_failing, singles}
 
 -- ---- of k agents that go from P to Q
 module _ (k : ℕ) (P Q : Row) where
@@ -59,25 +59,26 @@ module _ (k : ℕ) (P Q : Row) where
     first_inside : Goes u v → r < k
     first_inside g = by_cases (dec_lt r k) (λ l. l) (λ l. absurd (none_goes (let w = f.within in omega arith) g))
 
-    pub some_goes : not (eqb r k) ≡ some k (goes P Q u v)
-    some_goes =
-        by_cases (ℕ_discrete r k)
-        (λ e. rw (eq-eqb r k e) (sym (T_false (some k (goes P Q u v)) (λ t. let (a, l, h) = (some_iff k (goes P Q u v)).0 t in none_goes e (a, l, (going u v a).0 h)))))
-        (λ d.
-        let l : r < k = (let w = f.within in omega arith) in
-        rw (ne_eqb r k d) (sym (T_true (some k (goes P Q u v)) ((some_iff k (goes P Q u v)).1 (r, l, (going u v r).1 (first_goes l))))))
+  -- and as an option
+  module _ (u v : ℕ) where
+    abbrev First : Option ℕ → Type 0
+    First r = FirstFailing k (λ a. not (goes P Q u v a)) r
+
+    pub some_goes : (r : Option ℕ) → First r → is_some r ≡ some k (goes P Q u v)
+    some_goes None f = sym (T_false (some k (goes P Q u v)) (λ t. let (a, l, h) = (some_iff k (goes P Q u v)).0 t in none_goes u v k f refl (a, l, (going u v a).0 h)))
+    some_goes (Some r) f = sym (T_true (some k (goes P Q u v)) ((some_iff k (goes P Q u v)).1 (r, f.0, (going u v r).1 (first_goes u v r f.1 f.0))))
 
   -- u is exchanged with no vertex, where no agent is on it or the only agent on it does not exchange it; or with one
   module _ (n u : ℕ) where
-    abbrev High : ℕ → Type 0
-    High v = FirstFault n (λ v. not (crossed k P Q u v)) v
+    abbrev High : Option ℕ → Type 0
+    High v = FirstFailing n (λ v. not (crossed k P Q u v)) v
 
-    quiet : ((v : ℕ) → v < n → T (crossed k P Q u v) → ⊥) → High n
+    quiet : ((v : ℕ) → v < n → T (crossed k P Q u v) → ⊥) → High None
     quiet h = fault_none refl (λ v l. (not_iff (crossed k P Q u v)).1 (h v l))
 
     -- a is the first agent on u
     module _ (a : ℕ) (f : FirstFault k (λ i. not (eqb (P i) u)) a) where
-      pub high_nobody : a ≡ k → High n
+      pub high_nobody : a ≡ k → High None
       high_nobody e =
           quiet (λ v l t.
           let (o, ((b, r, (x, y)), back)) = (crossed_iff u v).0 t in
@@ -91,17 +92,18 @@ module _ (k : ℕ) (P Q : Row) where
             let z : b ≡ a = by_cases (ℕ_discrete b a) (λ z. z) (λ d. absurd (apart_any k P apart b a r l d (x ∙ sym e))) in
             sym y ∙ ap Q z
 
-        pub high_off : n ≤ Q a → High n
-        high_off h = quiet (λ v r t. let e = only v t in omega arith)
-
-        pub high_none : false ≡ crossed k P Q u (Q a) → High n
+        pub high_none : false ≡ crossed k P Q u (Q a) → High None
         high_none e = quiet (λ v r t. subst T (sym (subst (λ (w : ℕ). false ≡ crossed k P Q u w) (sym (only v t)) e)) t)
 
-        pub high_one : Q a < n → true ≡ crossed k P Q u (Q a) → High (Q a)
-        high_one h e =
-            fault_at h
-            (λ v r. (not_iff (crossed k P Q u v)).1 (λ t. let z = only v t in omega arith))
-            (λ t. (not_iff (crossed k P Q u (Q a))).0 t (subst T e tt))
+        -- the one that goes back was on that vertex
+        pub high_one : ((i : ℕ) → i < k → P i < n) → true ≡ crossed k P Q u (Q a) → High (Some (Q a))
+        high_one inside e =
+            let h : Q a < n = (let (b, r, (x, y)) = ((crossed_iff u (Q a)).0 (subst T e tt)).1.1 in omega (arith, inside b r)) in (
+              h,
+              fault_at h
+                  (λ v r. (not_iff (crossed k P Q u v)).1 (λ t. let z = only v t in omega arith))
+                  (λ t. (not_iff (crossed k P Q u (Q a))).0 t (subst T e tt)),
+            )
 
   -- whether u and v are exchanged, by the first agent that goes from u to v and the first that goes from v to u
   module _ (u v : ℕ) where
@@ -109,41 +111,45 @@ module _ (k : ℕ) (P Q : Row) where
     unfolding crossed
     crossed_down l = rw (le-ltb u v l)
 
-    module _ (l : u < v) (a : ℕ) (f : FirstFault k (λ i. not (goes P Q u v i)) a) where
-      pub crossed_none : a ≡ k → false ≡ crossed k P Q u v
-      unfolding crossed
-      crossed_none e = rw (lt-ltb u v l, sym (some_goes u v a f), eq-eqb a k e)
+    pub crossed_up : u < v → (to : Option ℕ) → First u v to → is_some to ≡ true → (back : Option ℕ) → First v u back → is_some back ≡ crossed k P Q u v
+    unfolding crossed
+    crossed_up l to f e back g = rw (lt-ltb u v l, ← some_goes u v to f, e, some_goes v u back g)
 
-      pub crossed_back : a ≢ k → (b : ℕ) → FirstFault k (λ i. not (goes P Q v u i)) b → not (eqb b k) ≡ crossed k P Q u v
-      unfolding crossed
-      crossed_back d b g = rw (lt-ltb u v l, sym (some_goes u v a f), ne_eqb a k d) (some_goes v u b g)
+    pub crossed_none : u < v → (to : Option ℕ) → First u v to → is_some to ≡ false → false ≡ crossed k P Q u v
+    unfolding crossed
+    crossed_none l to f e = rw (lt-ltb u v l, ← some_goes u v to f, e)
 
--- what is found in the parts of a plan's bytes is found in its rows t and t + 1
-pub going_fault : (s : Sizes) (p : List ℕ) (t u v r : ℕ)
-    → FirstFault s.k (λ a. not (goes (row (take (t * s.k + s.k - t * s.k) (drop (t * s.k) p))) (row (take (t * s.k + s.k + s.k - (t * s.k + s.k)) (drop (t * s.k + s.k) p))) u v a)) r
-    → FirstFault s.k (λ a. not (goes (plan_row s p t) (plan_row s p (suc t)) u v a)) r
-going_fault s p t u v r f =
-    fault_ext
-    (λ a l.
-    ap₂ (λ (x y : ℕ). not (eqb x u && eqb y v))
-    (part_at p (t * s.k) (t * s.k + s.k) a (omega arith))
-    (part_at p (t * s.k + s.k) (t * s.k + s.k + s.k) a (omega arith) ∙ next_row s p t a))
-    f
+    -- where they are exchanged, one goes each way
+    pub crossed_ways : T (crossed k P Q u v) → Goes u v × Goes v u
+    crossed_ways t = ((crossed_iff u v).0 t).1
 
--- the lowest u that is exchanged with a higher v is below n, and so is the lowest such v
-module _ (n k : ℕ) (P Q : Row) (u : ℕ) (f : FirstFault n (λ u. every n λ v. not (crossed k P Q u v)) u) where
-  pub low_inside : (i j : ℕ) → i < n → j < n → T (crossed k P Q i j) → u < n
-  low_inside i j l r t =
-      by_cases (dec_lt u n)
-      (λ h. h)
-      (λ h. absurd ((not_iff (crossed k P Q i j)).0 ((every_iff n (λ v. not (crossed k P Q i v))).0 (f.before i (omega arith)) j r) t))
+-- u is the lowest vertex that is exchanged with a higher one, and v the lowest of those
+module _ (n k : ℕ) (P Q : Row) where
+  -- none is
+  pub none_lowest : LowestCrossed n (crossed k P Q) None → (i v : ℕ) → i < n → v < n → T (crossed k P Q i v) → ⊥
+  none_lowest f i v l r = (not_iff (crossed k P Q i v)).0 ((every_iff n (λ v. not (crossed k P Q i v))).0 (f.before i l) v r)
 
-  pub low_before : (i v : ℕ) → i < u → v < n → T (crossed k P Q i v) → ⊥
-  low_before i v l r = (not_iff (crossed k P Q i v)).0 ((every_iff n (λ v. not (crossed k P Q i v))).0 (f.before i l) v r)
+  module _ (u v : ℕ) (f : LowestCrossed n (crossed k P Q) (Some (u, v))) where
+    pub low_before : (i j : ℕ) → i < u → j < n → T (crossed k P Q i j) → ⊥
+    low_before i j l r = (not_iff (crossed k P Q i j)).0 ((every_iff n (λ v. not (crossed k P Q i v))).0 (f.0.1.before i l) j r)
 
-  pub high_inside : u < n → (v : ℕ) → FirstFault n (λ v. not (crossed k P Q u v)) v → v < n
-  high_inside l v g =
-      by_cases (dec_lt v n) (λ h. h) (λ h. absurd (f.here l ((every_iff n (λ v. not (crossed k P Q u v))).1 (λ i r. g.before i (omega arith)))))
+    pub high_before : (j : ℕ) → j < v → T (crossed k P Q u j) → ⊥
+    high_before j l = (not_iff (crossed k P Q u j)).0 (f.1.1.before j l)
+
+    pub across : T (crossed k P Q u v)
+    across = (fault_first n (crossed k P Q u) v f.1.1 f.1.0).0
+
+    pub goes_up : (r : Option ℕ) → First k P Q u v r → IsSome r
+    goes_up r g = some_goes k P Q u v r g ∙ T_true _ ((some_iff k (goes P Q u v)).1 (one u v (crossed_ways k P Q u v across).0))
+      where
+        one : (u v : ℕ) → Goes k P Q u v → (a : ℕ) × (a < k) × T (goes P Q u v a)
+        one u v (a, l, h) = (a, l, (going k P Q u v a).1 h)
+
+    pub goes_back : (r : Option ℕ) → First k P Q v u r → IsSome r
+    goes_back r g = some_goes k P Q v u r g ∙ T_true _ ((some_iff k (goes P Q v u)).1 (one v u (crossed_ways k P Q u v across).1))
+      where
+        one : (u v : ℕ) → Goes k P Q u v → (a : ℕ) × (a < k) × T (goes P Q u v a)
+        one u v (a, l, h) = (a, l, (going k P Q u v a).1 h)
 
 -- ---- condition 2 under rule 2: r is the first agent that exchanges its vertex, or k
 module _ (s : Sizes) (two : s.rule ≡ 2) (near : ℕ → ℕ → Bool) (P Q : Row) (r : ℕ) (f : FirstFault s.k (condition s near 1 P Q) r) where
@@ -157,22 +163,6 @@ module _ (s : Sizes) (two : s.rule ≡ 2) (near : ℕ → ℕ → Bool) (P Q : R
   uncrossed e u v t =
       let (o, ((a, l, (x, y)), (b, l', (x', y')))) = (crossed_iff k P Q u v).0 t in
       (second a).0 (f.before a (omega arith)) (λ q. omega arith) b l' (x' ∙ sym y, y' ∙ sym x)
-
-  pub some_crossed : ((a : ℕ) → a < k → P a < n) → r ≢ k → (u v : ℕ) × (u < n) × (v < n) × T (crossed k P Q u v)
-  some_crossed inside d =
-      let l : r < k = (let w = f.within in omega arith) in
-      let no = f.here l in
-      let moves : P r ≢ Q r = λ e. no ((second r).1 (λ h. absurd (h e))) in
-      let (b, g) = fault_of k (λ b. not (goes P Q (Q r) (P r) b)) in
-      let lb : b < k =
-      by_cases (dec_lt b k) (λ h. h) (λ h. absurd (no ((second r).1 (λ m i o e.
-      (not_iff (goes P Q (Q r) (P r) i)).0 (g.before i (omega arith)) ((going k P Q (Q r) (P r) i).1 e))))) in
-      let (e, e') = first_goes k P Q (Q r) (P r) b g lb in
-      let i = inside r l in
-      let j = inside b lb in
-      by_cases (dec_lt (P r) (Q r))
-      (λ h. (P r, Q r, i, omega arith, (crossed_iff k P Q (P r) (Q r)).1 (h, ((r, l, (refl, refl)), (b, lb, (e, e'))))))
-      (λ h. (Q r, P r, omega arith, i, (crossed_iff k P Q (Q r) (P r)).1 (omega arith, ((b, lb, (e, e')), (r, l, (refl, refl))))))
 
 -- agents that keep their vertices or cross edges exchange vertices across an edge
 pub crossed_upward : (k : ℕ) (near : ℕ → ℕ → Bool) (P Q : Row) → ((a : ℕ) → a < k → T (condition1 near P Q a))
@@ -220,10 +210,9 @@ module _ (s : Sizes) (es : List ℤ) (P : ℕ → ℕ → ℕ) (c : Places s (tr
       (exchange_iff u v a b lu (omega arith) la lb).1 (λ p q.
       h v r ((crossed_iff k (P t) (P (suc t)) u v).1 ((ltb_iff u v).0 ((and_iff (ltb u v) _).0 o).0, ((a, la, p), (b, lb, q))))))
 
-  pub none_exchange : e ≡ edges_before near n n 0 → ((u v : ℕ) → T (cross u v) → ⊥) → Fault es (for n (no_exchange_from s near t)) (e * (k * (k - 1)))
-  none_exchange h none =
-      subst (Fault es (for n (no_exchange_from s near t))) (exchanges_all s near t h)
-      (fault_all es (for n (no_exchange_from s near t)) ((for_all sat n (no_exchange_from s near t)).1 (λ u l. pass_up u n l (le_refl n) (λ v r. none u v))))
+  pub none_exchange : ((u v : ℕ) → u < n → v < n → T (cross u v) → ⊥) → Failing es (for n (no_exchange_from s near t)) None
+  none_exchange none =
+      failing_none es (for n (no_exchange_from s near t)) ((for_all sat n (no_exchange_from s near t)).1 (λ u l. pass_up u n l (le_refl n) (λ v r. none u v l r)))
 
   -- u and v are exchanged: a is the first agent that goes from u to v, b the first that goes back, and o its place among the others
   module _ (u v : ℕ) (lu : u < n) (lv : v < n) (across : T (cross u v)) (a b o : ℕ)
@@ -261,7 +250,7 @@ module _ (s : Sizes) (es : List ℤ) (P : ℕ → ℕ → ℕ) (c : Places s (tr
         )
 
     pub here_exchange : T (upward near u v) → ((i j : ℕ) → i < u → j < n → T (cross i j) → ⊥) → ((j : ℕ) → j < v → T (cross u j) → ⊥)
-        → Fault es (for n (no_exchange_from s near t)) (edges_before near n u v * (k * (k - 1)) + (a * (k - 1) + o))
+        → Failing es (for n (no_exchange_from s near t)) (Some (edges_before near n u v * (k * (k - 1)) + (a * (k - 1) + o)))
     unfolding edges_before
     here_exchange edge lower before =
         let (h, l) = here_agents in
@@ -271,7 +260,7 @@ module _ (s : Sizes) (es : List ℤ) (P : ℕ → ℕ → ℕ) (c : Places s (tr
         let place : length (for u (no_exchange_from s near t)) + (length (for v (up u)) + (a * (k - 1) + o))
         ≡ (sum u (λ y. length (higher near y n)) + length (higher near u v)) * (k * (k - 1)) + (a * (k - 1) + o) =
         omega (arith, exchanges_before s near t u, exchanges_below s near t u v, add-mul (sum u (λ y. length (higher near y n))) (length (higher near u v)) (k * (k - 1))) in
-        subst (Fault es (for n (no_exchange_from s near t))) place
-        (for_stop es (no_exchange_from s near t) n u (length (for v (up u)) + (a * (k - 1) + o)) lu
+        subst (λ (y : ℕ). Failing es (for n (no_exchange_from s near t)) (Some y)) place
+        (for_failing es (no_exchange_from s near t) n u (length (for v (up u)) + (a * (k - 1) + o)) lu
         ((for_all sat u (no_exchange_from s near t)).1 (λ i r. pass_up i n (omega arith) (le_refl n) (λ j q. lower i j r q)))
         inner (omega (arith, for_room (up u) lv, ap length is, count_exchange s t u v)))

@@ -3,7 +3,7 @@ use mathlib.Core.Path.{◌≡◌, refl, sym, ◌∙◌, ap, subst}
 use mathlib.Core.Logic.{◌≢◌, by_cases}
 use mathlib.Core.List.{List, [], ◌∷◌}
 use mathlib.Core.Bool.{Bool, cond}
-use Prim.Native.Nat.{ℕ, suc, ◌+◌, ◌*◌, ◌-◌, ◌/◌, ◌≤◌, ◌<◌}
+use Prim.Native.Nat.{ℕ, zero, suc, ◌+◌, ◌*◌, ◌-◌, ◌/◌, ◌≤◌, ◌<◌}
 use native.Mathlib.Decide.{dec_lt, ℕ_discrete}
 use native.Mathlib.Numerals.{add-one}
 use native.Mathlib.Omega.{arith}
@@ -11,15 +11,20 @@ use borrow.Author.Tests.{eq-eqb, ne_eqb}
 use lib.ListN.{length, get_or, length-append}
 use lib.Dec.{T}
 use lib.IntN.{ℤ}
+use Rattle.std.specs.Prelude.{Option, Some}
 use Rattle.lists.specs.Loop.{for, all}
 use Rattle.lists.proofs.Loops.{for_length, for_all, all_append}
 use Rattle.lists.proofs.Slices.{for_room}
 use Rattle.lists.proofs.Blocks.{for1_length, place_split}
 use Rattle.instance.specs.declared.Sizes.{Sizes}
+use Rattle.counts.specs.declared.Family.{Family}
+use Rattle.counts.specs.declared.Family.TheVariants.{A, B, C, D, E, F, G}
+use Rattle.counts.specs.Families.{place_of}
 use Rattle.instance.specs.Instance.{Instance, Edges, following, goal_count}
 use Rattle.instance.proofs.Goals.{goals_once}
 use Rattle.formula.specs.Variables.{X}
-use Rattle.formula.specs.Formula.{Clause, F, no_following, clauses}
+use Rattle.formula.specs.Formula.{Clause, no_following, clauses}
+use Rattle.formula.specs.Formula as formula
 use Rattle.formula.specs.Blocks.{Given, times, blocks_at, block, block_g, no_exchange_from, family, held_in}
 use Rattle.formula.proofs.Blocks.{family_blocks}
 use Rattle.formula.proofs.Held.{families_shown}
@@ -30,9 +35,23 @@ use Rattle.valuation.proofs.Families.{places_cong, read_E}
 use Rattle.valuation.proofs.Entries.{named_places}
 use Rattle.instance.specs.Shows.{Shows}
 use Rattle.conditions.specs.Inside.{Inside}
-use Rattle.satisfaction.specs.Rows.{Fault, Read, Sound, row, Before}
-use Rattle.satisfaction.proofs.Laws.{for_stop, fault_all}
+use Rattle.satisfaction.specs.Rows.{Fault, Failing, Read, Sound, row, Before}
+use Rattle.satisfaction.proofs.Laws.{for_stop, for_failing}
 use Rattle.satisfaction.proofs.Truth.{length_D, length_E, length_F, read_row_f}
+
+-- all of them, in their order
+abbrev pub families : List Family
+families = A ∷ B ∷ C ∷ D ∷ E ∷ F ∷ G ∷ []
+
+pub place_at : (i : ℕ) → i < 7 → place_of (get_or families i A) ≡ i
+place_at zero l = refl
+place_at (suc zero) l = refl
+place_at (suc (suc zero)) l = refl
+place_at (suc (suc (suc zero))) l = refl
+place_at (suc (suc (suc (suc zero)))) l = refl
+place_at (suc (suc (suc (suc (suc zero))))) l = refl
+place_at (suc (suc (suc (suc (suc (suc zero)))))) l = refl
+place_at (suc (suc (suc (suc (suc (suc (suc i))))))) l = absurd (let f : ⊥ = omega arith in f)
 
 -- the lengths of the rows
 module _ (g : Given) (t : ℕ) where
@@ -85,14 +104,14 @@ module _ (g : Given) where
   module _ (es : List ℤ) (which at t : ℕ) (h : T (all (satisfied? es) (for which (family g))))
       (q : at ≡ length (for which (family g)) + length (for t (row g which))) (h' : T (all (satisfied? es) (for t (row g which)))) where
     -- the first clause without a true literal is in row t
-    pub in_families : (r : ℕ) → which < 7 → t < times g.sizes which → Fault es (row g which t) r → r < length (row g which t)
-        → Fault es (for 7 (family g)) (at + r)
-    in_families r l x f o =
+    pub in_families : (r : ℕ) → which < 7 → t < times g.sizes which → Failing es (row g which t) (Some r) → Failing es (for 7 (family g)) (Some (at + r))
+    unfolding Failing Fault
+    in_families r l x (o, f) =
         let f' = for_stop es (row g which) (times g.sizes which) t r x h' f o in
         let o' = for_room (row g which) x in
         let a : length (for which (family g)) + (length (for t (row g which)) + r) ≡ at + r = omega arith in
-        subst (Fault es (for 7 (family g))) a
-        (for_stop es (family g) 7 which (length (for t (row g which)) + r) l h
+        subst (λ (y : ℕ). Failing es (for 7 (family g)) (Some y)) a
+        (for_failing es (family g) 7 which (length (for t (row g which)) + r) l h
         (subst (λ (L : List Clause). Fault es L (length (for t (row g which)) + r)) (sym (family_rows which)) f')
         (omega (arith, ap length (family_rows which))))
 
@@ -105,13 +124,10 @@ module _ (g : Given) where
           (all_append (satisfied? es) (for which (family g)) _).1 (h, subst (λ (L : List Clause). T (all (satisfied? es) L)) e h'),
         )
 
-  pub all_families : (es : List ℤ) (at : ℕ) → at ≡ length (for 7 (family g)) → T (all (satisfied? es) (for 7 (family g))) → Fault es (for 7 (family g)) at
-  all_families es at e h = rw e (fault_all es (for 7 (family g)) h)
-
 -- the formula's families are those of the parts that show the instance
-pub whole : (I : Instance) (s : Sizes) (starts goals near : List ℕ) → Shows I s starts goals near → Edges I → (es : List ℤ) (r : ℕ)
-    → Fault es (for 7 (family (held_in s starts goals near))) r → Fault es (clauses I) r
-whole I s starts goals near w h es r f = subst (λ (L : List Clause). Fault es L r) (sym (families_shown I s starts goals near w h)) f
+pub whole : (I : Instance) (s : Sizes) (starts goals near : List ℕ) → Shows I s starts goals near → Edges I → (es : List ℤ) (r : Option ℕ)
+    → Failing es (for 7 (family (held_in s starts goals near))) r → Failing es (clauses I) r
+whole I s starts goals near w h es r f = subst (λ (L : List Clause). Failing es L r) (sym (families_shown I s starts goals near w h)) f
 
 -- ---- of entries that have been read
 -- where one vertex is left to each agent at each time, the pass has found it
@@ -161,7 +177,7 @@ module _ (g : Given) (es : List ℤ) (p : List ℕ) (rd : Read g.sizes es p) whe
 
   -- and F takes each agent across an edge, or leaves it
   pub sound : s.n ≤ 64 → (which : ℕ) → 6 ≤ which → Before g es which → (t : ℕ) → t < s.m → Sound s g.near p t
-  unfolding Before family F
+  unfolding Before family formula.F
   sound h which l o t x =
       let c = places which (omega arith) o in
       record {

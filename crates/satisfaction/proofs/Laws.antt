@@ -14,18 +14,19 @@ use lib.ListN.{length, get_or, length-append, get_or-append}
 use lib.Seq.{get_or-append-add}
 use lib.Dec.{T, ltb, eqb}
 use lib.IntN.{ℤ}
+use Rattle.std.specs.Prelude.{Option, None, Some, IsSome}
 use Rattle.lists.specs.Loop.{for, when, all}
 use Rattle.lists.proofs.Tests.{ltb_iff}
 use Rattle.lists.proofs.Loops.{for_all, when_all, one_all, all_append, all_get_d, for_split, for_length, for_ext, for_above}
-use Rattle.lists.proofs.Blocks.{for1_length, for1_get_or}
+use Rattle.lists.proofs.Blocks.{for1_length, for1_get_or, place_lt}
 use Rattle.lists.proofs.Slices.{for_room}
 use Rattle.lists.proofs.Sums.{others_length}
 use Rattle.lists.specs.Pairs.{pairs_below}
 use Rattle.lists.proofs.Pairs.{beginning, beginning_length, lower_below}
-use Rattle.answers.specs.Fault.{FirstFault}
+use Rattle.answers.specs.Fault.{FirstFault, FirstFailing}
 use Rattle.formula.specs.Formula.{Clause}
 use Rattle.valuation.specs.Valuation.{satisfied?}
-use Rattle.satisfaction.specs.Rows.{Fault, Stop, Tallied}
+use Rattle.satisfaction.specs.Rows.{Fault, Failing, Stop, Stopping, Tallied}
 
 -- a search from `low` on: the numbers below i pass
 module _ (test : ℕ → Bool) (low n i : ℕ) (b : (j : ℕ) → low ≤ j → j < i → T (test j)) where
@@ -38,6 +39,11 @@ module _ (test : ℕ → Bool) (low n i : ℕ) (b : (j : ℕ) → low ≤ j → 
   pub stop_none : low ≤ i → i ≡ n → Stop test low n n
   stop_none h e =
       record { least = omega arith; within = le_refl n; before = λ j r l. b j r (omega arith); here = λ r. absurd (let f : ⊥ = omega arith in f) }
+
+-- it comes to one, where it would not come to n
+pub stop_some : {test : ℕ → Bool} {low n : ℕ} (r : Option ℕ) → Stopping test low n r → (Stop test low n n → n < n) → IsSome r
+stop_some None f h = absurd (let l = h f in let z : ⊥ = omega arith in z)
+stop_some (Some x) f h = refl
 
 -- the blocks of the numbers below b other than a, where o is b's place among the numbers other than a
 pub others_before : {A : Type 0} (c a b o : ℕ) (f : ℕ → List A) → ((i : ℕ) → i < b → length (f i) ≡ c) → b ≢ a → (b < a → o ≡ b) → (a < b → o ≡ b - 1)
@@ -88,10 +94,24 @@ module _ (es : List ℤ) where
   unfolding Fault
   fault_passed L r f h = (all_get_d [] sat L).1 (λ i l. f.before i (omega arith))
 
+  -- it stands at r
+  pub failing_at : (L : List Clause) (r : ℕ) → r < length L → Fault es L r → Failing es L (Some r)
+  unfolding Failing Fault
+  failing_at L r l f = (l, f)
+
   pub fault_all : (L : List Clause) → T (all sat L) → Fault es L (length L)
   unfolding Fault
   fault_all L t =
       record { within = le_refl _; before = λ i l. (all_get_d [] sat L).0 t i l; here = λ l. absurd (let f : ⊥ = omega arith in f) }
+
+  -- there is none
+  pub failing_none : (L : List Clause) → T (all sat L) → Failing es L None
+  unfolding Failing Fault
+  failing_none L t = fault_all L t
+
+  pub failing_below : (L : List Clause) (r : ℕ) → Failing es L (Some r) → r < length L
+  unfolding Failing
+  failing_below L r f = f.0
 
   -- in the first of two lists, or in the second
   pub fault_left : (L M : List Clause) (r : ℕ) → Fault es L r → r < length L → Fault es (L ++ M) r
@@ -133,6 +153,16 @@ module _ (es : List ℤ) where
   blocks_stop f c n i r len l t h o =
       subst (λ (x : ℕ). Fault es (for n f) (x + r)) (for_length i c f (λ j q. len j)) (for_stop f n i r l t h (omega (arith, len i)))
 
+  pub for_failing : (f : ℕ → List Clause) (n i r : ℕ) → i < n → T (all sat (for i f)) → Fault es (f i) r → r < length (f i)
+      → Failing es (for n f) (Some (length (for i f) + r))
+  for_failing f n i r l t h o =
+      failing_at (for n f) (length (for i f) + r) (omega (arith, for_room f l)) (for_stop f n i r l t h o)
+
+  pub blocks_failing : (f : ℕ → List Clause) (c n i r : ℕ) → ((j : ℕ) → length (f j) ≡ c) → i < n → T (all sat (for i f)) → Fault es (f i) r → r < c
+      → Failing es (for n f) (Some (i * c + r))
+  blocks_failing f c n i r len l t h o =
+      failing_at (for n f) (i * c + r) (omega (arith, for_length n c f (λ j q. len j), place_lt n c i r l o)) (blocks_stop f c n i r len l t h o)
+
   pub blocks_pass : (f : ℕ → List Clause) (c n : ℕ) → ((j : ℕ) → length (f j) ≡ c) → T (all sat (for n f)) → Fault es (for n f) (n * c)
   blocks_pass f c n len t =
       subst (λ (x : ℕ). Fault es (for n f) x) (for_length n c f (λ j q. len j)) (fault_all (for n f) t)
@@ -140,6 +170,10 @@ module _ (es : List ℤ) where
   pub block_passed : (f : ℕ → List Clause) (i r : ℕ) → T (all sat (for i f)) → Fault es (f i) r → length (f i) ≤ r → T (all sat (for (i + 1) f))
   block_passed f i r t h o =
       subst (λ (j : ℕ). T (all sat (for j f))) (sym (add-one i)) ((all_append sat (for i f) (f i)).1 (t, fault_passed (f i) r h o))
+
+  pub row_passed : (f : ℕ → List Clause) (i : ℕ) → T (all sat (for i f)) → Failing es (f i) None → T (all sat (for (i + 1) f))
+  unfolding Failing Fault
+  row_passed f i t h = block_passed f i (length (f i)) t h (le_refl _)
 
   -- one clause a turn
   pub singles : (c : ℕ) (h : ℕ → Clause) (r : ℕ) → FirstFault c (λ i. sat (h i)) r → Fault es (for c λ i. h i ∷ []) r
@@ -152,6 +186,12 @@ module _ (es : List ℤ) where
             let l' : r < c = omega (arith, for1_length c h) in
             f.here l' (subst (λ (x : Clause). T (sat x)) (for1_get_or c h [] r l') t);
       }
+
+  pub singles_failing : (c : ℕ) (h : ℕ → Clause) (r : Option ℕ) → FirstFailing c (λ i. sat (h i)) r → Failing es (for c λ i. h i ∷ []) r
+  unfolding Failing Fault
+  singles_failing c h None f =
+      subst (FirstFault (length (for c λ i. h i ∷ [])) (λ i. sat (get_or (for c λ i. h i ∷ []) i []))) (sym (for1_length c h)) (singles c h c f)
+  singles_failing c h (Some r) f = (omega (arith, for1_length c h, f.0), singles c h r f.1)
 
   -- pairs v < w of numbers that pass a test q: a clause for each pair, without a true literal where both pass
   module _ (n : ℕ) (g : ℕ → ℕ → Clause) (q : ℕ → Bool)

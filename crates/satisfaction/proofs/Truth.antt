@@ -5,12 +5,14 @@ use mathlib.Core.List.{List, [], ◌∷◌}
 use mathlib.Core.Bool.{Bool, not, ◌||◌}
 use Prim.Native.Nat.{ℕ, suc, ◌+◌, ◌*◌, ◌-◌, ◌/◌, ◌≤◌, ◌<◌}
 use native.Mathlib.Nat.{le_refl}
+use native.Mathlib.Numerals.{add-one}
 use native.Mathlib.Decide.{dec_lt, ℕ_discrete}
 use native.Mathlib.Omega.{arith}
 use borrow.Author.Tests.{ne_eqb}
-use lib.ListN.{length, get_or}
+use lib.ListN.{length}
 use lib.Dec.{T, eqb}
 use lib.IntN.{ℤ}
+use Rattle.std.specs.Prelude.{Option, None, Some}
 use Rattle.lists.specs.Loop.{for, when, all, every}
 use Rattle.lists.proofs.Tests.{or_imp, not_iff, eqb_iff}
 use Rattle.lists.proofs.Loops.{for_all, one_all, when_all, for_any, when_any, any_one, any_two, for_length}
@@ -18,7 +20,8 @@ use Rattle.lists.proofs.Blocks.{for1_length}
 use Rattle.lists.proofs.Slices.{for_room}
 use Rattle.lists.specs.Pairs.{pairs_below}
 use Rattle.lists.proofs.Sums.{others_length}
-use Rattle.answers.specs.Fault.{FirstFault}
+use Rattle.answers.specs.Fault.{FirstFault, FirstFailing}
+use Rattle.answers.proofs.Faults.{failing_map}
 use Rattle.instance.specs.declared.Sizes.{Sizes}
 use Rattle.formula.specs.Variables.{X, ¬X, index, variable_count}
 use Rattle.formula.proofs.Places.{two_length}
@@ -29,10 +32,10 @@ use Rattle.valuation.specs.Satisfying.{Valuation}
 use Rattle.valuation.specs.Places.{Places}
 use Rattle.formula.proofs.Variables.{run_fits, vertices_run}
 use Rattle.valuation.proofs.Entries.{true_no}
-use Rattle.satisfaction.specs.Rows.{Fault, Stop, says, denies, Seen, Read, Lowest}
+use Rattle.satisfaction.specs.Rows.{Fault, Failing, Stop, says, denies, Seen, Read, Lowest}
 use Rattle.satisfaction.proofs.Entries.{right_says, skip_le, read_true, right_at}
 use Rattle.satisfaction.proofs.Steps.{keeps_or, Enters}
-use Rattle.satisfaction.proofs.Laws.{others_before, blocks_stop, blocks_pass, fault_all, for_stop, singles, pairs_pass, pairs_two}
+use Rattle.satisfaction.proofs.Laws.{others_before, blocks_failing, failing_none, for_stop, for_failing, singles, singles_failing, pairs_pass, pairs_two}
 
 -- agent a does not go where agent b stood
 abbrev follows : Sizes → ℕ → ℕ → ℕ → List Clause
@@ -78,20 +81,20 @@ module _ (s : Sizes) (es : List ℤ) (w : Valuation (variable_count s) es) where
     abbrev seen : (a : ℕ) → a < k → Seen n (q t a) (plan_row s p t a)
     seen a y = rd.seen t a x y
 
-    pub in_C : (z r : ℕ) → z ≡ n → FirstFault k (λ a. not (eqb (get_or p (t * k + a) 0) z)) r → Fault es (for k (block_c s t)) r
-    in_C z r e f =
-        singles es k (somewhere s t) r
+    pub in_C : (r : Option ℕ) → FirstFailing k (λ a. not (eqb (plan_row s p t a) n)) r → Failing es (for k (block_c s t)) r
+    in_C r g =
+        singles_failing es k (somewhere s t) r (failing_map r (λ i f.
         record {
           within = f.within;
           before = λ a l.
               let y : a < k = omega (arith, f.within) in
-              let d : plan_row s p t a ≢ n = λ o. simp (not_iff, eqb_iff) at (f.before a l) (o ∙ sym e) in
+              let d : plan_row s p t a ≢ n = λ o. simp (not_iff, eqb_iff) at (f.before a l) o in
               let (v, l', o) = some_vertex a y d in
               (for_any (true? es) n _).1 (v, l', (any_one (true? es) _).1 o);
           here = λ l h.
               let (v, l', o) = (for_any (true? es) n _).0 h in
-              f.here l (simp (not_iff, eqb_iff) (λ i. (seen r l).none (i ∙ e) v l' ((any_one (true? es) _).0 o)));
-        }
+              f.here l (simp (not_iff, eqb_iff) (λ e. (seen i l).none e v l' ((any_one (true? es) _).0 o)));
+        }) g)
       where
         some_vertex : (a : ℕ) → (y : a < k) → plan_row s p t a ≢ n → (v : ℕ) × (v < n) × T (q t a v)
         some_vertex a y d =
@@ -116,19 +119,16 @@ module _ (s : Sizes) (es : List ℤ) (w : Valuation (variable_count s) es) where
     passed_D : (a : ℕ) → a ≤ k → ((b : ℕ) → b < a → plan_row s p t b ≢ suc n) → T (all sat (for a (block_d s t)))
     passed_D a l h = (for_all sat a (block_d s t)).1 (λ b o. pass_D b (omega arith) (h b o))
 
-    module _ (z a : ℕ) (e : z ≡ suc n) (f : FirstFault k (λ b. not (eqb (get_or p (t * k + b) 0) z)) a) where
+    -- a is the first agent with several, or k
+    module _ (a : ℕ) (f : FirstFault k (λ b. not (eqb (plan_row s p t b) (n + 1))) a) where
       below_D : (b : ℕ) → b < a → plan_row s p t b ≢ suc n
-      below_D b l o = simp (not_iff, eqb_iff) at (f.before b l) (o ∙ sym e)
+      below_D b l o = simp (not_iff, eqb_iff) at (f.before b l) (o ∙ sym (add-one n))
 
-      pub none_D : a ≡ k → Fault es (for k (block_d s t)) (k * (n * (n - 1) / 2))
-      none_D o =
-          blocks_pass es (block_d s t) (n * (n - 1) / 2) k (length_D s t) (passed_D k (le_refl k) (λ b l. below_D b (omega arith)))
+      pub none_D : a ≡ k → Failing es (for k (block_d s t)) None
+      none_D o = failing_none es (for k (block_d s t)) (passed_D k (le_refl k) (λ b l. below_D b (omega arith)))
 
       -- the first two that are not denied: v and u are entries of the row, which begins at b, and no other before u says its variable
-      module _ (d : a ≢ k) (b v u : ℕ) (begins : b ≡ index s t a 0) (g : Stop (denies es) b (b + n) v) where
-        agent_D : a < k
-        agent_D = omega (arith, f.within)
-
+      module _ (agent_D : a < k) (b v u : ℕ) (begins : b ≡ index s t a 0) (g : Stop (denies es) b (b + n) v) where
         place_q : (y : ℕ) → b + y ≡ index s t a y
         place_q y = omega (arith, vertices_run s t a y)
 
@@ -137,7 +137,7 @@ module _ (s : Sizes) (es : List ℤ) (w : Valuation (variable_count s) es) where
 
         two_D : (v' u' : ℕ) × (v' < u') × (u' < n) × T (q t a v') × T (q t a u')
         two_D =
-            (seen a agent_D).several (by_cases (ℕ_discrete (plan_row s p t a) (suc n)) (λ o. o) (λ o. absurd (f.here agent_D (simp (not_iff, eqb_iff) (λ i. o (i ∙ e))))))
+            (seen a agent_D).several (by_cases (ℕ_discrete (plan_row s p t a) (suc n)) (λ o. o) (λ o. absurd (f.here agent_D (simp (not_iff, eqb_iff) (λ i. o (i ∙ add-one n))))))
 
         pub first_D : v < b + n
         first_D = let (v', u', r, r', i, j) = two_D in omega (arith, skip_le es b (b + n) v (b + v') g (omega arith) (says_q v' (omega arith) i))
@@ -148,7 +148,7 @@ module _ (s : Sizes) (es : List ℤ) (w : Valuation (variable_count s) es) where
             let hv = skip_le es b (b + n) v (b + v') g (omega arith) (says_q v' (omega arith) i) in
             omega (arith, skip_le es (v + 1) (b + n) u (b + u') h (omega arith) (says_q u' r' j))
 
-        pub here_D : Stop (denies es) (v + 1) (b + n) u → Fault es (for k (block_d s t)) (a * (n * (n - 1) / 2) + (pairs_below n (v - b) + (u - v - 1)))
+        pub here_D : Stop (denies es) (v + 1) (b + n) u → Failing es (for k (block_d s t)) (Some (a * (n * (n - 1) / 2) + (pairs_below n (v - b) + (u - v - 1))))
         here_D h =
             let l = agent_D in
             let lv = first_D in
@@ -169,7 +169,7 @@ module _ (s : Sizes) (es : List ℤ) (w : Valuation (variable_count s) es) where
             let k₁ = skip_le es b (b + n) v (b + y) g (omega arith) c in
             by_cases (dec_lt v (b + y)) (λ lt'. let k₂ = skip_le es (v + 1) (b + n) u (b + y) h (omega arith) c in absurd (let z : ⊥ = omega arith in z)) (λ lt'. omega arith)) in
             let at : ℕ = pairs_below n (v - b) in
-            blocks_stop es (block_d s t) (n * (n - 1) / 2) k a (at + (u - v - 1)) (length_D s t) l (passed_D a (omega arith) below_D)
+            blocks_failing es (block_d s t) (n * (n - 1) / 2) k a (at + (u - v - 1)) (length_D s t) l (passed_D a (omega arith) below_D)
             (subst (λ (y : ℕ). Fault es (block_d s t a) (at + y)) e' two.0)
             (omega (arith, two.1, length_D s t a, e'))
 
@@ -197,26 +197,23 @@ module _ (s : Sizes) (es : List ℤ) (w : Valuation (variable_count s) es) (P : 
       below_E : (y : ℕ) → y < v → T (all sat_p (block_e s t y))
       below_E y l = pass_E y (omega (arith, f.within)) (λ a b o l' e e'. let h = f.before a b o l' (e ∙ sym e') in omega arith)
 
-      pub none_E : v ≡ n → Fault es (for n (block_e s t)) (n * (k * (k - 1) / 2))
-      none_E e =
-          blocks_pass es (block_e s t) (k * (k - 1) / 2) n (length_E s t)
-          ((for_all sat_p n (block_e s t)).1 (λ y l. below_E y (omega arith)))
+      pub none_E : v ≡ n → Failing es (for n (block_e s t)) None
+      none_E e = failing_none es (for n (block_e s t)) ((for_all sat_p n (block_e s t)).1 (λ y l. below_E y (omega arith)))
 
       -- a is the first agent on v, and b counts the agents from there to the next
-      pub here_E : v ≢ n → (z a b : ℕ) → z ≡ v → FirstFault k (λ i. not (eqb (P t i) z)) a → FirstFault (k - a - 1) (λ i. not (eqb (P t (a + 1 + i)) z)) b
-          → Fault es (for n (block_e s t)) (v * (k * (k - 1) / 2) + (pairs_below k a + b))
-      here_E d z a b e g h =
-          let l : v < n = omega (arith, f.within) in
+      pub here_E : v < n → (a b : ℕ) → FirstFault k (λ i. not (eqb (P t i) v)) a → FirstFault (k - a - 1) (λ i. not (eqb (P t (a + 1 + i)) v)) b
+          → Failing es (for n (block_e s t)) (Some (v * (k * (k - 1) / 2) + (pairs_below k a + b)))
+      here_E l a b g h =
           let (a', b', o, r, i, j) = f.here l in
-          let before_a : (y : ℕ) → y < a → P t y ≢ v = λ y lt q. simp (not_iff, eqb_iff) at (g.before y lt) (q ∙ sym e) in
+          let before_a : (y : ℕ) → y < a → P t y ≢ v = λ y lt q. simp (not_iff, eqb_iff) at (g.before y lt) q in
           let la : a ≤ a' = by_cases (dec_lt a' a) (λ lt. absurd (before_a a' lt i)) (λ lt. omega arith) in
           let before_b : (y : ℕ) → a < y → y < a + 1 + b → P t y ≢ v =
           λ y lt lt' q.
-          let q' : P t (a + 1 + (y - a - 1)) ≡ z = (let q'' : a + 1 + (y - a - 1) ≡ y = omega arith in rw q'' (q ∙ sym e)) in
+          let q' : P t (a + 1 + (y - a - 1)) ≡ v = (let q'' : a + 1 + (y - a - 1) ≡ y = omega arith in rw q'' q) in
           simp (not_iff, eqb_iff) at (h.before (y - a - 1) (omega arith)) q' in
           let lb : a + 1 + b ≤ b' = by_cases (dec_lt b' (a + 1 + b)) (λ lt. absurd (before_b b' (omega arith) lt j)) (λ lt. omega arith) in
-          let stands : (y : ℕ) → (T (not (eqb (P t y) z)) → ⊥) → v ≡ P t y =
-          λ y q. by_cases (ℕ_discrete (P t y) v) (λ p. sym p) (λ p. absurd (q (simp (not_iff, eqb_iff) (λ p'. p (p' ∙ e))))) in
+          let stands : (y : ℕ) → (T (not (eqb (P t y) v)) → ⊥) → v ≡ P t y =
+          λ y q. by_cases (ℕ_discrete (P t y) v) (λ p. sym p) (λ p. absurd (q (simp (not_iff, eqb_iff) p))) in
           let two = pairs_two es k (λ a b. ¬X s t a v ∷ ¬X s t b v ∷ []) (λ a. q_p t a v) (iff_e v l) a (a + 1 + b) (omega arith) (omega arith)
           ((c.here t a v x (omega arith) l).1 (stands a (g.here (omega arith))))
           ((c.here t (a + 1 + b) v x (omega arith) l).1 (stands (a + 1 + b) (h.here (omega arith))))
@@ -224,7 +221,7 @@ module _ (s : Sizes) (es : List ℤ) (w : Valuation (variable_count s) es) (P : 
           let q' = sym ((c.here t y v x (omega arith) l).0 q) in
           by_cases (dec_lt y a) (λ p. absurd (before_a y p q')) (λ p. by_cases (dec_lt a y) (λ p'. absurd (before_b y p' lt q')) (λ p'. omega arith))) in
           let e' : a + 1 + b - a - 1 ≡ b = omega arith in
-          blocks_stop es (block_e s t) (k * (k - 1) / 2) n v (pairs_below k a + b) (length_E s t) l
+          blocks_failing es (block_e s t) (k * (k - 1) / 2) n v (pairs_below k a + b) (length_E s t) l
           ((for_all sat_p v (block_e s t)).1 below_E)
           (subst (λ (y : ℕ). Fault es (block_e s t v) (pairs_below k a + y)) e' two.0)
           (omega (arith, two.1, length_E s t v, e'))
@@ -279,16 +276,14 @@ module _ (s : Sizes) (es : List ℤ) (w : Valuation (variable_count s) es) (P : 
       below_F a l =
           pass_F a (omega (arith, f.within)) (λ d. (or_imp (eqb (P t a) (P (suc t) a)) _).0 (f.before a l) (λ e. d ((eqb_iff _ _).0 e)))
 
-      pub none_row_f : r ≡ k → Fault es (for k (block_f s near t)) (k * n)
-      none_row_f e =
-          blocks_pass es (block_f s near t) n k (length_F s near t) ((for_all sat_p k _).1 (λ a l. below_F a (omega arith)))
+      pub none_row_f : r ≡ k → Failing es (for k (block_f s near t)) None
+      none_row_f e = failing_none es (for k (block_f s near t)) ((for_all sat_p k _).1 (λ a l. below_F a (omega arith)))
 
-      pub here_row_f : r ≢ k → Fault es (for k (block_f s near t)) (r * n + P t r)
-      here_row_f d =
-          let l : r < k = omega (arith, f.within) in
+      pub here_row_f : r < k → Failing es (for k (block_f s near t)) (Some (r * n + P t r))
+      here_row_f l =
           let no : (T (eqb (P t r) (P (suc t) r)) → ⊥) × (T (near (P t r) (P (suc t) r)) → ⊥) =
           ((λ e. f.here l ((or_imp (eqb (P t r) (P (suc t) r)) _).1 (λ h. absurd (h e)))), (λ o. f.here l ((or_imp (eqb (P t r) (P (suc t) r)) _).1 (λ h. o)))) in
-          blocks_stop es (block_f s near t) n k r (P t r) (length_F s near t) l
+          blocks_failing es (block_f s near t) n k r (P t r) (length_F s near t) l
           ((for_all sat_p r _).1 below_F)
           (here_F r l (λ e. no.0 ((eqb_iff _ _).1 e)) no.1)
           (c.inside t r (omega arith) l)
@@ -344,17 +339,16 @@ module _ (s : Sizes) (es : List ℤ) (w : Valuation (variable_count s) es) (P : 
           (λ q. by_cases (dec_lt a b) (λ p. apart a b p o (q ∙ sym e)) (λ p. apart b a (omega arith) y (e ∙ sym q)))
           (λ q. (keeps_or k (P t) (P (suc t)) a).0 (f.before a l) q b o e))
 
-      pub none_row_g : r ≡ k → Fault es (for k (no_following s t)) (k * ((k - 1) * n))
-      none_row_g e =
-          subst (Fault es (for k (no_following s t))) (for_length k ((k - 1) * n) (no_following s t) (λ a l. length_G s t a l))
-          (fault_all es (for k (no_following s t)) ((for_all sat_p k _).1 (λ a l. below_G a (omega arith))))
+      pub none_row_g : r ≡ k → Failing es (for k (no_following s t)) None
+      none_row_g e = failing_none es (for k (no_following s t)) ((for_all sat_p k _).1 (λ a l. below_G a (omega arith)))
 
-      pub here_row_g : (b i : ℕ) → Enters k (P t) (P (suc t)) r b → (b < r → i ≡ b) → (r < b → i ≡ b - 1) → Fault es (for k (no_following s t)) (r * ((k - 1) * n) + (i * n + P (suc t) r))
+      pub here_row_g : (b i : ℕ) → Enters k (P t) (P (suc t)) r b → (b < r → i ≡ b) → (r < b → i ≡ b - 1)
+          → Failing es (for k (no_following s t)) (Some (r * ((k - 1) * n) + (i * n + P (suc t) r)))
       here_row_g b i en h h' =
           let l = en.agent in
           let d = en.another in
           let e : length (for b (other r)) ≡ i * n = others_before n r b i (follows s t r) (λ i o. for1_length n _) d h h' in
           let (g, o) = here_others r b l en.stander d (λ i lt q. en.before i lt) en.stood in
-          subst (λ (x : ℕ). Fault es (for k (no_following s t)) (r * ((k - 1) * n) + (x + P (suc t) r))) e
-          (subst (λ (x : ℕ). Fault es (for k (no_following s t)) (x + (length (for b (other r)) + P (suc t) r))) (for_length r ((k - 1) * n) (no_following s t) (λ a o. length_G s t a (omega arith)))
-          (for_stop es (no_following s t) k r (length (for b (other r)) + P (suc t) r) l ((for_all sat_p r _).1 below_G) g (omega (arith, length_G s t r l))))
+          subst (λ (x : ℕ). Failing es (for k (no_following s t)) (Some (r * ((k - 1) * n) + (x + P (suc t) r)))) e
+          (subst (λ (x : ℕ). Failing es (for k (no_following s t)) (Some (x + (length (for b (other r)) + P (suc t) r)))) (for_length r ((k - 1) * n) (no_following s t) (λ a o. length_G s t a (omega arith)))
+          (for_failing es (no_following s t) k r (length (for b (other r)) + P (suc t) r) l ((for_all sat_p r _).1 below_G) g (omega (arith, length_G s t r l))))

@@ -1,32 +1,33 @@
 -- A and B: clauses of one literal, in B those of the agents that have a goal. Where the first without a true literal stands.
 use mathlib.Core.Path.{◌≡◌, subst}
-use mathlib.Core.Logic.{inl, inr, by_cases}
+use mathlib.Core.Logic.{inl, inr}
 use mathlib.Core.List.{List, [], ◌∷◌}
 use mathlib.Core.Bool.{true, not, ◌||◌}
 use Prim.Native.Nat.{ℕ, ◌+◌, ◌<◌}
 use native.Mathlib.Nat.{not-suc-le-zero}
-use native.Mathlib.Decide.{dec_lt}
 use native.Mathlib.Omega.{arith}
 use lib.ListN.{length}
 use lib.Dec.{T}
 use lib.IntN.{ℤ}
+use Rattle.std.specs.Prelude.{Option, None, Some}
+use Rattle.std.specs.Option.{option_map}
 use Rattle.lists.specs.Loop.{for, when, all}
 use Rattle.lists.proofs.Tests.{or_iff, or_imp, not_iff}
 use Rattle.lists.proofs.Loops.{for_all, one_all, when_all, any_one}
-use Rattle.answers.specs.Fault.{FirstFault}
-use Rattle.answers.proofs.Faults.{T_true, fault_at}
+use Rattle.answers.specs.Fault.{FirstFailing}
+use Rattle.answers.proofs.Faults.{T_true, fault_at, failing_map}
 use Rattle.instance.specs.Instance.{free, goal_count}
 use Rattle.instance.proofs.Goals.{goals_once}
 use Rattle.formula.specs.Variables.{Literal}
 use Rattle.formula.specs.Formula.{Clause}
 use Rattle.valuation.specs.Valuation.{true?, satisfied?}
-use Rattle.satisfaction.specs.Rows.{Fault}
-use Rattle.satisfaction.proofs.Laws.{fault_all, for_stop, singles}
+use Rattle.satisfaction.specs.Rows.{Fault, Failing}
+use Rattle.satisfaction.proofs.Laws.{failing_none, for_failing, singles, singles_failing}
 
-pub units : (es : List ℤ) (k : ℕ) (x : ℕ → Literal) (r : ℕ) → FirstFault k (λ a. true? es (x a)) r → Fault es (for k λ a. (x a ∷ []) ∷ []) r
+pub units : (es : List ℤ) (k : ℕ) (x : ℕ → Literal) (r : Option ℕ) → FirstFailing k (λ a. true? es (x a)) r → Failing es (for k λ a. (x a ∷ []) ∷ []) r
 units es k x r f =
-    singles es k (λ a. x a ∷ []) r
-    record { within = f.within; before = λ i l. (any_one (true? es) (x i)).1 (f.before i l); here = λ l h. f.here l ((any_one (true? es) (x r)).0 h) }
+    singles_failing es k (λ a. x a ∷ []) r (failing_map r (λ r f.
+    record { within = f.within; before = λ i l. (any_one (true? es) (x i)).1 (f.before i l); here = λ l h. f.here l ((any_one (true? es) (x r)).0 h) }) f)
 
 module _ (es : List ℤ) (goal : ℕ → ℕ) (x : ℕ → Literal) where
   abbrev at_goal_lem : ℕ → List Clause
@@ -47,15 +48,11 @@ module _ (es : List ℤ) (goal : ℕ → ℕ) (x : ℕ → Literal) where
         omega arith,
       )
 
-  pub goal_units : (k r : ℕ) → FirstFault k (λ a. free (goal a) || true? es (x a)) r → Fault es (for k at_goal_lem) (goal_count r goal)
-  goal_units k r f =
+  -- how many agents with a goal come before the first that fails
+  pub goal_units : (k : ℕ) (r : Option ℕ) → FirstFailing k (λ a. free (goal a) || true? es (x a)) r → Failing es (for k at_goal_lem) (option_map (λ a. goal_count a goal) r)
+  goal_units k None f = failing_none es (for k at_goal_lem) (goals_pass k f.before)
+  goal_units k (Some r) (l, f) =
       let count : length (for r at_goal_lem) ≡ goal_count r goal = goals_once goal r (λ a. x a ∷ []) in
-      let all-before = goals_pass r f.before in
-      by_cases (dec_lt r k)
-      (λ l.
       let (stop, some) = goal_stops r (f.here l) in
       let e : length (for r at_goal_lem) + 0 ≡ goal_count r goal = omega (arith, count) in
-      subst (Fault es (for k at_goal_lem)) e (for_stop es at_goal_lem k r 0 l all-before stop some))
-      (λ l.
-      let e : r ≡ k = omega (arith, f.within) in
-      subst (λ (j : ℕ). Fault es (for j at_goal_lem) (goal_count r goal)) e (subst (Fault es (for r at_goal_lem)) count (fault_all es (for r at_goal_lem) all-before)))
+      subst (λ (y : ℕ). Failing es (for k at_goal_lem) (Some y)) e (for_failing es at_goal_lem k r 0 l (goals_pass r f.before) stop some)

@@ -1,20 +1,25 @@
 -- The clauses of a family, one time after another, and what a pass over the entries finds. They stand in the contracts of inner functions.
-use Rattle.std.specs.Prelude.{◌≡◌, ◌↔◌, ◌≢◌, List, [], Bool, ◌&&◌, ℕ, suc, ◌^◌, ◌≤◌, ◌<◌, length, get_or, T, ltb, eqb, ℤ, pos, neg_ℤ}
-use Rattle.lists.specs.Loop.{for, all, some}
-use Rattle.answers.specs.Fault.{FirstFault}
+use Rattle.std.specs.Prelude.{◌≡◌, ◌↔◌, ◌≢◌, List, [], Bool, not, ◌&&◌, ℕ, suc, ◌+◌, ◌≤◌, ◌<◌, length, get_or, T, ltb, eqb, ℤ, pos, neg_ℤ, Option, None, Some, Result, Ok, Err}
+use Rattle.lists.specs.Loop.{for, all, some, every}
+use Rattle.answers.specs.Fault.{FirstFault, FirstFailing}
 use Rattle.instance.specs.declared.Sizes.{Sizes}
-use Rattle.instance.specs.Instance.{joined, edges_before}
 use Rattle.formula.specs.Variables.{X, variable_count}
 use Rattle.formula.specs.Formula.{Clause}
 use Rattle.formula.specs.Blocks.{Given, blocks_at, family, block}
 use Rattle.conditions.specs.Inside.{Inside}
 use Rattle.plan.specs.Plan.{Row, plan_bytes, plan_row, condition1}
-use Rattle.valuation.specs.Valuation.{entry, same_number, true?, satisfied?}
+use Rattle.valuation.specs.Valuation.{entry, same_number, true?, satisfied?, right_entry}
 use Rattle.valuation.specs.Satisfying.{Valuation}
+use Rattle.satisfaction.specs.declared.Said.{Said}
+use Rattle.satisfaction.specs.declared.Said.TheVariants.{Nothing, One, Several}
 
 -- r is the place of the first of the clauses without a true literal, or their number where each has one
 unfoldable pub Fault : List ℤ → List Clause → ℕ → Type 0
 Fault entries clauses r = FirstFault (length clauses) (λ i. satisfied? entries (get_or clauses i [])) r
+
+-- the same as an option: the place of the first without one, or none
+unfoldable pub Failing : List ℤ → List Clause → Option ℕ → Type 0
+Failing entries clauses r = FirstFailing (length clauses) (λ i. satisfied? entries (get_or clauses i [])) r
 
 -- r is the first number from `low` on, below n, that fails the test, or n
 pub record Stop (test : ℕ → Bool) (low n r : ℕ) : Type 0 where
@@ -22,6 +27,11 @@ pub record Stop (test : ℕ → Bool) (low n r : ℕ) : Type 0 where
   pub within : r ≤ n
   pub before : (i : ℕ) → low ≤ i → i < r → T (test i)
   pub here : r < n → T (test r) → ⊥
+
+-- the same as an option
+abbrev pub Stopping : (ℕ → Bool) → ℕ → ℕ → Option ℕ → Type 0
+Stopping test low n (Some r) = (r < n) × Stop test low n r
+Stopping test low n None = Stop test low n n
 
 -- of the numbers below n: how many fail the test, and the sum of those that do
 pub record Tallied (test : ℕ → Bool) (n count sum : ℕ) : Type 0 where
@@ -44,25 +54,36 @@ pub record Seen (n : ℕ) (test : ℕ → Bool) (x : ℕ) : Type 0 where
   pub none : x ≡ n → (v : ℕ) → v < n → T (test v) → ⊥
   pub several : x ≡ suc n → (v w : ℕ) × (v < w) × (w < n) × T (test v) × T (test w)
 
+-- what entries say, as the number that Seen speaks of
+abbrev pub byte_of : ℕ → Said → ℕ
+byte_of n Nothing = n
+byte_of n (One v) = v
+byte_of n Several = suc n
+
+-- what n entries from `base` on come to: the first wrong one, or what they say
+abbrev pub Came : List ℤ → ℕ → ℕ → Result Said ℕ → Type 0
+Came entries base n (Ok said) = Stopping (right_entry entries) base (base + n) None × Seen n (λ v. says entries (base + v)) (byte_of n said)
+Came entries base n (Err wrong) = Stopping (right_entry entries) base (base + n) (Some wrong)
+
 -- r is the lowest number below n that P gives to two numbers below k, or n
 pub record Lowest (k : ℕ) (P : ℕ → ℕ) (n r : ℕ) : Type 0 where
   pub within : r ≤ n
   pub before : (a b : ℕ) → a < b → b < k → P a ≡ P b → r ≤ P a
   pub here : r < n → (a b : ℕ) × (a < b) × (b < k) × (P a ≡ r) × (P b ≡ r)
 
+-- the same as an option
+abbrev pub LowestShared : ℕ → (ℕ → ℕ) → ℕ → Option ℕ → Type 0
+LowestShared k P n (Some r) = (r < n) × Lowest k P n r
+LowestShared k P n None = Lowest k P n n
+
 module _ (s : Sizes) where
-  open s use {n, k, e, m}
+  open s use {n, k, m}
 
   -- byte t·k + a of p is what the entries say of agent a at time t
   pub record Read (entries : List ℤ) (p : List ℕ) : Type 0 where
     pub size : length p ≡ plan_bytes s
     pub valid : Valuation (variable_count s) entries
     pub seen : (t a : ℕ) → t < suc m → a < k → Seen n (λ v. true? entries (X s t a v)) (plan_row s p t a)
-
-  -- the words of neighbours hold e edges, and no bit from n on
-  pub record Graph (near : List ℕ) : Type 0 where
-    pub edged : e ≡ edges_before (joined near) n n 0
-    pub words_below : (v : ℕ) → v < 64 → get_or near v 0 < 2 ^ n
 
   -- what families C to F leave to G of the plan p, at a time t of G's: each agent is at a vertex, no two share one, and each keeps its
   -- vertex or crosses an edge
@@ -81,6 +102,11 @@ goes here next u v a = eqb (here a) u && eqb (next a) v
 -- of k agents, one goes from u up to v, and one from v to u
 unfoldable pub crossed : ℕ → Row → Row → ℕ → ℕ → Bool
 crossed k here next u v = ltb u v && (some k (goes here next u v) && some k (goes here next v u))
+
+-- u is the lowest number below n that a test of pairs holds for with some number below n, and v the lowest of those
+abbrev pub LowestCrossed : ℕ → (ℕ → ℕ → Bool) → Option (ℕ × ℕ) → Type 0
+LowestCrossed n test (Some (u, v)) = FirstFailing n (λ u. every n λ v. not (test u v)) (Some u) × FirstFailing n (λ v. not (test u v)) (Some v)
+LowestCrossed n test None = FirstFailing n (λ u. every n λ v. not (test u v)) None
 
 module _ (g : Given) where
   -- row t of the family with a number: its blocks of time t

@@ -6,46 +6,63 @@
 
 mod family_g;
 
-ghost use Rattle.std.specs.Prelude.{◌≡◌, ◌&&◌, ◌||◌, ℕ, ◌+◌, ◌-◌, ◌<◌, ◌≤◌, length, get_or, take, T, ℤ, List};
+ghost use Rattle.std.specs.Prelude.{◌≡◌, ◌||◌, ℕ, ◌+◌, ◌-◌, ◌<◌, ◌≤◌, length, get_or, take, T, ℤ, List, IsNone};
 ghost use Rattle.lists.specs.Loop.{for};
 ghost use Rattle.lists.specs.Pairs.{pairs_below};
-ghost use Rattle.answers.specs.Fault.{FirstFault};
+ghost use Rattle.answers.specs.Fault.{FirstFailing};
 ghost use Rattle.instance.specs.Instance.{free, joined};
 ghost use Rattle.formula.specs.Variables.{highest, variable_count, X};
 ghost use Rattle.formula.specs.Formula.{block_c, block_d, block_e, block_f};
-ghost use Rattle.formula.specs.Blocks.{times, family, held_in};
-ghost use Rattle.instance.specs.Limits.{Limits};
-ghost use Rattle.instance.specs.Ready.{Ready};
+ghost use Rattle.formula.specs.Blocks.{times, family, held};
+ghost use Rattle.instance.specs.Problem.{checked_of};
+ghost use Rattle.counts.specs.Families.{place_of};
 ghost use Rattle.conditions.specs.Inside.{Inside};
 ghost use Rattle.plan.specs.Plan.{plan_bytes, plan_row};
 ghost use Rattle.valuation.specs.Valuation.{true?, right_entry};
 ghost use Rattle.valuation.specs.Satisfying.{Valuation};
 ghost use Rattle.valuation.specs.Places.{Places};
-ghost use Rattle.satisfaction.specs.Rows.{Fault, Stop, Tallied, says, denies, Seen, Read, Lowest, row, Before};
+ghost use Rattle.satisfaction.specs.Rows.{Failing, Stopping, Tallied, says, denies, Came, byte_of, Read, LowestShared, row, Before};
 
+use conditions::Condition;
+use counts::Family;
 use family_g::part_g;
-use instance::Sizes;
+use instance::{Problem, Shape, Sizes};
 use variables::{Agent, Step, Variable};
 
-// What the entries of one agent and time say: the first wrong one, or the end; and the vertex, n for none, n + 1 for several.
+// Which vertices the entries of one agent and time say.
 #[derive(Clone, Copy)]
-pub struct Row {
-    pub wrong: usize,
-    pub vertex: usize,
+pub enum Said {
+    Nothing,
+    One(usize),
+    Several,
 }
 
-// Of some clauses: their number, and the place of the first without a true literal, or their number again.
+impl Said {
+    // As a byte of `vertices`: n for nothing, n + 1 for several.
+    fn byte(self, n: usize) -> u8
+        requires { (n ≤ 64) × (byte_of n self ≤ 65) }
+        ensures { result ≡ byte_of n self }
+    {
+        match self {
+            Said::Nothing => n as u8,
+            Said::One(v) => v as u8,
+            Said::Several => (n + 1) as u8,
+        }
+    }
+}
+
+// Of some clauses: their number, and the place of the first without a true literal.
 #[derive(Clone, Copy)]
 pub struct Part {
     pub size: usize,
-    pub fault: usize,
+    pub fault: Option<usize>,
 }
 
 // Of the entries of one agent and time: how many are not their variables' negatives, and the sum of their vertices.
 #[derive(Clone, Copy)]
-pub struct Tally {
-    pub count: u32,
-    pub sum: u32,
+struct Undenied {
+    count: u32,
+    sum: u32,
 }
 
 // Is entry v from `base` on its variable's negative?
@@ -57,20 +74,18 @@ fn denied(entries: &[i32], base: usize, v: usize) -> bool
     variables::is_negation(e, Variable(base + 1), v)
 }
 
-// Is entry i its variable's negative or, where that is asked too, its variable?
-fn passes(entries: &[i32], i: usize, both: bool) -> bool
+// Is entry i its variable or its negative?
+fn is_right(entries: &[i32], i: usize) -> bool
     requires { (i < length entries.now) × (i < highest) }
-    ensures { result ≡ ((both && says entries.now i) || denies entries.now i) }
+    ensures { result ≡ right_entry entries.now i }
 {
-    if both {
-        let e = entries[i];
-        return variables::is_entry(e, Variable(i + 1));
-    }
-    denied(entries, 0, i)
+    let e = entries[i];
+    variables::is_entry(e, Variable(i + 1))
 }
 
-// The n entries from `base` on. The loop has one way out, so that the compiler may take several entries at once.
-fn tally_row(entries: &[i32], base: usize, n: usize) -> Tally
+// The n entries from `base` on. The loop has one way out, so that the compiler may take several entries at once; it counts by hand, since
+// two counts of one pass are no chain of the library's.
+fn tally_row(entries: &[i32], base: usize, n: usize) -> Undenied
     requires { (base + n ≤ length entries.now) × (base + n ≤ highest) × (n ≤ 64) }
     ensures { Tallied (λ v. denies entries.now (base + v)) n result.count result.sum }
 {
@@ -83,115 +98,140 @@ fn tally_row(entries: &[i32], base: usize, n: usize) -> Tally
             sum += v as u32;
         }
     }
-    Tally {
+    Undenied {
         count: n as u32 - negatives,
         sum,
     }
 }
 
-// The first entry from `low` on that is not its variable's negative nor, where that is asked too, its variable; or `end`.
-pub fn stop_from(entries: &[i32], low: usize, end: usize, both: bool) -> usize
+// The first entry from `low` on, below `end`, that is not its variable's negative. A loop, since a closure for `find` would be asked of
+// numbers that have no entry.
+fn first_undenied(entries: &[i32], low: usize, end: usize) -> Option<usize>
     requires { (low ≤ end) × (end ≤ length entries.now) × (end ≤ highest) }
-    ensures { Stop (λ i. (both && says entries.now i) || denies entries.now i) low end result }
+    ensures { Stopping (denies entries.now) low end result }
 {
     for i in low..end {
-        if !passes(entries, i, both) {
-            return i;
+        if !denied(entries, 0, i) {
+            return Some(i);
         }
     }
-    end
+    None
 }
 
-// The n entries from `base` on.
-fn read_row(entries: &[i32], base: usize, n: usize) -> Row
-    requires { (base + n ≤ length entries.now) × (base + n ≤ highest) × (n ≤ 64) }
-    ensures stop { Stop (right_entry entries.now) base (base + n) result.wrong }
-    ensures seen { base + n ≤ result.wrong → Seen n (λ v. says entries.now (base + v)) result.vertex }
+// The first that is neither its variable nor its negative. Also a loop.
+pub fn first_wrong(entries: &[i32], low: usize, end: usize) -> Option<usize>
+    requires { (low ≤ end) × (end ≤ length entries.now) × (end ≤ highest) }
+    ensures { Stopping (right_entry entries.now) low end result }
 {
-    let end = base + n;
+    for i in low..end {
+        if !is_right(entries, i) {
+            return Some(i);
+        }
+    }
+    None
+}
+
+// The n entries from `base` on: the first wrong one, or what they say.
+fn read_row(entries: &[i32], base: usize, n: usize) -> Result<Said, usize>
+    requires { (base + n ≤ length entries.now) × (base + n ≤ highest) × (n ≤ 64) }
+    ensures { Came entries.now base n result }
+{
     let t = tally_row(entries, base, n);
     if t.count == 0 {
-        return Row {
-            wrong: end,
-            vertex: n,
-        };
+        return Ok(Said::Nothing);
     }
     if t.count == 1 {
         let v = t.sum as usize;
         let at = base + v;
-        if passes(entries, at, true) {
-            return Row {
-                wrong: end,
-                vertex: v,
-            };
+        if is_right(entries, at) {
+            return Ok(Said::One(v));
         }
-        return Row {
-            wrong: at,
-            vertex: 0,
-        };
+        return Err(at);
     }
-    let u = stop_from(entries, base, end, true);
-    Row {
-        wrong: u,
-        vertex: n + 1,
+    match first_wrong(entries, base, base + n) {
+        None => Ok(Said::Several),
+        Some(wrong) => Err(wrong),
     }
 }
 
-// All entries in their order, one agent after another and one time after another: the first wrong one, or their number. `vertices` is
-// left with the vertex of each time and agent, as in `Row`, where no entry is wrong.
-pub fn read_entries(vertices: &mut [u8], entries: &[i32], s: Sizes) -> usize
-    requires limits { Limits s }
-    requires entries_len { (length entries.now ≡ variable_count s) × (length vertices.old ≡ 528) }
-    ensures first_fault { FirstFault (variable_count s) (right_entry entries.now) result }
+// The first wrong one of all entries, in their order: one agent after another and one time after another. Where none is wrong, `vertices`
+// is left with the vertex of each time and agent.
+pub fn read_entries(vertices: &mut [u8], entries: &[i32], s: Shape) -> Option<usize>
+    requires { (length entries.now ≡ variable_count s.sizes) × (length vertices.old ≡ 528) }
+    ensures first_wrong { FirstFailing (variable_count s.sizes) (right_entry entries.now) result }
     ensures vertices_len { length vertices.new ≡ 528 }
-    ensures read { variable_count s ≤ result → Read s entries.now (take (plan_bytes s) vertices.new) }
+    ensures read { IsNone result → Read s.sizes entries.now (take (plan_bytes s.sizes) vertices.new) }
 {
-    let k = s.k;
-    let rows = s.m + 1;
-    let mut base: usize = 0;
+    let Sizes { n, k, m, .. } = s.sizes;
+    let rows = m + 1;
     for a in 0..k {
         for t in 0..rows {
-            let r = read_row(entries, base, s.n);
-            if r.wrong < base + s.n {
-                return r.wrong;
+            let base = variables::first_entry(s, Step(t), Agent(a));
+            match read_row(entries, base, n) {
+                Ok(said) => vertices[t * k + a] = said.byte(n),
+                Err(wrong) => return Some(wrong),
             }
-            vertices[t * k + a] = r.vertex as u8;
-            base += s.n;
         }
     }
-    base
+    None
 }
 
-// Families A and B: the first agent that is not at its vertex of the array at time t, or k. Where `optional`, as for goals, free agents
-// are passed over.
-fn unit_fault(entries: &[i32], s: Sizes, t: usize, ends: &[u8; 16], optional: bool) -> usize
-    requires limits { Limits s }
-    requires valuation { Valuation (variable_count s) entries.now }
-    requires t_le_m { (t ≤ s.m) × ((a : ℕ) → a < s.k → (T (optional && free (get_or ends.now a 0)) → ⊥) → get_or ends.now a 0 < s.n) }
-    ensures { FirstFault s.k (λ a. (optional && free (get_or ends.now a 0)) || true? entries.now (X s t a (get_or ends.now a 0))) result }
+// Row t of a plan.
+fn row_at(s: Shape, p: &[u8], t: usize) -> &[u8]
+    requires { (length p.now ≡ plan_bytes s.sizes) × (t ≤ s.sizes.m) }
+    ensures { (length result.now ≡ s.sizes.k) × ((a : ℕ) → a < s.sizes.k → get_or result.now a 0 ≡ plan_row s.sizes p.now t a) }
 {
-    let k = s.k;
-    for a in 0..k {
+    let k = s.sizes.k;
+    let at = t * k;
+    &p[at..at + k]
+}
+
+// Families A and B: the first agent that is not at its vertex of the array at time t. Free agents are passed over; as starts there are none.
+fn unit_fault(entries: &[i32], s: Shape, t: usize, ends: &[u8; 16]) -> Option<usize>
+    requires valuation { Valuation (variable_count s.sizes) entries.now }
+    requires t_le_m { (t ≤ s.sizes.m) × ((a : ℕ) → a < s.sizes.k → (T (free (get_or ends.now a 0)) → ⊥) → get_or ends.now a 0 < s.sizes.n) }
+    ensures { FirstFailing s.sizes.k (λ a. free (get_or ends.now a 0) || true? entries.now (X s.sizes t a (get_or ends.now a 0))) result }
+{
+    for a in 0..s.sizes.k {
         let end = ends[a];
-        if !(optional & goals::is_free(end)) {
+        if !goals::is_free(end) {
             let base = variables::first_entry(s, Step(t), Agent(a));
-            let i = base + numbers::wide(end);
-            if passes(entries, i, false) {
-                return a;
+            if denied(entries, base, usize::from(end)) {
+                return Some(a);
             }
         }
     }
-    k
+    None
+}
+
+// Family A: the first agent that is not at its start.
+fn fault_a(problem: &Problem, entries: &[i32]) -> Option<usize>
+    requires { Valuation (variable_count problem.now.shape.sizes) entries.now }
+    ensures { (t : ℕ) → Failing entries.now (row (held (checked_of problem.now)) 0 t) result }
+{
+    unit_fault(entries, problem.shape, 0, &problem.starts)
+}
+
+// Family B: the first agent that is not at its goal, counted among those that have one.
+fn fault_b(problem: &Problem, entries: &[i32]) -> Option<usize>
+    requires { Valuation (variable_count problem.now.shape.sizes) entries.now }
+    ensures { (t : ℕ) → Failing entries.now (row (held (checked_of problem.now)) 1 t) result }
+{
+    let a = unit_fault(
+        entries,
+        problem.shape,
+        problem.shape.sizes.m,
+        &problem.goals,
+    )?;
+    Some(goals::count(&problem.goals, a))
 }
 
 // Family C at time t: the first agent with no vertex.
-fn fault_c(p: &[u8], s: Sizes, t: usize) -> usize
-    requires limits { Limits s }
-    requires p_len { (length p.now ≡ plan_bytes s) × (t ≤ s.m) }
-    ensures { (es : List ℤ) → Read s es p.now → Fault es (for s.k (block_c s t)) result }
+fn fault_c(p: &[u8], s: Shape, t: usize) -> Option<usize>
+    requires { (length p.now ≡ plan_bytes s.sizes) × (t ≤ s.sizes.m) }
+    ensures { (es : List ℤ) → Read s.sizes es p.now → Failing es (for s.sizes.k (block_c s.sizes t)) result }
 {
-    let k = s.k;
-    conditions::first_on(p, t * k, k, s.n as u8)
+    conditions::first_on(row_at(s, p, t), s.sizes.n as u8)
 }
 
 // The place of a pair among the pairs v < w below n: of v and the number that stands `gap` numbers after the next.
@@ -203,160 +243,127 @@ fn pair_at(n: usize, v: usize, gap: usize) -> usize
 }
 
 // Family D at time t: the first two vertices of the first agent with several.
-fn fault_d(entries: &[i32], p: &[u8], s: Sizes, t: usize) -> usize
-    requires limits { Limits s }
-    requires read { Read s entries.now p.now }
-    requires t_le_m { t ≤ s.m }
-    ensures { Fault entries.now (for s.k (block_d s t)) result }
+fn fault_d(entries: &[i32], p: &[u8], s: Shape, t: usize) -> Option<usize>
+    requires read { Read s.sizes entries.now p.now }
+    requires t_le_m { t ≤ s.sizes.m }
+    ensures { Failing entries.now (for s.sizes.k (block_d s.sizes t)) result }
 {
-    let n = s.n;
-    let k = s.k;
-    let size = counts::pair_count(n);
-    let row = t * k;
-    let a = conditions::first_on(p, row, k, (n + 1) as u8);
-    if a == k {
-        return k * size;
-    }
+    let n = s.sizes.n;
+    let a = conditions::first_on(row_at(s, p, t), (n + 1) as u8)?;
     let base = variables::first_entry(s, Step(t), Agent(a));
     let end = base + n;
-    let first = stop_from(entries, base, end, false);
-    let second = stop_from(entries, first + 1, end, false);
-    a * size + pair_at(n, first - base, second - first - 1)
+    let first = first_undenied(entries, base, end).unwrap();
+    let second = first_undenied(entries, first + 1, end).unwrap();
+    Some(a * counts::pair_count(n) + pair_at(n, first - base, second - first - 1))
 }
 
-// `low`, or the vertex of agent a of a row where it is lower and a lower agent stands on it too.
-fn lower(p: &[u8], row: usize, a: usize, low: usize) -> usize
-    requires { row + a < length p.now }
-    ensures { (n : ℕ) → Lowest a (λ i. get_or p.now (row + i) 0) n low → Lowest (a + 1) (λ i. get_or p.now (row + i) 0) n result }
+// `low`, or the vertex of agent a of a row where it is below n and `low` and a lower agent stands on it too.
+fn lower(here: &[u8], a: usize, low: Option<usize>, n: usize) -> Option<usize>
+    requires { (a < length here.now) × LowestShared a (λ i. get_or here.now i 0) n low }
+    ensures { LowestShared (a + 1) (λ i. get_or here.now i 0) n result }
 {
-    let x = p[row + a];
-    let v = numbers::wide(x);
-    if low <= v {
+    let x = here[a];
+    let v = usize::from(x);
+    if low.unwrap_or(n) <= v {
         return low;
     }
-    if conditions::first_on(p, row, a, x) < a {
-        return v;
+    if conditions::first_on(&here[..a], x).is_some() {
+        return Some(v);
     }
     low
 }
 
-// The lowest vertex on which two of the k agents of a row stand, or n.
-fn lowest_shared(p: &[u8], row: usize, k: usize, n: usize) -> usize
-    requires { row + k ≤ length p.now }
-    ensures { Lowest k (λ a. get_or p.now (row + a) 0) n result }
+// The lowest vertex on which two agents of a row stand.
+fn lowest_shared(here: &[u8], n: usize) -> Option<usize>
+    ensures { LowestShared (length here.now) (λ i. get_or here.now i 0) n result }
 {
-    let mut low = n;
-    for a in 0..k {
-        low = lower(p, row, a, low);
+    let mut low = None;
+    for a in 0..here.len() {
+        low = lower(here, a, low, n);
     }
     low
 }
 
 // Family E at time t: the first two agents on the lowest vertex that is shared.
-fn fault_e(p: &[u8], s: Sizes, t: usize) -> usize
-    requires limits { Limits s }
-    requires p_len { (length p.now ≡ plan_bytes s) × (t ≤ s.m) }
-    ensures { (es : List ℤ) → Valuation (variable_count s) es → Places s (true? es) (plan_row s p.now) → Fault es (for s.n (block_e s t)) result }
+fn fault_e(p: &[u8], s: Shape, t: usize) -> Option<usize>
+    requires { (length p.now ≡ plan_bytes s.sizes) × (t ≤ s.sizes.m) }
+    ensures { (es : List ℤ) → Valuation (variable_count s.sizes) es → Places s.sizes (true? es) (plan_row s.sizes p.now) → Failing es (for s.sizes.n (block_e s.sizes t)) result }
 {
-    let n = s.n;
-    let k = s.k;
-    let size = counts::pair_count(k);
-    let row = t * k;
-    let v = lowest_shared(p, row, k, n);
-    if v == n {
-        return n * size;
-    }
-    let a = conditions::first_on(p, row, k, v as u8);
-    let gap = conditions::first_on(p, row + a + 1, k - a - 1, v as u8);
-    v * size + pair_at(k, a, gap)
+    let Sizes { n, k, .. } = s.sizes;
+    let here = row_at(s, p, t);
+    let v = lowest_shared(here, n)?;
+    let a = conditions::first_on(here, v as u8).unwrap();
+    let gap = conditions::first_on(&here[a + 1..], v as u8).unwrap();
+    Some(v * counts::pair_count(k) + pair_at(k, a, gap))
 }
 
 // Family F at time t: the vertex of the first agent that fails condition 1.
-fn fault_f(s: Sizes, near: &[u64; 64], p: &[u8], t: usize) -> usize
-    requires limits { Limits s }
-    requires p_len { (length p.now ≡ plan_bytes s) × (t < s.m) × Inside p.now }
-    ensures { (es : List ℤ) → Valuation (variable_count s) es → Places s (true? es) (plan_row s p.now) → Fault es (for s.k (block_f s (joined near.now) t)) result }
+fn fault_f(problem: &Problem, p: &[u8], t: usize) -> Option<usize>
+    requires { (length p.now ≡ plan_bytes problem.now.shape.sizes) × (t < problem.now.shape.sizes.m) × Inside p.now }
+    ensures { (es : List ℤ) → Valuation (variable_count problem.now.shape.sizes) es → Places problem.now.shape.sizes (true? es) (plan_row problem.now.shape.sizes p.now) → Failing es (for problem.now.shape.sizes.k (block_f problem.now.shape.sizes (joined problem.now.near) t)) result }
 {
-    let n = s.n;
-    let k = s.k;
-    let a = conditions::step_fault(s, near, 0, p, t);
-    if a == k {
-        return k * n;
-    }
-    a * n + numbers::wide(p[t * k + a])
+    let a = conditions::step_fault(
+        problem.shape.sizes,
+        &problem.near,
+        Condition::Crossing,
+        p,
+        t,
+    )?;
+    Some(a * problem.shape.sizes.n + usize::from(row_at(problem.shape, p, t)[a]))
 }
 
 // Row t of a family, where the families before it have a true literal in every clause.
-fn row_fault(
-    s: Sizes,
-    starts: &[u8; 16],
-    goals: &[u8; 16],
-    near: &[u64; 64],
-    entries: &[i32],
-    p: &[u8],
-    which: usize,
-    t: usize,
-) -> Part
-    requires ready { Ready s starts.now goals.now near.now }
-    requires read { Read s entries.now p.now }
-    requires which_bound { (which < 7) × (t < times s which) × Before (held_in s starts.now goals.now near.now) entries.now which }
-    ensures t_len { (length (row (held_in s starts.now goals.now near.now) which t) ≡ result.size) × (result.size ≤ 483840) }
-    ensures fault { Fault entries.now (row (held_in s starts.now goals.now near.now) which t) result.fault }
+fn row_fault(problem: &Problem, entries: &[i32], p: &[u8], family: Family, t: usize) -> Part
+    requires read { Read problem.now.shape.sizes entries.now p.now }
+    requires before { (t < times problem.now.shape.sizes (place_of family)) × Before (held (checked_of problem.now)) entries.now (place_of family) }
+    ensures t_len { (length (row (held (checked_of problem.now)) (place_of family) t) ≡ result.size) × (result.size ≤ 483840) }
+    ensures fault { Failing entries.now (row (held (checked_of problem.now)) (place_of family) t) result.fault }
 {
-    let n = s.n;
-    let k = s.k;
-    match which {
-        0 => Part {
+    let s = problem.shape;
+    let Sizes { n, k, g, .. } = s.sizes;
+    match family {
+        Family::A => Part {
             size: k,
-            fault: unit_fault(entries, s, 0, starts, false),
+            fault: fault_a(problem, entries),
         },
-        1 => Part {
-            size: s.g,
-            fault: goals::count(goals, unit_fault(entries, s, s.m, goals, true)),
+        Family::B => Part {
+            size: g,
+            fault: fault_b(problem, entries),
         },
-        2 => Part {
+        Family::C => Part {
             size: k,
             fault: fault_c(p, s, t),
         },
-        3 => Part {
+        Family::D => Part {
             size: k * counts::pair_count(n),
             fault: fault_d(entries, p, s, t),
         },
-        4 => Part {
+        Family::E => Part {
             size: n * counts::pair_count(k),
             fault: fault_e(p, s, t),
         },
-        5 => Part {
+        Family::F => Part {
             size: k * n,
-            fault: fault_f(s, near, p, t),
+            fault: fault_f(problem, p, t),
         },
-        _ => part_g(s, near, p, t),
+        Family::G => part_g(problem, p, t),
     }
 }
 
-// The lowest number of a clause without a true literal, or the number of clauses.
-pub fn clause_fault(
-    s: Sizes,
-    starts: &[u8; 16],
-    goals: &[u8; 16],
-    near: &[u64; 64],
-    entries: &[i32],
-    p: &[u8],
-) -> usize
-    requires ready { Ready s starts.now goals.now near.now }
-    requires read { Read s entries.now p.now }
-    ensures { Fault entries.now (for 7 (family (held_in s starts.now goals.now near.now))) result }
+// The first clause without a true literal.
+pub fn clause_fault(problem: &Problem, entries: &[i32], p: &[u8]) -> Option<usize>
+    requires { Read problem.now.shape.sizes entries.now p.now }
+    ensures { Failing entries.now (for 7 (family (held (checked_of problem.now)))) result }
 {
     let mut at: usize = 0;
-    for which in 0..7usize {
-        let count = counts::times_of(s, which);
-        for t in 0..count {
-            let r = row_fault(s, starts, goals, near, entries, p, which, t);
-            if r.fault < r.size {
-                return at + r.fault;
+    for family in Family::ALL {
+        for t in 0..counts::times_of(problem.shape, family) {
+            let row = row_fault(problem, entries, p, family, t);
+            if let Some(fault) = row.fault {
+                return Some(at + fault);
             }
-            at += r.size;
+            at += row.size;
         }
     }
-    at
+    None
 }

@@ -8,7 +8,7 @@ use Rattle.conditions.specs.Conditions.{place_of}
 use Rattle.conditions.proofs.fault.Given as goal
 
 abbrev pub invariant-loop-a : goal.invariant-loop-a
-invariant-loop-a l = (l.a ≤ l.problem.shape.sizes.k) × ((i : ℕ) → i < l.a → T (condition l.problem.shape.sizes (joined l.problem.near) (place_of l.which) (row l.here) (row l.next) i)) × Standing (row l.next) l.a l.taken
+invariant-loop-a l = (l.a ≤ l.s.k) × ((i : ℕ) → i < l.a → T (condition l.s (joined l.near) (place_of l.which) (row l.here) (row l.next) i)) × Standing (row l.next) l.a l.taken
 
 abbrev pub decreases-loop-a : goal.decreases-loop-a
-decreases-loop-a l = l.problem.shape.sizes.k - l.a
+decreases-loop-a l = l.s.k - l.a

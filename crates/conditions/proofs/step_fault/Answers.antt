@@ -9,33 +9,33 @@ use Rattle.conditions.proofs.step_fault.Goals as goal
 
 pub overflow_mul-row : goal.overflow_mul-row
 overflow_mul-row c =
-    let known : Rows c.args.problem.now.shape.sizes c.args.p.now c.args.t = rows _ _ _ c.requires.p_len.0 c.requires.p_len.1 in
+    let known : Rows c.args.s c.args.p.now c.args.t = rows _ _ _ c.requires.p_len.0 c.requires.p_len.1 in
     omega (arith, known)
 
 pub overflow_add-next : goal.overflow_add-next
 overflow_add-next c =
-    let known : Rows c.args.problem.now.shape.sizes c.args.p.now c.args.t = rows _ _ _ c.requires.p_len.0 c.requires.p_len.1 in
+    let known : Rows c.args.s c.args.p.now c.args.t = rows _ _ _ c.requires.p_len.0 c.requires.p_len.1 in
     omega (arith, known)
 
 pub overflow_add-end : goal.overflow_add-end
 overflow_add-end c =
-    let known : Rows c.args.problem.now.shape.sizes c.args.p.now c.args.t = rows _ _ _ c.requires.p_len.0 c.requires.p_len.1 in
+    let known : Rows c.args.s c.args.p.now c.args.t = rows _ _ _ c.requires.p_len.0 c.requires.p_len.1 in
     omega (arith, known)
 
 pub slice_bounds-fault-end : goal.slice_bounds-fault-end
 slice_bounds-fault-end c =
-    let known : Rows c.args.problem.now.shape.sizes c.args.p.now c.args.t = rows _ _ _ c.requires.p_len.0 c.requires.p_len.1 in
+    let known : Rows c.args.s c.args.p.now c.args.t = rows _ _ _ c.requires.p_len.0 c.requires.p_len.1 in
     omega (arith, known)
 
 pub slice_bounds-fault-end-2 : goal.slice_bounds-fault-end-2
 slice_bounds-fault-end-2 c =
-    let known : Rows c.args.problem.now.shape.sizes c.args.p.now c.args.t = rows _ _ _ c.requires.p_len.0 c.requires.p_len.1 in
+    let known : Rows c.args.s c.args.p.now c.args.t = rows _ _ _ c.requires.p_len.0 c.requires.p_len.1 in
     omega (arith, known)
 
 pub fault-requires : goal.fault-requires
 fault-requires c =
-    let known : Rows c.args.problem.now.shape.sizes c.args.p.now c.args.t = rows _ _ _ c.requires.p_len.0 c.requires.p_len.1 in
-    let k = c.args.problem.now.shape.sizes.k in
+    let known : Rows c.args.s c.args.p.now c.args.t = rows _ _ _ c.requires.p_len.0 c.requires.p_len.1 in
+    let k = c.args.s.k in
     let at = c.args.t * k in
     let x = part_length c.args.p.now at (at + k) (omega arith) (omega (arith, known)) in
     let y = part_length c.args.p.now (at + k) (at + k + k) (omega arith) (omega (arith, known)) in record {
@@ -49,4 +49,4 @@ fault-requires c =
 pub returns : goal.returns
 returns c =
     failing_map c.fault.result
-    (step_fault c.args.problem.now.shape.sizes (joined c.args.problem.now.near) (place_of c.args.which) c.args.p.now c.args.t) c.fault.ensures
+    (step_fault c.args.s (joined c.args.near.now) (place_of c.args.which) c.args.p.now c.args.t) c.fault.ensures

@@ -4,43 +4,12 @@ use mathlib.Core.Path.{◌≡◌, ◌∙◌, ap}
 use Prim.Native.Nat.{ℕ, ◌-◌}
 use native.Mathlib.Omega.{arith}
 use Rattle.plan.specs.Plan.{plan_row, rest_time}
-use Rattle.plan.proofs.Rows.{Rows, rows}
 use Rattle.plan_check.proofs.Laws.{rest_begins, rest_same, rest_changed}
 use Rattle.plan_check.proofs.rest_time.Goals as goal
 use Rattle.plan_check.proofs.rest_time.Goals.{then-p-row, else-p-row}
 
 pub loop-t-init : goal.loop-t-init
 loop-t-init c = (omega arith, (rest_begins c.args.s c.args.p.now c.args.a, omega arith))
-
-pub overflow_mul-row : goal.overflow_mul-row
-overflow_mul-row c =
-    let known : Rows c.args.s c.args.p.now c.loop-t.t = rows _ _ _ c.requires.0 (omega arith) in
-    omega (arith, known)
-
-pub overflow_add-next : goal.overflow_add-next
-overflow_add-next c =
-    let known : Rows c.args.s c.args.p.now c.loop-t.t = rows _ _ _ c.requires.0 (omega arith) in
-    omega (arith, known)
-
-pub overflow_add-row : goal.overflow_add-row
-overflow_add-row c =
-    let known : Rows c.args.s c.args.p.now c.loop-t.t = rows _ _ _ c.requires.0 (omega arith) in
-    omega (arith, known)
-
-pub bounds-p-row : goal.bounds-p-row
-bounds-p-row c =
-    let known : Rows c.args.s c.args.p.now c.loop-t.t = rows _ _ _ c.requires.0 (omega arith) in
-    omega (arith, known)
-
-pub overflow_add-next-in-loop-t : goal.overflow_add-next-in-loop-t
-overflow_add-next-in-loop-t c =
-    let known : Rows c.args.s c.args.p.now c.loop-t.t = rows _ _ _ c.requires.0 (omega arith) in
-    omega (arith, known)
-
-pub bounds-p-next : goal.bounds-p-next
-bounds-p-next c =
-    let known : Rows c.args.s c.args.p.now c.loop-t.t = rows _ _ _ c.requires.0 (omega arith) in
-    omega (arith, known)
 
 pub loop-t-preserved : goal.loop-t-preserved
 loop-t-preserved c =

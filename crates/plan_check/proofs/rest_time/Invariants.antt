@@ -7,7 +7,4 @@ use Rattle.plan.specs.Plan.{rest_time}
 use Rattle.plan_check.proofs.rest_time.Given as goal
 
 abbrev pub invariant-loop-t : goal.invariant-loop-t
-invariant-loop-t l = (l.t ≤ l.rows - 1) × ((l.rest ≡ rest_time l.t (λ u b. get_or l.p (u * l.k + b) 0) l.a) × (l.rest ≤ l.t))
-
-abbrev pub decreases-loop-t : goal.decreases-loop-t
-decreases-loop-t l = l.rows - l.t
+invariant-loop-t l = (l.t ≤ l.rows - 1) × ((l.rest ≡ rest_time l.t (λ u b. get_or l.p (u * l.s.k + b) 0) l.a) × (l.rest ≤ l.t))

@@ -6,7 +6,7 @@ use Rattle.plan_tally.proofs.takes_more.Goals as goal
 
 pub overflow_mul-result : goal.overflow_mul-result
 overflow_mul-result c =
-    let t = c.args.t in
+    let t = c.args.t.now in
     record { fits = omega (arith, passed_most t, within t _ c.total_of.ensures c.if-total_of-lt65535.true) }
 
 pub returns-then-total_of-lt65535 : goal.returns-then-total_of-lt65535

@@ -8,13 +8,13 @@ use Rattle.tally.specs.Tally.{under, total as allCounted}
 use Rattle.plan_tally.proofs.Laws.{capped_sum}
 use Rattle.plan_tally.proofs.total_of.Goals as goal
 
-pub loop-q-preserved : goal.loop-q-preserved
-loop-q-preserved c = (omega arith, (rw (add-one c.loop-q.q) (omega (arith, c.loop-q.invariant.1.0, c.lesser-sum-in-loop-q.ensures)), omega (arith, c.lesser-sum-in-loop-q.ensures)))
+pub loop-count-preserved : goal.loop-count-preserved
+loop-count-preserved c = (rw (add-one c.loop-count.count-index) (omega (arith, c.loop-count.invariant.0, c.min-sum-in-loop-count.ensures)), omega (arith, c.min-sum-in-loop-count.ensures))
 
 pub returns : goal.returns
 unfolding allCounted
 returns c =
-    let l = c.loop-q in
-    let e : l.q ≡ 36 = omega arith in
-    ap (λ (x : ℕ). min x 65535) (l.invariant.1.0 ∙ ap₂ (λ (x j : ℕ). x + total j (λ i. min (under c.args.t i) 65535)) c.lesser-sum.ensures e)
-    ∙ capped_sum 36 65535 c.args.t.passed (under c.args.t)
+    let l = c.loop-count in
+    let e : l.count-index ≡ 36 = omega arith in
+    ap (λ (x : ℕ). min x 65535) (l.invariant.0 ∙ ap₂ (λ (x j : ℕ). x + total j (λ i. min (under c.args.t.now i) 65535)) c.min-sum.ensures e)
+    ∙ capped_sum 36 65535 c.args.t.now.passed (under c.args.t.now)

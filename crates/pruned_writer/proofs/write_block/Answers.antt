@@ -1,28 +1,35 @@
--- `pruned_writer::write_block` meets its contract. The invariant: each turn has written its clause, if any, behind those before it. Assumes nothing.
+-- `pruned_writer::write_block` meets its contract. Assumes nothing.
+use mathlib.Core.Path.{◌≡◌, ap₂}
+use mathlib.Core.List.{List}
+use Prim.Native.Nat.{ℕ, ◌≤◌}
 use native.Mathlib.Omega.{arith}
 use borrow.Author.Rules.{rules}
-use lib.ListN.{length-take, length-drop}
-use Rattle.lists.proofs.Slices.{each_filling, filling_room, filling_next, each_filled}
-use Rattle.formula.specs.Formula.{line}
-use Rattle.pruned_writer.proofs.write_block.Invariants.{clauses}
+use lib.ListN.{length, get_or}
+use Rattle.formula.specs.Formula.{Clause, line}
+use Rattle.formula.specs.Pruned.{block_h}
+use Rattle.pruned_writer.specs.ByTable.{block_by_table}
 use Rattle.pruned_writer.proofs.write_block.Goals as goal
 
-pub loop-v-init : goal.loop-v-init
-loop-v-init c = each_filling line (clauses c.args.s.sizes c.args.from.now c.args.to.now c.args.t.0 c.args.a.0) c.requires.a_in_bounds
+pub row_for-from-requires : goal.row_for-from-requires
+row_for-from-requires c =
+    let p = c.args.problem.now in
+    (omega (arith, p.shape.limits.k_most, c.requires.t_le_m.1), omega (arith, p.ready.starts_below c.args.a.0 c.requires.t_le_m.1, p.shape.limits.n_most, c.requires.t_le_m.2))
 
-pub write_vertex-at-requires : goal.write_vertex-at-requires
-write_vertex-at-requires c =
-    simp (length-take, length-drop)
-    (let r = filling_room c.loop-v.invariant c.loop-v-test.true in record { t_le_m = (c.requires.t_le_m.0, c.requires.t_le_m.1, c.loop-v-test.true); v_in_bounds = search rules })
+pub goal_row-to-requires : goal.goal_row-to-requires
+goal_row-to-requires c =
+    let p = c.args.problem.now in
+    (omega (arith, p.shape.limits.k_most, c.requires.t_le_m.1), λ g. omega (arith, p.ready.goals_below c.args.a.0 c.requires.t_le_m.1 g, p.shape.limits.n_most, c.requires.t_le_m.2))
 
-pub loop-v-preserved : goal.loop-v-preserved
-loop-v-preserved c = filling_next c.loop-v.invariant c.loop-v-test.true c.write_vertex-at.ensures
-
-pub overflow_add-at : goal.overflow_add-at
-overflow_add-at c = let q = (loop-v-preserved c).fits in omega arith
+pub write_each-requires : goal.write_each-requires
+write_each-requires c =
+    let s = c.args.problem.now.shape.sizes in
+    let same : block_h s (λ v. get_or c.row_for-from.result v 0) (λ v. get_or c.goal_row-to.result v 0) c.args.t.0 c.args.a.0 ≡ block_by_table s c.args.table.now c.args.problem.now.starts c.args.problem.now.goals c.args.t.0 c.args.a.0 = ap₂ (λ (from to : List ℕ). block_h s (λ v. get_or from v 0) (λ v. get_or to v 0) c.args.t.0 c.args.a.0) c.row_for-from.ensures c.goal_row-to.ensures in
+    let room = rw (← same) at c.requires.a_in_bounds in
+    search rules
 
 pub returns : goal.returns
-returns c = each_filled line (clauses c.args.s.sizes c.args.from.now c.args.to.now c.args.t.0 c.args.a.0) c.loop-v.invariant (omega arith)
-
-pub shape_of-f : goal.shape_of-f
-shape_of-f c = c.loop-v.invariant.same
+returns c =
+    let s = c.args.problem.now.shape.sizes in
+    let same : block_h s (λ v. get_or c.row_for-from.result v 0) (λ v. get_or c.goal_row-to.result v 0) c.args.t.0 c.args.a.0 ≡ block_by_table s c.args.table.now c.args.problem.now.starts c.args.problem.now.goals c.args.t.0 c.args.a.0 = ap₂ (λ (from to : List ℕ). block_h s (λ v. get_or from v 0) (λ v. get_or to v 0) c.args.t.0 c.args.a.0) c.row_for-from.ensures c.goal_row-to.ensures in
+    let room = rw (← same) at c.requires.a_in_bounds in
+    rw (← same) (search rules)
