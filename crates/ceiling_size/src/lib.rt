@@ -8,7 +8,7 @@ ghost use Rattle.ceiling.specs.Ceiling.{added_variables, added_count, added_word
 ghost use Rattle.calls.specs.Ceiling.{ceiling_answer, ceiling_size_answer};
 
 use answers::{Answer, Size};
-use counting::Counts;
+use counting::{Ceiling, Counts};
 use instance::Sizes;
 use instance_check::Inspection;
 
@@ -61,7 +61,7 @@ pub fn added(s: Sizes, c: usize) -> Counts
             words: 0,
         };
     }
-    let tree = counting::tree_size(c, inputs);
+    let tree = Ceiling { c }.tree_size(inputs);
     let moves = inputs * s.n;
     let waits = (s.m - 1) * s.k;
     let over = limits(c, inputs);

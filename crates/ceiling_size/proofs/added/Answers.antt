@@ -14,7 +14,7 @@ pub returns-then-inputs-eq0 : goal.returns-then-inputs-eq0
 returns-then-inputs-eq0 c = record { variables_value = none_added c.args.s c.requires.limits c.args.c c.if-inputs-eq0.true; variables_bound = (omega arith, omega arith, omega arith) }
 
 pub tree_size-tree-requires : goal.tree_size-tree-requires
-tree_size-tree-requires c = (c.requires.c_bound, omega (arith, c.if-inputs-eq0.false), agent_steps c.args.s c.requires.limits)
+tree_size-tree-requires c = (omega (arith, c.if-inputs-eq0.false), agent_steps c.args.s c.requires.limits)
 
 pub overflow_mul-moves : goal.overflow_mul-moves
 overflow_mul-moves c = let p = parts c.args.s c.requires.limits c.args.c c.requires.c_bound (omega (arith, c.if-inputs-eq0.false)) in search rules
