@@ -14,6 +14,7 @@ ghost use Rattle.ceiling.specs.Ceiling.{busy_number, moves, chain, counters, lim
 ghost use Rattle.counting.specs.Over.{variables_over};
 ghost use Rattle.added_writer.specs.Moves.{agent_moves, step_moves};
 
+use counting::{Ceiling, Subtree};
 use instance::{Checked, Sizes};
 use variables::{Agent, Step, Variable, Vertex};
 
@@ -109,7 +110,12 @@ fn write_limit(f: &mut [i32], s: Sizes, c: usize, next: usize) -> usize
     if l <= c {
         return 0;
     }
-    let before = counting::before_outputs(c, l, counts::variable_count(s), next);
+    let tree = Subtree {
+        ceiling: Ceiling { c },
+        l,
+        x: counts::variable_count(s),
+    };
+    let before = tree.before_outputs(next);
     clauses::put_unit(f, variables::negation_of(Variable(before + c + 1)))
 }
 
@@ -122,7 +128,12 @@ fn write_counters(f: &mut [i32], s: Sizes, c: usize) -> usize
 {
     let l = s.m * s.k;
     let first = counts::variable_count(s);
-    let tree = tree_writer::write_tree(f, c, l, first, first + l);
+    let inputs = Subtree {
+        ceiling: Ceiling { c },
+        l,
+        x: first,
+    };
+    let tree = tree_writer::write_tree(f, inputs, first + l);
     let at = tree.words;
     at + write_limit(&mut f[at..], s, c, tree.next)
 }

@@ -33,7 +33,7 @@ write_tree-tree-requires c =
     let (l, q) = few in
     let v = tree_fits c.args.c (c.args.s.m * c.args.s.k) q in
     rw (counters_over c.args.s c.args.c c.variable_count-first.ensures.0)
-    record { c_bound = (c.requires.c_bound.0, l, omega (arith, c.variable_count-first.ensures.1), omega (arith, c.variable_count-first.ensures.1)); y_in_bounds = (let r = filling_room before0 (omega arith) in omega arith) }
+    record { y_most = omega (arith, c.variable_count-first.ensures.1); y_in_bounds = (let r = filling_room before0 (omega arith) in omega arith) }
 
 pub offset_bounds-f-at : goal.offset_bounds-f-at
 offset_bounds-f-at c =

@@ -14,7 +14,7 @@ pub returns-then-l-c : goal.returns-then-l-c
 returns-then-l-c c = rw (limit_none c.args.s c.args.c c.if-l-c.true) (refl, sym (filled_nil _))
 
 pub before_outputs-before-requires : goal.before_outputs-before-requires
-before_outputs-before-requires c = rw c.requires.c_bound.1 (c.requires.c_bound.0, (λ h. outputs_fit c.args.c (c.args.s.m * c.args.s.k) _ h))
+before_outputs-before-requires c = rw c.requires.c_bound.1 (λ h. outputs_fit c.args.c (c.args.s.m * c.args.s.k) _ h)
 
 pub overflow_add-before : goal.overflow_add-before
 overflow_add-before c =
