@@ -1,47 +1,36 @@
 -- Questions 27 to 29 one after another, and the reader's after 1 to 10 and 31.
-use mathlib.Core.Path.{◌≡◌, refl, sym, ◌∙◌, ap, subst}
-use mathlib.Core.Logic.{◌≢◌}
+use mathlib.Core.Path.{◌≡◌, sym, ◌∙◌, ap, subst}
 use mathlib.Core.List.{List, [], ◌∷◌}
-use mathlib.Core.Bool.{Bool, true, false}
+use mathlib.Core.Bool.{true, false}
 use Prim.Native.Nat.{ℕ, suc, ◌+◌, ◌≤◌, ◌<◌}
 use native.Mathlib.Numerals.{add-one}
 use native.Mathlib.Omega.{arith}
-use borrow.Author.Tests.{le-leb}
 use lib.Dec.{T, leb, eqb}
-use lib.IntN.{ℤ}
-use lib.ListN.{length, get_or, replicate, length-replicate}
-use Rattle.lists.specs.Loop.{for, any, all}
-use Rattle.lists.specs.Slice.{filled}
+use lib.ListN.{length, get_or, replicate}
+use Rattle.std.specs.Prelude.{None, Some, Ok, Err}
+use Rattle.lists.specs.Loop.{any, all}
 use Rattle.lists.proofs.Tests.{leb_iff, and_iff}
 use Rattle.answers.specs.declared.Answer.{Answer}
-use Rattle.answers.specs.Answers.{Question, ask, refuse, accept, decide, lent}
-use Rattle.answers.specs.Fault.{FirstFault}
-use Rattle.answers.proofs.Laws.{numbered, decide_iff, ask_yes, ask_no, ask_all, each_all, decide_refused, decide_after, fault_pass, fault_stop, lent_accepted, lent_refused}
+use Rattle.answers.specs.declared.Refusal.{Refusal}
+use Rattle.answers.specs.Answers.{Question, ask, refuse, accept, decide}
+use Rattle.answers.specs.Returned.{refused}
+use Rattle.answers.specs.Fault.{FirstFault, FirstFailing}
+use Rattle.answers.proofs.Laws.{numbered, decide_iff, ask_yes, ask_no, ask_all, each_all, decide_after, fault_pass, fault_stop}
+use Rattle.answers.proofs.Returned.{refused_after}
 use Rattle.solver_text.specs.declared.Said.{Said}
 use Rattle.solver_text.specs.Text.{lines}
-use Rattle.solver_text.specs.Form.{text_most, status?, satisfiable?, complete?, status_place, literals_of, given, times, in_order}
-use Rattle.solver_text.specs.Walk.{nothing, said_after, wrong_lines, whole?}
+use Rattle.solver_text.specs.Form.{text_most, status?, satisfiable?, complete?, status_place, given, times}
+use Rattle.solver_text.specs.Walk.{nothing, satisfied?, place_or, wrong_lines, whole?}
 use Rattle.solver_text.proofs.Walk.{whole_is, satisfied_is, place_is, lines_asked}
-use Rattle.solver_lines.specs.declared.Lines.{Lines}
-use Rattle.solver_lines.specs.Lines.{lines_at, marked, IsLines}
+use Rattle.solver_lines.specs.declared.Mark.{Mark}
+use Rattle.solver_lines.specs.declared.Mark.TheVariants.{Absent}
+use Rattle.solver_lines.specs.Lines.{marked, IsLines}
 use Rattle.calls.specs.Questions.{question28, question29}
 use Rattle.calls.specs.Calls.{text_questions, read_rest}
-use Rattle.reader.specs.Marks.{once?, entry_of, Says, form_questions}
+use Rattle.reader.specs.Marks.{once?, Says, form_questions}
 use Rattle.reader.proofs.Marks.{fault_given, written_is}
 
-all_lines : (text : List ℕ) → lines_at text 0 ≡ lines text
-unfolding lines_at
-all_lines text = rw (le-leb 0 (length text) (omega arith))
-
--- what is promised of 27 and 28, where marks ms became ms'
-abbrev pub Form : ℕ → List ℕ → List ℕ → Answer → List ℕ → Type 0
-Form N text ms r ms' =
-    (r ≡ decide (form_questions N text) 0) × ((r.number ≡ 0 → ms' ≡ marked ms (given text)) × (length ms' ≡ length ms))
-
-module _ (N : ℕ) (text ms : List ℕ) where
-  abbrev said : Said
-  said = said_after 0 nothing (lines text)
-
+module _ (N : ℕ) (text : List ℕ) where
   -- the questions from each on
   abbrev q28 : List Question
   q28 = question28 N text ∷ []
@@ -49,68 +38,54 @@ module _ (N : ℕ) (text ms : List ℕ) where
   abbrev missing : List Question
   missing = ask (complete? (lines text)) (refuse 27 (length text)) ∷ q28
 
-  pub form_long : text_most < length text → Form N text ms (refuse 27 text_most) ms
+  pub form_long : text_most < length text → refuse 27 text_most ≡ decide (form_questions N text) 0
   unfolding form_questions
-  form_long h = (
-    sym (ask_no (leb (length text) text_most) (refuse 27 text_most) _ 0 (λ t. let k = (leb_iff (length text) text_most).0 t in let f : ⊥ = omega arith in f)),
-    ((λ z. absurd (let f : ⊥ = omega arith in f)), refl),
-  )
+  form_long h =
+      sym (ask_no (leb (length text) text_most) (refuse 27 text_most) _ 0 (λ t. let k = (leb_iff (length text) text_most).0 t in let f : ⊥ = omega arith in f))
 
-  module _ (h : length text ≤ text_most) (r : Lines) (ms' : List ℕ) (i : IsLines N ms (lines_at text 0) 0 nothing r ms') where
-    first : decide (form_questions N text) 0 ≡ decide (wrong_lines N 0 nothing (lines_at text 0) ∷ missing) 0
+  module _ (h : length text ≤ text_most) where
+    first : decide (form_questions N text) 0 ≡ decide (wrong_lines N 0 nothing (lines text) ∷ missing) 0
     unfolding form_questions
     first =
         ask_yes (leb (length text) text_most) (refuse 27 text_most) _ 0 ((leb_iff (length text) text_most).1 h)
-        ∙ ap (λ (q : Question). decide (q ∷ missing) 0) (lines_asked N text ∙ ap (wrong_lines N 0 nothing) (sym (all_lines text)))
+        ∙ ap (λ (q : Question). decide (q ∷ missing) 0) (lines_asked N text)
 
-    pub form_wrong : r.right ≡ false → Form N text ms (refuse 27 r.place) ms'
-    form_wrong z = (sym (first ∙ i.wrong z missing 0), ((λ y. absurd (let f : ⊥ = omega arith in f)), i.long))
+    pub form_wrong : (place : ℕ) → IsLines N (lines text) 0 nothing (Err place) → refuse 27 place ≡ decide (form_questions N text) 0
+    form_wrong place i = sym (first ∙ i missing 0)
 
-    module _ (z : r.right ≡ true) where
-      said_is : r.said ≡ said
-      said_is = i.says z ∙ ap (said_after 0 nothing) (all_lines text)
-
+    module _ (said : Said) (i : IsLines N (lines text) 0 nothing (Ok said)) where
       second : decide (form_questions N text) 0 ≡ decide missing 0
       unfolding decide
-      second = first ∙ ap (λ (q : Question). decide (q ∷ missing) 0) (i.right z)
+      second = first ∙ ap (λ (q : Question). decide (q ∷ missing) 0) i.0
 
-      module _ (b : Bool) (e : b ≡ whole? r.said) where
-        complete_is : b ≡ complete? (lines text)
-        complete_is = e ∙ ap whole? said_is ∙ whole_is text
+      complete_is : whole? said ≡ complete? (lines text)
+      complete_is = ap whole? i.1 ∙ whole_is text
 
-        pub form_missing : b ≡ false → Form N text ms (refuse 27 (length text)) ms'
-        form_missing f = (
-          sym (second ∙ ask_no (complete? (lines text)) (refuse 27 (length text)) q28 0 (λ t. subst T (sym complete_is ∙ f) t)),
-          ((λ y. absurd (let f : ⊥ = omega arith in f)), i.long),
-        )
+      pub form_missing : whole? said ≡ false → refuse 27 (length text) ≡ decide (form_questions N text) 0
+      form_missing f = sym (second ∙ ask_no (complete? (lines text)) (refuse 27 (length text)) q28 0 (λ t. subst T (sym complete_is ∙ f) t))
 
-        module _ (f : b ≡ true) where
-          done : T (complete? (lines text))
-          done = subst T (sym f ∙ complete_is) tt
+      module _ (f : whole? said ≡ true) where
+        done : T (complete? (lines text))
+        done = subst T (sym f ∙ complete_is) tt
 
-          third : decide (form_questions N text) 0 ≡ decide q28 0
-          third = second ∙ ask_yes (complete? (lines text)) (refuse 27 (length text)) q28 0 done
+        third : decide (form_questions N text) 0 ≡ decide q28 0
+        third = second ∙ ask_yes (complete? (lines text)) (refuse 27 (length text)) q28 0 done
 
-          one_there : T (any status? (lines text))
-          unfolding complete?
-          one_there = ((and_iff (any status? (lines text)) _).0 done).0
+        one_there : T (any status? (lines text))
+        unfolding complete?
+        one_there = ((and_iff (any status? (lines text)) _).0 done).0
 
-          yes_is : r.said.satisfiable ≡ any satisfiable? (lines text)
-          yes_is = ap (λ (s : Said). s.satisfiable) said_is ∙ satisfied_is text
+        yes_is : satisfied? said ≡ any satisfiable? (lines text)
+        yes_is = ap satisfied? i.1 ∙ satisfied_is text
 
-          pub form_unsatisfied : r.said.satisfiable ≡ false → Form N text ms (refuse 28 r.said.place) ms'
-          form_unsatisfied d = (
-            ap (refuse 28) (ap (λ (s : Said). s.place) said_is ∙ place_is text one_there)
-                ∙ sym (third ∙ ask_no (any satisfiable? (lines text)) (refuse 28 (status_place text)) [] 0 (λ t. subst T (sym yes_is ∙ d) t)),
-            ((λ y. absurd (let f : ⊥ = omega arith in f)), i.long),
-          )
+        pub form_unsatisfied : satisfied? said ≡ false → refuse 28 (place_or 0 said) ≡ decide (form_questions N text) 0
+        form_unsatisfied d =
+            ap (refuse 28) (ap (place_or 0) i.1 ∙ place_is text one_there)
+            ∙ sym (third ∙ ask_no (any satisfiable? (lines text)) (refuse 28 (status_place text)) [] 0 (λ t. subst T (sym yes_is ∙ d) t))
 
-          pub form_right : r.said.satisfiable ≡ true → Form N text ms (accept 0) ms'
-          unfolding decide
-          form_right o = (
-            sym (third ∙ ask_yes (any satisfiable? (lines text)) (refuse 28 (status_place text)) [] 0 (subst T (sym o ∙ yes_is) tt)),
-            ((λ y. i.marks z ∙ ap (λ (ls : List (List ℕ)). marked ms (literals_of ls)) (all_lines text)), i.long),
-          )
+        pub form_right : satisfied? said ≡ true → accept 0 ≡ decide (form_questions N text) 0
+        unfolding decide
+        form_right o = sym (third ∙ ask_yes (any satisfiable? (lines text)) (refuse 28 (status_place text)) [] 0 (subst T (sym o ∙ yes_is) tt))
 
 -- ---- 29
 module _ (N : ℕ) (text : List ℕ) where
@@ -118,50 +93,37 @@ module _ (N : ℕ) (text : List ℕ) where
   unfolding form_questions
   numbered_form = simp (and_iff, each_all, ask_all) ((λ f. tt), ((λ i l f. tt), ((λ f. tt), ((λ f. tt), tt))))
 
-  module _ (form : Answer) (ef : form ≡ decide (form_questions N text) 0) where
-    pub text_form : form.number ≢ 0 → form ≡ decide (text_questions N text) N
+  pub text_form : (e : Refusal) → refused e ≡ decide (form_questions N text) 0 → refused e ≡ decide (text_questions N text) N
+  unfolding text_questions form_questions
+  text_form e h = refused_after e (form_questions N text) (question29 N text ∷ []) 0 N h
+
+  module _ (ef : accept 0 ≡ decide (form_questions N text) 0) (M : ℕ) (small : N ≤ M) (marks : List Mark) (em : marks ≡ marked (replicate M Absent) (given text)) where
+    rest : decide (text_questions N text) N ≡ decide (question29 N text ∷ []) N
     unfolding text_questions form_questions
-    text_form d = ef ∙ sym (decide_refused (form_questions N text) (question29 N text ∷ []) 0 N (λ z. d (ap (λ (a : Answer). a.number) ef ∙ z)))
+    rest =
+        decide_after (form_questions N text) (question29 N text ∷ []) N
+        ((decide_iff (form_questions N text) 0 numbered_form).0 (ap (λ (a : Answer). a.number) (sym ef)))
 
-    module _ (z : form.number ≡ 0) (M : ℕ) (small : N ≤ M) (ms marks : List ℕ) (zeros : ms ≡ replicate M 0) (em : marks ≡ marked ms (given text))
-        (r : ℕ) (fr : FirstFault N (λ i. once? (get_or marks i 0)) r) where
-      rest : decide (text_questions N text) N ≡ decide (question29 N text ∷ []) N
-      unfolding text_questions form_questions
-      rest =
-          decide_after (form_questions N text) (question29 N text ∷ []) N
-          ((decide_iff (form_questions N text) 0 numbered_form).0 (sym (ap (λ (a : Answer). a.number) ef) ∙ z))
+    pub text_stop : (r : ℕ) → FirstFailing N (λ i. once? (get_or marks i Absent)) (Some r) → refuse 29 (r + 1) ≡ decide (text_questions N text) N
+    text_stop r f =
+        let (l, fault) = fault_given M (given text) N small marks em (Some r) f in
+        ap (refuse 29) (add-one r) ∙ sym (rest ∙ fault_stop fault (λ i. refuse 29 (suc i)) [] N l)
 
-      marks_are : marks ≡ marked (replicate M 0) (given text)
-      marks_are = em ∙ ap (λ (y : List ℕ). marked y (given text)) zeros
+    module _ (f : FirstFailing N (λ i. once? (get_or marks i Absent)) None) where
+      fault : FirstFault N (λ i. eqb (times (suc i) (given text)) 1) N
+      fault = fault_given M (given text) N small marks em None f
 
-      fault : FirstFault N (λ i. eqb (times (suc i) (given text)) 1) r
-      fault = fault_given M (given text) N small marks marks_are r fr
-
-      pub text_stop : r < N → refuse 29 (r + 1) ≡ decide (text_questions N text) N
-      text_stop l = ap (refuse 29) (add-one r) ∙ sym (rest ∙ fault_stop fault (λ i. refuse 29 (suc i)) [] N l)
-
-      pub text_pass : N ≤ r → accept N ≡ decide (text_questions N text) N
+      pub text_pass : accept N ≡ decide (text_questions N text) N
       unfolding decide
-      text_pass l = sym (rest ∙ fault_pass fault (λ i. refuse 29 (suc i)) [] N l)
+      text_pass = sym (rest ∙ fault_pass fault (λ i. refuse 29 (suc i)) [] N (omega arith))
 
-      pub text_says : N ≤ r → Says N (given text) marks
-      text_says l = written_is M (given text) N small marks marks_are (λ i h. fault.before i (omega arith))
-
--- ---- the slice
-pub zeros : (M : ℕ) → replicate {A = ℕ} M 0 ≡ replicate (length (replicate {A = ℕ} M 0)) 0
-zeros M = ap (λ (n : ℕ). replicate n 0) (sym (length-replicate {A = ℕ} M 0))
-
-module _ (N : ℕ) (vs z : List ℤ) (r : Answer) where
-  pub text_no : r.number ≢ 0 → z ≡ lent r (in_order N vs) z
-  text_no d = sym (lent_refused r (in_order N vs) z d)
-
-  pub text_yes : r.number ≡ 0 → (marks : List ℕ) → Says N vs marks → (y : List ℤ) → y ≡ filled (for N λ i. entry_of marks i ∷ []) z → y ≡ lent r (in_order N vs) z
-  text_yes o marks g y e = e ∙ ap (λ (l : List ℤ). filled l z) g ∙ sym (lent_accepted r (in_order N vs) z o)
+      pub text_says : Says N (given text) marks
+      text_says = written_is M (given text) N small marks em (λ i h. fault.before i (omega arith))
 
 -- ---- 16
 module _ (N : ℕ) (text : List ℕ) (size : ℕ) where
   pub stop_16 : size < N → refuse 16 N ≡ decide (read_rest N text size) N
   stop_16 l = sym (ask_no (leb N size) (refuse 16 N) _ N (λ t. let h = (leb_iff N size).0 t in let f : ⊥ = omega arith in f))
 
-  pub pass_16 : N ≤ size → (r : Answer) → r ≡ decide (text_questions N text) N → r ≡ decide (read_rest N text size) N
-  pass_16 l r er = er ∙ sym (ask_yes (leb N size) (refuse 16 N) (text_questions N text) N ((leb_iff N size).1 l))
+  pub pass_16 : N ≤ size → decide (text_questions N text) N ≡ decide (read_rest N text size) N
+  pass_16 l = sym (ask_yes (leb N size) (refuse 16 N) (text_questions N text) N ((leb_iff N size).1 l))

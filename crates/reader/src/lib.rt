@@ -2,18 +2,20 @@
 // written.
 #![tactic(auto)]
 
-ghost use Rattle.std.specs.Prelude.{◌≡◌, [], ◌∷◌, ◌≤◌, ◌<◌, length, get_or, replicate};
-ghost use Rattle.lists.specs.Loop.{for, every};
+ghost use Rattle.std.specs.Prelude.{◌≡◌, [], ◌∷◌, ◌≤◌, ◌<◌, length, get_or, replicate, IsOk};
+ghost use Rattle.std.specs.List.{list_all};
 ghost use Rattle.lists.specs.Slice.{filled};
 ghost use Rattle.answers.specs.Answers.{decide, lent};
-ghost use Rattle.answers.specs.Fault.{FirstFault};
+ghost use Rattle.answers.specs.Returned.{asked, answered, answer_of};
+ghost use Rattle.answers.specs.Fault.{FirstFailing};
 ghost use Rattle.solver_text.specs.Form.{given, in_order};
 ghost use Rattle.solver_text.specs.Walk.{whole?};
 ghost use Rattle.solver_lines.specs.Lines.{marked};
 ghost use Rattle.calls.specs.Calls.{text_questions, read_rest, read_answer, read_slice};
-ghost use Rattle.reader.specs.Marks.{once?, entry_of, Says, form_questions};
+ghost use Rattle.reader.specs.Marks.{once?, entry_of, entries_of, Says, form_questions};
 
-use answers::Answer;
+use answers::{Reason, Refusal};
+use solver_lines::Mark;
 use solver_text::Said;
 use variables::Variable;
 
@@ -21,171 +23,134 @@ use variables::Variable;
 fn is_whole(said: Said) -> bool
     ensures { result ≡ whole? said }
 {
-    said.stated & (!said.satisfiable | said.closed)
+    match said.verdict {
+        Some(verdict) => !verdict.satisfiable | said.closed,
+        None => false,
+    }
 }
 
 // Questions 27 and 28. Where both are answered yes, the marks are those of the literals.
-fn ask_form(text: &[u8], n: usize, marks: &mut [u8]) -> Answer
+fn ask_form(text: &[u8], n: usize, marks: &mut [Mark]) -> Result<(), Refusal>
     requires { (n ≤ 65536) × (n ≤ length marks.old) }
-    ensures value { result ≡ decide (form_questions n text.now) 0 }
-    ensures marks_after { result.number ≡ 0 → marks.new ≡ marked marks.old (given text.now) }
-    ensures marks_len_unchanged { length marks.new ≡ length marks.old }
+    ensures value { asked result ≡ decide (form_questions n text.now) 0 }
+    ensures marks_after { IsOk result → marks.new ≡ marked marks.old (given text.now) }
 {
-    let len = text.len();
-    if 524288 < len {
-        return Answer {
-            number: 27,
-            second: 524288,
-        };
+    if 524288 < text.len() {
+        return Err(Reason::TextForm.at(524288));
     }
-    let l = solver_lines::read_lines(text, n, marks);
-    if !l.right {
-        return Answer {
-            number: 27,
-            second: l.place,
-        };
-    }
-    let said = l.said;
+    let said = match solver_lines::read_lines(text, n, marks) {
+        Ok(said) => said,
+        Err(place) => return Err(Reason::TextForm.at(place)),
+    };
     if !is_whole(said) {
-        return Answer {
-            number: 27,
-            second: len,
-        };
+        return Err(Reason::TextForm.at(text.len()));
     }
-    if !said.satisfiable {
-        return Answer {
-            number: 28,
-            second: said.place,
-        };
-    }
-    Answer {
-        number: 0,
-        second: 0,
+    match said.verdict {
+        Some(verdict) if !verdict.satisfiable => Err(Reason::Verdict.at(verdict.place)),
+        _ => Ok(()),
     }
 }
 
 // Is a variable given once?
-fn is_once(m: u8) -> bool
-    ensures { result ≡ once? m }
+fn is_once(mark: Mark) -> bool
+    ensures { result ≡ once? mark }
 {
-    (m == 1) | (m == 2)
+    (mark == Mark::Positive) | (mark == Mark::Negative)
 }
 
-// Do all marks say once? A loop with one way out, which the compiler takes many marks at a time.
-fn all_once(marks: &[u8], n: usize) -> bool
-    requires { n ≤ length marks.now }
-    ensures { result ≡ every n (λ i. once? (get_or marks.now i 0)) }
+// Do all marks say once? Beside `position` for speed: a loop with one way out, which the compiler takes many marks at a time.
+fn all_once(marks: &[Mark]) -> bool
+    ensures { result ≡ list_all once? marks.now }
 {
     let mut all = true;
-    for i in 0..n {
-        all = all & is_once(marks[i]);
+    for mark in marks {
+        all &= is_once(*mark);
     }
     all
 }
 
 // The first mark that does not say once.
-fn variable_fault(marks: &[u8], n: usize) -> usize
+fn variable_fault(marks: &[Mark], n: usize) -> Option<usize>
     requires { n ≤ length marks.now }
-    ensures { FirstFault n (λ i. once? (get_or marks.now i 0)) result }
+    ensures { FirstFailing n (λ i. once? (get_or marks.now i Mark.Absent)) result }
 {
-    if all_once(marks, n) {
-        return n;
+    let given = &marks[..n];
+    if all_once(given) {
+        return None;
     }
-    for i in 0..n {
-        if !is_once(marks[i]) {
-            return i;
-        }
-    }
-    n
+    given.iter().position(|mark| !is_once(*mark))
 }
 
-// Questions 27 to 29, with marks of zeros. Where all are answered yes, the marks say the entries.
-fn ask_text(text: &[u8], n: usize, marks: &mut [u8]) -> Answer
-    requires { (n ≤ 65536) × (n ≤ length marks.old) × (marks.old ≡ replicate (length marks.old) 0) }
-    ensures value { result ≡ decide (text_questions n text.now) n }
-    ensures says { result.number ≡ 0 → Says n (given text.now) marks.new }
-    ensures marks_len_unchanged { length marks.new ≡ length marks.old }
+// Questions 27 to 29, with marks of none. Where all are answered yes, the marks say the entries.
+fn ask_text(text: &[u8], n: usize, marks: &mut [Mark]) -> Result<(), Refusal>
+    requires { (n ≤ 65536) × (n ≤ length marks.old) × (marks.old ≡ replicate (length marks.old) Mark.Absent) }
+    ensures value { answered (λ _. n) result ≡ decide (text_questions n text.now) n }
+    ensures says { IsOk result → Says n (given text.now) marks.new }
 {
-    let form = ask_form(text, n, marks);
-    if form.number != 0 {
-        return form;
+    ask_form(text, n, marks)?;
+    if let Some(i) = variable_fault(marks, n) {
+        return Err(Reason::VariableCount.at(i + 1));
     }
-    let i = variable_fault(marks, n);
-    if i < n {
-        return Answer {
-            number: 29,
-            second: i + 1,
-        };
-    }
-    Answer {
-        number: 0,
-        second: n,
-    }
+    Ok(())
 }
 
-// The entry that a variable's mark says.
-fn entry_of(marks: &[u8], i: usize) -> i32
-    requires { (i < 65536) × (i < length marks.now) }
-    ensures { result ≡ entry_of marks.now i }
+// The entry of variable i + 1 that its mark says.
+fn entry_of(mark: Mark, i: usize) -> i32
+    requires { i < 65536 }
+    ensures { result ≡ entry_of mark i }
 {
     let x = Variable(i + 1);
-    if marks[i] == 1 {
-        return variables::literal_of(x);
+    match mark {
+        Mark::Positive => variables::literal_of(x),
+        _ => variables::negation_of(x),
     }
-    variables::negation_of(x)
 }
 
-// The entries that the marks say, first in the slice.
-fn write_entries(z: &mut [i32], marks: &[u8], n: usize)
+// The entries that the marks say, first in the slice. By index: an entry is of its mark and of its place, in two slices.
+fn write_entries(z: &mut [i32], marks: &[Mark], n: usize)
     requires { (n ≤ 65536) × (n ≤ length marks.now) × (n ≤ length z.old) }
-    ensures { z.new ≡ filled (for n λ i. entry_of marks.now i ∷ []) z.old }
+    ensures { z.new ≡ filled (entries_of n marks.now) z.old }
 {
     for i in 0..n {
-        z[i] = entry_of(marks, i);
+        z[i] = entry_of(marks[i], i);
     }
 }
 
-// Questions 27 to 29, and the entries written where all are answered yes.
-fn read_text(text: &[u8], n: usize, z: &mut [i32]) -> Answer
+// Questions 27 to 29, and the entries written where all are answered yes: their number.
+fn read_text(text: &[u8], n: usize, z: &mut [i32]) -> Result<usize, Refusal>
     requires { (n ≤ 38912) × (n ≤ length z.old) }
-    ensures value { result ≡ decide (text_questions n text.now) n }
-    ensures z_after { z.new ≡ lent result (in_order n (given text.now)) z.old }
+    ensures value { answer_of result ≡ decide (text_questions n text.now) n }
+    ensures z_after { z.new ≡ lent (answer_of result) (in_order n (given text.now)) z.old }
 {
-    let mut marks = [0u8; 38912];
-    let answer = ask_text(text, n, &mut marks);
-    if answer.number != 0 {
-        return answer;
-    }
+    let mut marks = [Mark::Absent; 38912];
+    ask_text(text, n, &mut marks)?;
     write_entries(z, &marks, n);
-    answer
+    Ok(n)
 }
 
 // Questions 16 and 27 to 29, of a formula of n variables, and the entries written where all are answered yes.
-pub fn read_entries(n: usize, text: &[u8], z: &mut [i32]) -> Answer
+pub fn read_entries(n: usize, text: &[u8], z: &mut [i32]) -> Result<usize, Refusal>
     requires { n ≤ 38912 }
-    ensures value { result ≡ decide (read_rest n text.now (length z.old)) n }
-    ensures z_after { z.new ≡ lent result (in_order n (given text.now)) z.old }
+    ensures value { answer_of result ≡ decide (read_rest n text.now (length z.old)) n }
+    ensures z_after { z.new ≡ lent (answer_of result) (in_order n (given text.now)) z.old }
 {
     if z.len() < n {
-        return Answer {
-            number: 16,
-            second: n,
-        };
+        return Err(Reason::ValuationRoom.at(n));
     }
     read_text(text, n, z)
 }
 
 // The call, for every byte string, every two numbers, all bytes given as a text and every slice.
-pub fn read_valuation(b: &[u8], m: usize, rule: usize, text: &[u8], z: &mut [i32]) -> Answer
-    ensures value { result ≡ read_answer b.now m rule text.now (length z.old) }
+pub fn read_valuation(
+    b: &[u8],
+    m: usize,
+    rule: usize,
+    text: &[u8],
+    z: &mut [i32],
+) -> Result<usize, Refusal>
+    ensures value { answer_of result ≡ read_answer b.now m rule text.now (length z.old) }
     ensures z_after { z.new ≡ read_slice b.now m rule text.now z.old }
 {
-    let inspection = instance_check::check_instance(b, m, rule);
-    let refusal = inspection.answer;
-    if refusal.number != 0 {
-        return refusal;
-    }
-    let c = inspection.checked;
-    let n = counts::variable_count(c.sizes);
-    read_entries(n, text, z)
+    let problem = instance_check::check_instance(b, m, rule)?;
+    read_entries(counts::variable_count(problem.shape), text, z)
 }

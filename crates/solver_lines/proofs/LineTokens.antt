@@ -1,23 +1,27 @@
 -- The tokens of a v line, one after another, and the marks they leave.
-use mathlib.Core.Path.{◌≡◌, refl, sym, ◌∙◌, ap, subst}
+use mathlib.Core.Path.{◌≡◌, refl, sym, ◌∙◌, ap}
 use mathlib.Core.Logic.{◌⊎◌, inl, inr, ⊎_elim}
 use mathlib.Core.List.{List, [], ◌∷◌, ◌++◌}
 use mathlib.Core.Bool.{Bool, true, false, cond}
-use Prim.Native.Nat.{ℕ, zero, suc, ◌+◌, ◌-◌, ◌<◌}
+use Prim.Native.Nat.{ℕ, zero, suc, ◌+◌, ◌-◌, ◌≤◌, ◌<◌}
 use native.Mathlib.Omega.{arith}
 use borrow.Author.Tests.{eq-eqb, ne_eqb, eqb-true}
-use lib.Dec.{T, eqb}
+use lib.Dec.{eqb}
 use lib.IntN.{ℤ, pos, negsuc}
 use lib.ListN.{length, get_or, drop, set, length-set}
 use lib.Seq.{get_or-drop, drop-drop}
-use Rattle.lists.specs.Loop.{each, unless}
-use Rattle.solver_text.specs.Text.{ahead, behind, pieces, token?, zero?, value}
+use Rattle.std.specs.Prelude.{None, Some, is_some}
+use Rattle.std.specs.Bool.{then_some}
+use Rattle.lists.specs.Loop.{unless}
+use Rattle.solver_text.specs.Text.{ahead, behind, pieces, zero?, value, values}
+use Rattle.solver_text.specs.Form.{literals_on}
 use Rattle.solver_text.proofs.Walk.{split}
 use Rattle.solver_tokens.specs.declared.Token.{Token}
-use Rattle.solver_lines.specs.declared.Values.{Values}
-use Rattle.solver_tokens.specs.Token.{byte, line, token, literal, IsToken}
-use Rattle.solver_lines.specs.Lines.{again, mark, marked, IsValues}
-use Rattle.solver_tokens.proofs.Laws.{byte_in}
+use Rattle.solver_tokens.specs.Token.{byte, line, token, literal, token_of}
+use Rattle.solver_tokens.proofs.Laws.{byte_in, IsToken, token_is, token_wrong}
+use Rattle.solver_lines.specs.declared.Mark.{Mark}
+use Rattle.solver_lines.specs.declared.Mark.TheVariants.{Absent, Positive, Negative}
+use Rattle.solver_lines.specs.Lines.{again, mark, marked, values_of}
 
 -- ---- behind a token: the line's end, or a space and the next token
 abbrev Next : List ℕ → ℕ → Type 0
@@ -56,109 +60,120 @@ module _ (text : List ℕ) where
       (next (drop at text))
 
 -- ---- marks
-pub mark_length : (ms : List ℕ) (v : ℤ) → length (mark ms v) ≡ length ms
+pub mark_length : (ms : List Mark) (v : ℤ) → length (mark ms v) ≡ length ms
 unfolding mark
 mark_length ms (pos zero) = refl
 mark_length ms (pos (suc i)) = length-set ms i _
 mark_length ms (negsuc i) = length-set ms i _
 
-pub mark_none : (ms : List ℕ) (b : Bool) (size : ℕ) → size ≡ 0 → ms ≡ mark ms (literal b size)
+pub mark_none : (ms : List Mark) (b : Bool) (size : ℕ) → size ≡ 0 → ms ≡ mark ms (literal b size)
 unfolding mark
 mark_none ms true size e = rw e
 mark_none ms false size e = rw e
 
-pub mark_some : (ms : List ℕ) (b : Bool) (size m : ℕ) → (size ≡ 0 → ⊥) → m ≡ again (get_or ms (size - 1) 0) (cond b 2 1) → set ms (size - 1) m ≡ mark ms (literal b size)
+pub mark_some : (ms : List Mark) (b : Bool) (size : ℕ) → (size ≡ 0 → ⊥)
+    → set ms (size - 1) (again (get_or ms (size - 1) Absent) (cond b Negative Positive)) ≡ mark ms (literal b size)
 unfolding mark
-mark_some ms b zero m d e = absurd (d refl)
-mark_some ms true (suc i) m d e = let z : suc i - 1 ≡ i = omega arith in rw z (ap (set ms i) (e ∙ ap (λ (k : ℕ). again (get_or ms k 0) 2) z))
-mark_some ms false (suc i) m d e = let z : suc i - 1 ≡ i = omega arith in rw z (ap (set ms i) (e ∙ ap (λ (k : ℕ). again (get_or ms k 0) 1) z))
+mark_some ms b zero d = absurd (d refl)
+mark_some ms true (suc i) d = let z : suc i - 1 ≡ i = omega arith in rw z
+mark_some ms false (suc i) d = let z : suc i - 1 ≡ i = omega arith in rw z
 
-pub marked_append : (ms : List ℕ) (a b : List ℤ) → marked ms (a ++ b) ≡ marked (marked ms a) b
+pub marked_append : (ms : List Mark) (a b : List ℤ) → marked ms (a ++ b) ≡ marked (marked ms a) b
 unfolding marked
 marked_append ms [] b = refl
 marked_append ms (v ∷ a) b = marked_append (mark ms v) a b
 
-pub none : {A : Type 0} {b : Bool} → b ≡ false → b ≡ true → A
-none f t = absurd (subst T (sym t ∙ f) tt)
+-- the literals of the tokens of a line
+abbrev pub literals_in : List ℕ → List ℤ
+literals_in l = literals_on (values (pieces 32 l))
+
+pub some_then : {A : Type 0} (b : Bool) (x : A) → is_some (then_some b x) ≡ true → b ≡ true
+some_then true x e = refl
+some_then false x e = e
 
 -- ---- a line, by the token that stands first in it
-module _ (text : List ℕ) (N at : ℕ) (x : Token) (hx : IsToken N (token text at) at x) (ms : List ℕ) where
-  pub values_wrong : (r : Values) → r.right ≡ false → x.right ≡ false → IsValues N ms (line text at) at r ms
-  unfolding token
-  values_wrong r e h =
-      let z : token? N (ahead 32 (line text at)) ≡ false = sym hx.right ∙ h in
-      record { right = e ∙ rw z; closed = none e; marks = none e; end = none e; long = refl }
+module _ (text : List ℕ) (N at : ℕ) where
+  abbrev l : List ℕ
+  l = line text at
 
-  module _ (h : x.right ≡ true) (ms1 : List ℕ) (em : ms1 ≡ mark ms (literal x.negative x.size)) (f : ℕ) (ef : f ≡ byte text x.end) where
-    abbrev l : List ℕ
-    l = line text at
+  pub values_wrong : None ≡ token_of N (token text at) at → None ≡ values_of N l at
+  unfolding token values_of
+  values_wrong e = rw (token_wrong N (ahead 32 l) at e)
 
-    first : token? N (ahead 32 l) ≡ true
+  module _ (x : Token) (ex : Some x ≡ token_of N (token text at) at) where
+    tok : IsToken N (ahead 32 l) at x
     unfolding token
-    first = sym hx.right ∙ h
+    tok = token_is N (ahead 32 l) at x ex
 
-    size_is : zero? (ahead 32 l) ≡ eqb x.size 0
+    pub token_most : x.size ≤ N
+    token_most = tok.most
+
+    pub token_later : at ≤ x.end
+    token_later = omega (arith, tok.end)
+
+    here : After text at x.end
     unfolding token
-    size_is = hx.zero h
+    here = after_token text at x.end tok.end
 
-    -- the token's literal is marked; 0 is none
-    one_marked : marked ms (unless (zero? (ahead 32 l)) (value (ahead 32 l))) ≡ ms1
-    unfolding token marked
-    one_marked =
-        split (eqb x.size 0)
-        (λ e. rw (size_is, e) (mark_none ms x.negative x.size (eqb-true x.size 0 e) ∙ sym em))
-        (λ e. rw (size_is, e) (ap (mark ms) (hx.value h) ∙ sym em))
+    -- the token's literal is marked, 0 is none; and then those of the tokens behind it
+    module _ (ms ms1 : List Mark) (em : ms1 ≡ mark ms (literal x.negative x.size)) where
+      one_marked : marked ms (unless (zero? (ahead 32 l)) (value (ahead 32 l))) ≡ ms1
+      unfolding marked
+      one_marked =
+          split (eqb x.size 0)
+          (λ e. rw (tok.zero, e) (mark_none ms x.negative x.size (eqb-true x.size 0 e) ∙ sym em))
+          (λ e. rw (tok.zero, e) (ap (mark ms) tok.value ∙ sym em))
 
-    -- and then those of the tokens behind it
-    marks_are : (ts : List (List ℕ)) → marked ms (each (λ t. unless (zero? t) (value t)) (ahead 32 l ∷ ts)) ≡ marked ms1 (each (λ t. unless (zero? t) (value t)) ts)
-    marks_are ts =
-        marked_append ms (unless (zero? (ahead 32 l)) (value (ahead 32 l))) (each (λ t. unless (zero? t) (value t)) ts)
-        ∙ ap (λ (m : List ℕ). marked m (each (λ t. unless (zero? t) (value t)) ts)) one_marked
+      marks_are : (ts : List (List ℕ)) → marked ms (literals_on (values (ahead 32 l ∷ ts))) ≡ marked ms1 (literals_on (values ts))
+      marks_are ts =
+          marked_append ms (unless (zero? (ahead 32 l)) (value (ahead 32 l))) (literals_on (values ts))
+          ∙ ap (λ (m : List Mark). marked m (literals_on (values ts))) one_marked
 
-    long : length ms1 ≡ length ms
-    long = ap length em ∙ mark_length ms _
-
-    last_marks : behind 32 l ≡ [] → ms1 ≡ marked ms (each (λ t. unless (zero? t) (value t)) (pieces 32 l))
-    unfolding marked
-    last_marks e = sym (ap (λ (ts : List (List ℕ)). marked ms (each (λ t. unless (zero? t) (value t)) (ahead 32 l ∷ ts))) e ∙ marks_are [])
-
-    pub values_zero : (b : Bool) → b ≡ eqb f 10 → x.size ≡ 0 → IsValues N ms l at (record { right = b; closed = true; end = x.end }) ms1
-    unfolding token marked
-    values_zero b eb ez =
-        let z : zero? (ahead 32 l) ≡ true = size_is ∙ eq-eqb x.size 0 ez in
-        ⊎_elim
-        (λ a. rw (eb, eq-eqb f 10 (ef ∙ a.0))
-        (record { right = rw (a.1, first); closed = λ _. rw (a.1, z); marks = λ _. last_marks a.1; end = λ _. a.2; long = long }))
-        (λ a. let o : eqb f 10 ≡ false = ne_eqb f 10 (λ y. let q = ef ∙ a.0 in omega arith) in
-        rw (eb, o)
-        (record { right = rw (a.1, first, z); closed = none refl; marks = none refl; end = none refl; long = long }))
-        (after_token text at x.end (hx.end h))
-
-    module _ (d : x.size ≡ 0 → ⊥) where
-      some : zero? (ahead 32 l) ≡ false
-      some = size_is ∙ ne_eqb x.size 0 d
-
-      pub values_last : f ≡ 10 → IsValues N ms l at (record { right = true; closed = false; end = x.end }) ms1
-      unfolding token marked
-      values_last e =
+      pub marks_last : byte text x.end ≡ 10 → ms1 ≡ marked ms (literals_in l)
+      unfolding marked
+      marks_last e =
           ⊎_elim
-          (λ a. (record { right = rw (a.1, first); closed = λ _. rw (a.1, some); marks = λ _. last_marks a.1; end = λ _. a.2; long = long }))
-          (λ a. absurd (let q : f ≡ 32 = ef ∙ a.0 in let o : ⊥ = omega arith in o))
-          (after_token text at x.end (hx.end h))
+          (λ a. sym (ap (λ (ts : List (List ℕ)). marked ms (literals_on (values (ahead 32 l ∷ ts)))) a.1 ∙ marks_are []))
+          (λ a. absurd (let o : ⊥ = omega (arith, e, a.0) in o))
+          here
 
-      pub values_next : (f ≡ 10 → ⊥) → x.end < length text
-      values_next g = byte_in text x.end (λ e. g (ef ∙ e))
-
-      pub values_more : (f ≡ 10 → ⊥) → (r : Values) (ms' : List ℕ) → IsValues N ms1 (line text (x.end + 1)) (x.end + 1) r ms' → IsValues N ms l at r ms'
-      unfolding token marked
-      values_more g r ms' v =
+      pub marks_more : (byte text x.end ≡ 10 → ⊥) → marked ms1 (literals_in (line text (x.end + 1))) ≡ marked ms (literals_in l)
+      marks_more g =
           ⊎_elim
-          (λ a. absurd (g (ef ∙ a.0)))
-          (λ a. record {
-            right = v.right ∙ rw (a.1, first, some);
-            closed = λ t. v.closed t ∙ rw (a.1, some);
-            marks = λ t. v.marks t ∙ sym (ap (λ (ts : List (List ℕ)). marked ms (each (λ t. unless (zero? t) (value t)) (ahead 32 l ∷ ts))) a.1 ∙ marks_are (pieces 32 (line text (x.end + 1))));
-            end = λ t. v.end t ∙ a.2;
-            long = v.long ∙ long;
-          })
-          (after_token text at x.end (hx.end h))
+          (λ a. absurd (g a.0))
+          (λ a. sym (ap (λ (ts : List (List ℕ)). marked ms (literals_on (values (ahead 32 l ∷ ts)))) a.1 ∙ marks_are (pieces 32 (line text (x.end + 1)))))
+          here
+
+    -- f is the byte behind the token
+    module _ (f : ℕ) (ef : f ≡ byte text x.end) where
+      pub values_zero : x.size ≡ 0 → then_some (eqb f 10) (record { closed = true; end = x.end }) ≡ values_of N l at
+      unfolding values_of
+      values_zero ez =
+          let z : zero? (ahead 32 l) ≡ true = tok.zero ∙ eq-eqb x.size 0 ez in
+          ⊎_elim
+          (λ a. rw (eq-eqb f 10 (ef ∙ a.0), a.1, tok.right, z, a.2))
+          (λ a. let o : eqb f 10 ≡ false = ne_eqb f 10 (λ y. omega (arith, a.0)) in rw (o, a.1, tok.right, z))
+          here
+
+      module _ (d : x.size ≡ 0 → ⊥) where
+        some : zero? (ahead 32 l) ≡ false
+        some = tok.zero ∙ ne_eqb x.size 0 d
+
+        pub values_last : f ≡ 10 → Some (record { closed = false; end = x.end }) ≡ values_of N l at
+        unfolding values_of
+        values_last e =
+            ⊎_elim
+            (λ a. rw (a.1, tok.right, some, a.2))
+            (λ a. absurd (let o : ⊥ = omega (arith, a.0) in o))
+            here
+
+        pub values_next : (f ≡ 10 → ⊥) → x.end < length text
+        values_next g = byte_in text x.end (λ e. g (ef ∙ e))
+
+        pub values_more : (f ≡ 10 → ⊥) → values_of N (line text (x.end + 1)) (x.end + 1) ≡ values_of N l at
+        unfolding values_of
+        values_more g =
+            ⊎_elim
+            (λ a. absurd (g (ef ∙ a.0)))
+            (λ a. rw (a.1, tok.right, some, ← a.2))
+            here

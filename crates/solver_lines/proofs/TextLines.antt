@@ -1,192 +1,242 @@
 -- Lines by their kinds, and one after another.
-use mathlib.Core.Path.{◌≡◌, refl, sym, ◌∙◌, ap, ap₂, subst}
-use mathlib.Core.Logic.{◌⊎◌, inl, inr, ⊎_elim}
+use mathlib.Core.Path.{◌≡◌, refl, sym, ◌∙◌, ap, ap₂}
+use mathlib.Core.Logic.{by_cases, ◌⊎◌, inl, inr, ⊎_elim}
 use mathlib.Core.List.{List, [], ◌∷◌}
-use mathlib.Core.Bool.{Bool, true, false, not, ◌&&◌, ◌||◌, cond}
+use mathlib.Core.Bool.{Bool, true, false, ◌&&◌, ◌||◌, cond}
 use Prim.Native.Nat.{ℕ, suc, ◌+◌, ◌-◌, ◌≤◌, ◌<◌}
 use native.Mathlib.Nat.{le_refl}
-use native.Mathlib.Numerals.{add-one}
+use native.Mathlib.Decide.{dec_lt}
 use native.Mathlib.Omega.{arith}
-use borrow.Author.Tests.{ne_eqb, eqb-true, eqb-false, le-leb, lt-leb}
-use lib.Dec.{T, eqb}
-use lib.ListN.{length, get_or, drop, length-drop}
-use lib.Seq.{drop-drop, drop-cons, drop-length}
-use Rattle.lists.specs.Loop.{all}
-use Rattle.lists.proofs.Tests.{not_iff, eqb_iff}
-use Rattle.lists.proofs.Loops.{all_get_d}
-use Rattle.answers.specs.Answers.{Question, decide}
+use borrow.Author.Tests.{ne_eqb, eqb-true, eqb-false, le-leb, lt-leb, lt-ltb, le-ltb}
+use lib.Dec.{leb, ltb, eqb}
+use lib.ListN.{length, take, drop, length-drop}
+use lib.Seq.{drop-drop}
+use Rattle.std.specs.Prelude.{Option, None, Some, is_some, option_map, unwrap_or}
+use Rattle.std.specs.List.{position, position_or_len}
+use Rattle.std.specs.Cmp.Lexicographic.{pointwise}
+use Rattle.std.proofs.lemmas.List.Recursion.{is_position_or_len}
+use Rattle.lists.specs.Loop.{any}
+use Rattle.answers.specs.Answers.{Question, refuse, decide}
+use Rattle.solver_text.specs.declared.Verdict.{Verdict}
 use Rattle.solver_text.specs.declared.Said.{Said}
-use Rattle.solver_text.specs.Text.{ahead, behind, pieces, same, Kind, skipped, status, values, neither, kind, satisfiable, unsatisfiable, unknown}
+use Rattle.solver_text.specs.Text.{ahead, behind, pieces, lines, same, zero?, Kind, skipped, status, values, neither, kind, satisfiable, unsatisfiable, unknown}
 use Rattle.solver_text.specs.Form.{literals_on, literals_of}
-use Rattle.solver_text.specs.Walk.{right?, after, said_after, wrong_lines}
+use Rattle.solver_text.specs.Walk.{stated?, right?, after, said_after, wrong_lines}
 use Rattle.solver_text.proofs.Walk.{split}
+use Rattle.solver_tokens.specs.Token.{byte, line}
+use Rattle.solver_tokens.proofs.Laws.{line_end, line_more, some_cond, none_cond}
+use Rattle.solver_lines.specs.declared.Mark.{Mark}
+use Rattle.solver_lines.specs.declared.Status.{Status}
+use Rattle.solver_lines.specs.declared.Status.TheVariants.{Satisfiable, Unsatisfiable, Unknown}
 use Rattle.solver_lines.specs.declared.Values.{Values}
 use Rattle.solver_lines.specs.declared.Line.{Line}
-use Rattle.solver_lines.specs.declared.Lines.{Lines}
-use Rattle.solver_tokens.specs.Token.{byte, line}
-use Rattle.solver_lines.specs.Lines.{marked, status_of, lines_at, IsValues, IsLine, IsLines}
-use Rattle.solver_tokens.proofs.Laws.{line_end, line_more}
-use Rattle.solver_lines.proofs.LineTokens.{none, marked_append}
+use Rattle.solver_lines.specs.Lines.{marked, values_of, status_of, line_of}
+use Rattle.solver_lines.proofs.LineTokens.{marked_append, literals_in}
 
--- ---- the end of a line, and words compared
-module _ (text : List ℕ) where
-  pub end_here : (at from : ℕ) → at + length (line text at) ≡ from + length (line text from) → byte text at ≡ 10 → at ≡ from + length (line text from)
-  end_here at from e z = omega (arith, e, ap length (line_end text at z))
+-- ---- the end of a line
+ahead_length : (s : ℕ) (l : List ℕ) → length (ahead s l) ≡ position_or_len (λ d. eqb d s) l
+unfolding ahead
+ahead_length s l = is_position_or_len (λ r. length (ahead s r)) (λ d. eqb d s) refl step l
+  where
+    step : (x : ℕ) (l : List ℕ) → length (ahead s (x ∷ l)) ≡ cond (eqb x s) 0 (1 + length (ahead s l))
+    step x l = split (eqb x s) (λ h. rw h) (λ h. rw h (omega arith))
 
-  pub end_later : (at from : ℕ) → at + length (line text at) ≡ from + length (line text from) → (byte text at ≡ 10 → ⊥)
-      → at + 1 + length (line text (at + 1)) ≡ from + length (line text from)
-  end_later at from e z = omega (arith, e, ap length (line_more text at z))
+ahead_most : (s : ℕ) (l : List ℕ) → length (ahead s l) ≤ length l
+unfolding ahead
+ahead_most s [] = le_refl 0
+ahead_most s (x ∷ l) = split (eqb x s) (λ h. rw h (omega arith)) (λ h. rw h (omega (arith, ahead_most s l)))
 
-  -- one byte of a word that holds no byte 10
-  same_byte : (at y : ℕ) (r : List ℕ) → (y ≡ 10 → ⊥) → same (line text at) (y ∷ r) ≡ (eqb (byte text at) y && same (line text (at + 1)) r)
-  same_byte at y r d =
-      split (eqb (byte text at) 10)
-      (λ h.
-      let e = eqb-true (byte text at) 10 h in
-      rw (line_end text at e, ne_eqb (byte text at) y (λ z. d (sym z ∙ e))))
-      (λ h. rw (line_more text at (eqb-false (byte text at) 10 h)))
+pub line_length : (text : List ℕ) (at : ℕ) → unwrap_or (position (λ d. eqb d 10) (drop at text)) (length (drop at text)) ≡ length (line text at)
+unfolding line
+line_length text at = by_position (position_or_len (λ d. eqb d 10) (drop at text)) (sym (ahead_length 10 (drop at text)))
+  where
+    by_position : (k : ℕ) → k ≡ length (ahead 10 (drop at text)) → unwrap_or (cond (ltb k (length (drop at text))) (Some k) None) (length (drop at text)) ≡ length (ahead 10 (drop at text))
+    by_position k e =
+        let m : length (ahead 10 (drop at text)) ≤ length (drop at text) = ahead_most 10 (drop at text) in
+        by_cases (dec_lt k (length (drop at text)))
+        (λ h. rw (lt-ltb k (length (drop at text)) h) e)
+        (λ h. rw (le-ltb k (length (drop at text)) (omega arith)) (omega arith))
 
-  module _ (word : List ℕ) (clean : T (all (λ d. not (eqb d 10)) word)) (i : ℕ) (l : i < length word) where
-    not_ten : get_or word i 0 ≡ 10 → ⊥
-    not_ten e = (not_iff (eqb (get_or word i 0) 10)).0 ((all_get_d 0 (λ d. not (eqb d 10)) word).0 clean i l) ((eqb_iff (get_or word i 0) 10).1 e)
+ahead_taken : (s : ℕ) (l : List ℕ) → take (length (ahead s l)) l ≡ ahead s l
+unfolding ahead
+ahead_taken s [] = refl
+ahead_taken s (x ∷ l) = split (eqb x s) (λ h. rw h) (λ h. rw h (ap (λ (r : List ℕ). x ∷ r) (ahead_taken s l)))
 
-    pub same_next : (at : ℕ) → same (line text at) (drop i word) ≡ (eqb (byte text at) (get_or word i 0) && same (line text (at + 1)) (drop (i + 1) word))
-    same_next at =
-        ap (same (line text at)) (drop-cons word i 0 l)
-        ∙ same_byte at (get_or word i 0) (drop (suc i) word) not_ten
-        ∙ ap (λ (j : ℕ). eqb (byte text at) (get_or word i 0) && same (line text (at + 1)) (drop j word)) (sym (add-one i))
+pub line_taken : (text : List ℕ) (at end : ℕ) → end ≡ at + length (line text at) → take (end - at) (drop at text) ≡ line text at
+unfolding line
+line_taken text at end e =
+    let k : end - at ≡ length (ahead 10 (drop at text)) = omega arith in
+    rw k (ahead_taken 10 (drop at text))
 
-  pub same_none : (at : ℕ) → same (line text at) [] ≡ eqb (byte text at) 10
-  same_none at =
-      split (eqb (byte text at) 10)
-      (λ h. rw (line_end text at (eqb-true (byte text at) 10 h), h))
-      (λ h. rw (line_more text at (eqb-false (byte text at) 10 h), h))
+pub line_room : (text : List ℕ) (at : ℕ) → at ≤ length text → at + length (line text at) ≤ length text
+unfolding line
+line_room text at h = omega (arith, ahead_most 10 (drop at text), length-drop at text)
 
-  pub same_end : (word : List ℕ) (from i : ℕ) → i ≡ length word → same (line text (from + i)) (drop i word) ≡ eqb (byte text (from + length word)) 10
-  same_end word from i e =
-      ap (λ (j : ℕ). same (line text (from + j)) (drop j word)) e
-      ∙ ap (same (line text (from + length word))) (drop-length word)
-      ∙ same_none (from + length word)
+-- ---- an s line's kind
+pub same_is : (a b : List ℕ) → pointwise eqb a b ≡ same a b
+same_is [] [] = refl
+same_is [] (y ∷ b) = refl
+same_is (x ∷ a) [] = refl
+same_is (x ∷ a) (y ∷ b) = ap (λ (c : Bool). eqb x y && c) (same_is a b)
+
+abbrev kind_of : Option Status → Kind
+kind_of None = neither
+kind_of (Some Satisfiable) = status true
+kind_of (Some Unsatisfiable) = status false
+kind_of (Some Unknown) = status false
+
+kind_by : (p q r : Bool) → cond p (status true) (cond (q || r) (status false) neither)
+    ≡ kind_of (cond p (Some Satisfiable) (cond q (Some Unsatisfiable) (cond r (Some Unknown) None)))
+kind_by true q r = refl
+kind_by false true r = refl
+kind_by false false true = refl
+kind_by false false false = refl
+
+abbrev pub is_satisfiable : Status → Bool
+is_satisfiable Satisfiable = true
+is_satisfiable Unsatisfiable = false
+is_satisfiable Unknown = false
+
+kind_some : (s : Status) → kind_of (Some s) ≡ status (is_satisfiable s)
+kind_some Satisfiable = refl
+kind_some Unsatisfiable = refl
+kind_some Unknown = refl
+
+no_literals : (o : Option Status) → literals_on (kind_of o) ≡ []
+no_literals None = refl
+no_literals (Some Satisfiable) = refl
+no_literals (Some Unsatisfiable) = refl
+no_literals (Some Unknown) = refl
+
+wrong_again : (N : ℕ) (said : Said) → stated? said ≡ true → (o : Option Status) → right? N said (kind_of o) ≡ false
+wrong_again N said e None = refl
+wrong_again N said e (Some Satisfiable) = rw e
+wrong_again N said e (Some Unsatisfiable) = rw e
+wrong_again N said e (Some Unknown) = rw e
+
+none_is : {A : Type 0} (o : Option A) → is_some o ≡ false → o ≡ None
+none_is None e = refl
+none_is (Some x) e = cc
 
 -- ---- what a line of each kind says
-by_none : (p q : Bool) → ◌≡◌ {A = ℕ} (cond p 1 (cond q 2 0)) 0 → cond p (status true) (cond q (status false) neither) ≡ neither
-by_none true q e = absurd (let f : ⊥ = omega arith in f)
-by_none false true e = absurd (let f : ⊥ = omega arith in f)
-by_none false false e = refl
-
-by_some : (p q : Bool) (s : ℕ) → s ≡ cond p 1 (cond q 2 0) → (s ≡ 0 → ⊥) → cond p (status true) (cond q (status false) neither) ≡ status (eqb s 1)
-by_some true q s e d = ap (λ (x : ℕ). status (eqb x 1)) (sym e)
-by_some false true s e d = ap (λ (x : ℕ). status (eqb x 1)) (sym e)
-by_some false false s e d = absurd (d e)
-
-module _ (text : List ℕ) (N at : ℕ) (said : Said) (ms : List ℕ) where
+module _ (text : List ℕ) (N at : ℕ) (said : Said) where
   abbrev l : List ℕ
   l = line text at
 
   -- the line's kind is known
-  module _ (k : Kind) (e : kind l ≡ k) where
-    wrong_kind : (r : Line) → r.right ≡ false → right? N said k ≡ false → IsLine N ms l at said r ms
-    wrong_kind r z h =
-        record { right = z ∙ sym (ap (right? N said) e ∙ h); says = none z; marks = none z; end = none z; long = refl }
+  wrong_kind : (k : Kind) → kind l ≡ k → right? N said k ≡ false → None ≡ line_of N l at said
+  unfolding line_of
+  wrong_kind k e h = rw (e, h)
 
-    right_kind : (r : Line) (ms' : List ℕ) → r.right ≡ right? N said k → (r.right ≡ true → r.said ≡ after at said k)
-        → (r.right ≡ true → ms' ≡ marked ms (literals_on k)) → (r.right ≡ true → r.end ≡ at + length l) → length ms' ≡ length ms → IsLine N ms l at said r ms'
-    right_kind r ms' a b c d f =
-        record {
-          right = a ∙ sym (ap (right? N said) e);
-          says = λ t. b t ∙ sym (ap (after at said) e);
-          marks = λ t. c t ∙ sym (ap (λ (x : Kind). marked ms (literals_on x)) e);
-          end = d;
-          long = f;
-        }
+  right_kind : (k : Kind) → kind l ≡ k → right? N said k ≡ true → Some (record { end = at + length l; said = after at said k }) ≡ line_of N l at said
+  unfolding line_of
+  right_kind k e h = rw (e, h)
 
   -- nothing, or c
-  pub line_none : byte text at ≡ 10 → IsLine N ms l at said (record { right = true; end = at; said = said }) ms
-  unfolding kind marked
-  line_none z =
-      let e : l ≡ [] = line_end text at z in
-      right_kind skipped (ap kind e) _ _ refl (λ _. refl) (λ _. refl) (λ _. omega (arith, ap length e)) refl
-
-  pub line_c : (end : ℕ) → end ≡ at + length l → byte text at ≡ 99 → IsLine N ms l at said (record { right = true; end = end; said = said }) ms
-  unfolding kind marked
-  line_c end en z =
-      let e : l ≡ 99 ∷ line text (at + 1) = line_more text at (λ y. omega arith) ∙ ap (λ (x : ℕ). x ∷ line text (at + 1)) z in
-      right_kind skipped (ap kind e) _ _ refl (λ _. refl) (λ _. refl) (λ _. en) refl
-
-  pub line_other : (r : Line) → r.right ≡ false → (byte text at ≡ 118 → ⊥) → (byte text at ≡ 115 → ⊥) → (byte text at ≡ 10 → ⊥) → (byte text at ≡ 99 → ⊥)
-      → IsLine N ms l at said r ms
+  empty_kind : byte text at ≡ 10 → kind l ≡ skipped
   unfolding kind
-  line_other r z a b c d =
+  empty_kind z = ap kind (line_end text at z)
+
+  pub line_none : byte text at ≡ 10 → Some (record { end = at; said = said }) ≡ line_of N l at said
+  line_none z =
+      let e : at + length l ≡ at = omega (arith, ap length (line_end text at z)) in
+      ap (λ (i : ℕ). Some (record { end = i; said = said })) (sym e) ∙ right_kind skipped (empty_kind z) refl
+
+  pub marks_none : (ms : List Mark) → byte text at ≡ 10 → ms ≡ marked ms (literals_on (kind l))
+  unfolding marked
+  marks_none ms z = rw (empty_kind z)
+
+  c_kind : byte text at ≡ 99 → kind l ≡ skipped
+  unfolding kind
+  c_kind z = ap kind (line_more text at (λ y. omega arith) ∙ ap (λ (x : ℕ). x ∷ line text (at + 1)) z)
+
+  pub line_c : (end : ℕ) → end ≡ at + length l → byte text at ≡ 99 → Some (record { end = end; said = said }) ≡ line_of N l at said
+  line_c end en z = ap (λ (i : ℕ). Some (record { end = i; said = said })) en ∙ right_kind skipped (c_kind z) refl
+
+  pub marks_c : (ms : List Mark) → byte text at ≡ 99 → ms ≡ marked ms (literals_on (kind l))
+  unfolding marked
+  marks_c ms z = rw (c_kind z)
+
+  pub line_other : (byte text at ≡ 118 → ⊥) → (byte text at ≡ 115 → ⊥) → (byte text at ≡ 99 → ⊥) → (byte text at ≡ 10 → ⊥) → None ≡ line_of N l at said
+  unfolding kind
+  line_other a b d c =
       let e : kind l ≡ neither =
       ap kind (line_more text at c)
       ∙ rw (ne_eqb (byte text at) 99 d, ne_eqb (byte text at) 115 b, ne_eqb (byte text at) 118 a) in
-      wrong_kind neither e r z refl
+      wrong_kind neither e refl
 
   -- s
   module _ (z : byte text at ≡ 115) where
     s_line : l ≡ 115 ∷ line text (at + 1)
     s_line = line_more text at (λ y. omega arith) ∙ ap (λ (x : ℕ). x ∷ line text (at + 1)) z
 
-    s_none : (x : List ℕ) → status_of (115 ∷ x) ≡ 0 → kind (115 ∷ x) ≡ neither
+    s_kind : kind l ≡ kind_of (status_of l)
     unfolding kind status_of
-    s_none x h = by_none (same (115 ∷ x) satisfiable) (same (115 ∷ x) unsatisfiable || same (115 ∷ x) unknown) h
+    s_kind = rw s_line (kind_by (same (115 ∷ line text (at + 1)) satisfiable) (same (115 ∷ line text (at + 1)) unsatisfiable) (same (115 ∷ line text (at + 1)) unknown))
 
-    s_some : (x : List ℕ) (s : ℕ) → s ≡ status_of (115 ∷ x) → (s ≡ 0 → ⊥) → kind (115 ∷ x) ≡ status (eqb s 1)
-    unfolding kind status_of
-    s_some x s h d = by_some (same (115 ∷ x) satisfiable) (same (115 ∷ x) unsatisfiable || same (115 ∷ x) unknown) s h d
+    pub line_s_none : None ≡ status_of l → None ≡ line_of N l at said
+    line_s_none e = wrong_kind neither (s_kind ∙ ap kind_of (sym e)) refl
 
-    pub line_s_none : (s : ℕ) (r : Line) → s ≡ status_of l → s ≡ 0 → r.right ≡ false → IsLine N ms l at said r ms
-    line_s_none s r e h w = wrong_kind neither (ap kind s_line ∙ s_none _ (sym (e ∙ ap status_of s_line) ∙ h)) r w refl
+    pub line_s_again : stated? said ≡ true → None ≡ line_of N l at said
+    line_s_again e = wrong_kind _ s_kind (wrong_again N said e (status_of l))
 
-    module _ (s : ℕ) (e : s ≡ status_of l) (d : s ≡ 0 → ⊥) where
-      s_kind : kind l ≡ status (eqb s 1)
-      s_kind = ap kind s_line ∙ s_some _ s (e ∙ ap status_of s_line) d
+    pub line_s : (s : Status) → Some s ≡ status_of l → stated? said ≡ false
+        → Some (record { end = at + length l; said = record { verdict = Some (record { satisfiable = is_satisfiable s; place = at }); closed = said.closed } }) ≡ line_of N l at said
+    line_s s e f =
+        ap (λ (v : Option Verdict). Some (record { end = at + length l; said = record { verdict = Some (record { satisfiable = unwrap_or (option_map (λ u. u.satisfiable) v) false || is_satisfiable s; place = unwrap_or (option_map (λ u. u.place) v) at }); closed = said.closed } })) (sym (none_is said.verdict f))
+        ∙ right_kind (status (is_satisfiable s)) (s_kind ∙ ap kind_of (sym e) ∙ kind_some s) (rw f)
 
-      pub line_s_again : (r : Line) → said.stated ≡ true → r.right ≡ false → IsLine N ms l at said r ms
-      line_s_again r f w = wrong_kind (status (eqb s 1)) s_kind r w (rw f)
-
-      pub line_s : (end : ℕ) → end ≡ at + length l → said.stated ≡ false
-          → IsLine N ms l at said (record { right = true; end = end; said = record { stated = true; satisfiable = said.satisfiable || eqb s 1; place = at; closed = said.closed } }) ms
-      unfolding marked
-      line_s end en f = right_kind (status (eqb s 1)) s_kind _ _ (rw f) (λ _. rw f) (λ _. refl) (λ _. en) refl
+    pub marks_s : (ms : List Mark) → ms ≡ marked ms (literals_on (kind l))
+    unfolding marked
+    marks_s ms = rw (s_kind, no_literals (status_of l))
 
   -- v
   module _ (z : byte text at ≡ 118) where
     v_line_lem : l ≡ 118 ∷ line text (at + 1)
     v_line_lem = line_more text at (λ y. omega arith) ∙ ap (λ (x : ℕ). x ∷ line text (at + 1)) z
 
-    v_next : (y : ℕ) → byte text (at + 1) ≡ y → (y ≡ 32 → ⊥) → kind (118 ∷ line text (at + 1)) ≡ neither
-    unfolding kind
-    v_next y e d =
-        split (eqb (byte text (at + 1)) 10)
-        (λ h. rw (line_end text (at + 1) (eqb-true (byte text (at + 1)) 10 h)))
-        (λ h. rw (line_more text (at + 1) (eqb-false (byte text (at + 1)) 10 h), ne_eqb (byte text (at + 1)) 32 (λ w. d (sym e ∙ w))))
-
-    pub line_v_other : (y : ℕ) (r : Line) → y ≡ byte text (at + 1) → (y ≡ 32 → ⊥) → r.right ≡ false → IsLine N ms l at said r ms
-    line_v_other y r e d w = wrong_kind neither (ap kind v_line_lem ∙ v_next y (sym e) d) r w refl
-
-    module _ (y : ℕ) (ey : y ≡ byte text (at + 1)) (e : y ≡ 32) where
-      v_both : l ≡ 118 ∷ 32 ∷ line text (at + 2)
-      v_both =
-          v_line_lem
-          ∙ ap (λ (x : List ℕ). 118 ∷ x) (line_more text (at + 1) (λ w. omega arith) ∙ ap₂ (λ (x : ℕ) (j : ℕ). x ∷ line text j) (sym ey ∙ e) (let j : at + 1 + 1 ≡ at + 2 = omega arith in j))
-
-      v_kind : kind l ≡ values (pieces 32 (line text (at + 2)))
+    -- y is the byte behind the v
+    module _ (y : ℕ) (ey : y ≡ byte text (at + 1)) where
+      v_next : (y ≡ 32 → ⊥) → kind (118 ∷ line text (at + 1)) ≡ neither
       unfolding kind
-      v_kind = ap kind v_both
+      v_next d =
+          split (eqb (byte text (at + 1)) 10)
+          (λ h. rw (line_end text (at + 1) (eqb-true (byte text (at + 1)) 10 h)))
+          (λ h. rw (line_more text (at + 1) (eqb-false (byte text (at + 1)) 10 h), ne_eqb (byte text (at + 1)) 32 (λ w. d (ey ∙ w))))
 
-      pub line_v_ended : (r : Line) → said.closed ≡ true → r.right ≡ false → IsLine N ms l at said r ms
-      line_v_ended r t w = wrong_kind (values (pieces 32 (line text (at + 2)))) v_kind r w (rw t)
+      pub line_v_other : (y ≡ 32 → ⊥) → None ≡ line_of N l at said
+      line_v_other d = wrong_kind neither (ap kind v_line_lem ∙ v_next d) refl
 
-      pub line_v : (v : Values) (ms' : List ℕ) → said.closed ≡ false → IsValues N ms (line text (at + 2)) (at + 2) v ms'
-          → IsLine N ms l at said (record { right = v.right; end = v.end; said = record { stated = said.stated; satisfiable = said.satisfiable; place = said.place; closed = v.closed } }) ms'
-      line_v v ms' t h =
-          right_kind (values (pieces 32 (line text (at + 2)))) v_kind _ _
-          (h.right ∙ rw t)
-          (λ o. rw (t, h.closed o))
-          h.marks
-          (λ o. omega (arith, h.end o, ap length v_both))
-          h.long
+      module _ (e : y ≡ 32) where
+        v_both : l ≡ 118 ∷ 32 ∷ line text (at + 2)
+        v_both =
+            v_line_lem
+            ∙ ap (λ (x : List ℕ). 118 ∷ x) (line_more text (at + 1) (λ w. omega arith) ∙ ap₂ (λ (x : ℕ) (j : ℕ). x ∷ line text j) (sym ey ∙ e) (let j : at + 1 + 1 ≡ at + 2 = omega arith in j))
+
+        v_kind : kind l ≡ values (pieces 32 (line text (at + 2)))
+        unfolding kind
+        v_kind = ap kind v_both
+
+        pub line_v_ended : said.closed ≡ true → None ≡ line_of N l at said
+        line_v_ended t = wrong_kind (values (pieces 32 (line text (at + 2)))) v_kind (rw t)
+
+        pub marks_v : literals_on (kind l) ≡ literals_in (line text (at + 2))
+        marks_v = ap literals_on v_kind
+
+        module _ (t : said.closed ≡ false) where
+          pub line_v_wrong : None ≡ values_of N (line text (at + 2)) (at + 2) → None ≡ line_of N l at said
+          unfolding values_of
+          line_v_wrong h = wrong_kind (values (pieces 32 (line text (at + 2)))) v_kind (rw t (none_cond _ _ h))
+
+          pub line_v : (v : Values) → Some v ≡ values_of N (line text (at + 2)) (at + 2)
+              → Some (record { end = v.end; said = record { verdict = said.verdict; closed = v.closed } }) ≡ line_of N l at said
+          unfolding values_of
+          line_v v h =
+              let (r, ev) = some_cond _ _ v h in
+              let en : at + 2 + length (line text (at + 2)) ≡ at + length l = omega (arith, ap length v_both) in
+              rw (ev, en)
+              (ap (λ (b : Bool). Some (record { end = at + length l; said = record { verdict = said.verdict; closed = b || any zero? (pieces 32 (line text (at + 2))) } })) (sym t)
+              ∙ right_kind (values (pieces 32 (line text (at + 2)))) v_kind (rw (t, r)))
 
 -- ---- the lines one after another
 abbrev Next : List ℕ → ℕ → Type 0
@@ -200,7 +250,15 @@ next (x ∷ l) =
     (λ h. rw h (inl (omega arith, refl)))
     (λ h. rw h (⊎_elim (λ a. inl (omega (arith, a.0), a.1)) (λ a. inr (ap suc a.0, a.1)) (next l)))
 
+-- the lines from a place on: none beyond the text
+unfoldable pub lines_at : List ℕ → ℕ → List (List ℕ)
+lines_at text at = cond (leb at (length text)) (lines (drop at text)) []
+
 module _ (text : List ℕ) where
+  pub all_lines : lines_at text 0 ≡ lines text
+  unfolding lines_at
+  all_lines = rw (le-leb 0 (length text) (omega arith))
+
   lines_in : (at : ℕ) → at ≤ length text → lines_at text at ≡ line text at ∷ behind 10 (drop at text)
   unfolding lines_at line
   lines_in at h = rw (le-leb at (length text) h)
@@ -222,50 +280,55 @@ module _ (text : List ℕ) where
       (λ a. a.1 ∙ sym (lines_out (e + 1) (omega (arith, a.0))))
       (next (drop at text)))
 
-  module _ (N at : ℕ) (said : Said) (ms : List ℕ) where
-    pub lines_done : (place : ℕ) → length text < at → IsLines N ms (lines_at text at) at said (record { right = true; place = place; said = said }) ms
-    unfolding wrong_lines said_after literals_of marked
-    lines_done place h =
-        rw (lines_out at h)
-        (record { wrong = λ z. absurd (subst T z tt); right = λ _. refl; says = λ _. refl; marks = λ _. refl; long = refl })
+  module _ (N at : ℕ) (said : Said) where
+    pub none_wrong : length text < at → wrong_lines N at said (lines_at text at) ≡ []
+    unfolding wrong_lines
+    none_wrong h = rw (lines_out at h)
 
-    module _ (h : at ≤ length text) (x : Line) (ms1 : List ℕ) (hx : IsLine N ms (line text at) at said x ms1) where
-      pub lines_wrong : (s : Said) → x.right ≡ false → IsLines N ms (lines_at text at) at said (record { right = false; place = at; said = s }) ms1
-      unfolding wrong_lines decide
-      lines_wrong s z =
-          let w : right? N said (kind (line text at)) ≡ false = sym hx.right ∙ z in
-          rw (lines_in at h)
-          (record { wrong = λ _ qs c. rw w; right = none refl; says = none refl; marks = none refl; long = hx.long })
+    pub none_said : length text < at → said_after at said (lines_at text at) ≡ said
+    unfolding said_after
+    none_said h = rw (lines_out at h)
 
-      pub lines_next : x.right ≡ true → (r : Lines) (ms' : List ℕ) → IsLines N ms1 (lines_at text (x.end + 1)) (x.end + 1) x.said r ms'
-          → IsLines N ms (lines_at text at) at said r ms'
-      unfolding wrong_lines said_after literals_of
-      lines_next z r ms' i =
-          let ok : right? N said (kind (line text at)) ≡ true = sym hx.right ∙ z in
-          let more : lines_at text at ≡ line text at ∷ lines_at text (x.end + 1) = lines_more at x.end h (hx.end z) in
-          let w : wrong_lines N at said (lines_at text at) ≡ wrong_lines N (x.end + 1) x.said (lines_at text (x.end + 1)) =
-          ap (wrong_lines N at said) more
-          ∙ rw ok (ap₂ (λ (j : ℕ) (s : Said). wrong_lines N (j + 1) s (lines_at text (x.end + 1))) (sym (hx.end z)) (sym (hx.says z))) in
-          let s : said_after at said (lines_at text at) ≡ said_after (x.end + 1) x.said (lines_at text (x.end + 1)) =
-          ap (said_after at said) more
-          ∙ ap₂ (λ (j : ℕ) (s : Said). said_after (j + 1) s (lines_at text (x.end + 1))) (sym (hx.end z)) (sym (hx.says z)) in
-          let m : marked ms (literals_of (lines_at text at)) ≡ marked ms1 (literals_of (lines_at text (x.end + 1))) =
-          ap (λ (ls : List (List ℕ)). marked ms (literals_of ls)) more
-          ∙ marked_append ms (literals_on (kind (line text at))) (literals_of (lines_at text (x.end + 1)))
-          ∙ ap (λ (y : List ℕ). marked y (literals_of (lines_at text (x.end + 1)))) (sym (hx.marks z)) in
-          record {
-            wrong = λ t qs c. ap (λ (q : Question). decide (q ∷ qs) c) w ∙ i.wrong t qs c;
-            right = λ t. w ∙ i.right t;
-            says = λ t. i.says t ∙ sym s;
-            marks = λ t. i.marks t ∙ sym m;
-            long = i.long ∙ hx.long;
-          }
+    pub none_marked : (ms : List Mark) → length text < at → marked ms (literals_of (lines_at text at)) ≡ ms
+    unfolding literals_of marked
+    none_marked ms h = rw (lines_out at h)
 
-ahead_length : (s : ℕ) (l : List ℕ) → length (ahead s l) ≤ length l
-unfolding ahead
-ahead_length s [] = le_refl 0
-ahead_length s (x ∷ l) = split (eqb x s) (λ h. rw h (omega arith)) (λ h. rw h (omega (arith, ahead_length s l)))
+    module _ (h : at ≤ length text) where
+      pub first_wrong : None ≡ line_of N (line text at) at said → (qs : List Question) (c : ℕ) → decide (wrong_lines N at said (lines_at text at) ∷ qs) c ≡ refuse 27 at
+      unfolding line_of wrong_lines decide
+      first_wrong e qs c = rw (lines_in at h, none_cond (right? N said (kind (line text at))) _ e)
 
-pub line_room : (text : List ℕ) (at : ℕ) → at ≤ length text → at + length (line text at) ≤ length text
-unfolding line
-line_room text at h = omega (arith, ahead_length 10 (drop at text), length-drop at text)
+      module _ (x : Line) (ex : Some x ≡ line_of N (line text at) at said) where
+        facts : (right? N said (kind (line text at)) ≡ true) × (x ≡ record { end = at + length (line text at); said = after at said (kind (line text at)) })
+        unfolding line_of
+        facts = some_cond (right? N said (kind (line text at))) _ x ex
+
+        pub end_is : x.end ≡ at + length (line text at)
+        end_is = ap (λ (y : Line). y.end) facts.1
+
+        said_is : x.said ≡ after at said (kind (line text at))
+        said_is = ap (λ (y : Line). y.said) facts.1
+
+        more : lines_at text at ≡ line text at ∷ lines_at text (x.end + 1)
+        more = lines_more at x.end h end_is
+
+        pub next_wrong : wrong_lines N (x.end + 1) x.said (lines_at text (x.end + 1)) ≡ wrong_lines N at said (lines_at text at)
+        unfolding wrong_lines
+        next_wrong =
+            ap₂ (λ (j : ℕ) (s : Said). wrong_lines N (j + 1) s (lines_at text (x.end + 1))) end_is said_is
+            ∙ sym (ap (wrong_lines N at said) more ∙ rw facts.0)
+
+        pub next_said : said_after (x.end + 1) x.said (lines_at text (x.end + 1)) ≡ said_after at said (lines_at text at)
+        unfolding said_after
+        next_said =
+            ap₂ (λ (j : ℕ) (s : Said). said_after (j + 1) s (lines_at text (x.end + 1))) end_is said_is
+            ∙ sym (ap (said_after at said) more)
+
+        pub next_marked : (ms ms1 : List Mark) → ms1 ≡ marked ms (literals_on (kind (line text at)))
+            → marked ms1 (literals_of (lines_at text (x.end + 1))) ≡ marked ms (literals_of (lines_at text at))
+        unfolding literals_of
+        next_marked ms ms1 em =
+            sym
+            (ap (λ (ls : List (List ℕ)). marked ms (literals_of ls)) more
+            ∙ marked_append ms (literals_on (kind (line text at))) (literals_of (lines_at text (x.end + 1)))
+            ∙ ap (λ (y : List Mark). marked y (literals_of (lines_at text (x.end + 1)))) (sym em))

@@ -1,58 +1,50 @@
 -- The marks of the variables given, and what the lines of a text say. They stand in contracts.
-use Rattle.std.specs.Prelude.{◌≡◌, List, [], ◌∷◌, true, false, ◌||◌, cond, ℕ, zero, suc, ◌+◌, length, get_or, drop, set, leb, eqb, ℤ, pos, negsuc}
-use Rattle.lists.specs.Loop.{any, each, unless}
+use Rattle.std.specs.Prelude.{◌≡◌, List, [], ◌∷◌, cond, ℕ, zero, suc, ◌+◌, length, get_or, set, ℤ, pos, negsuc, false, Option, None, Some, Result, Ok, Err}
+use Rattle.lists.specs.Loop.{any}
 use Rattle.answers.specs.Answers.{Question, refuse, decide}
 use Rattle.solver_text.specs.declared.Said.{Said}
-use Rattle.solver_text.specs.Text.{pieces, zero?, value, tokens?, lines, kind, same, satisfiable, unsatisfiable, unknown}
-use Rattle.solver_text.specs.Form.{literals_on, literals_of}
+use Rattle.solver_text.specs.Text.{pieces, zero?, tokens?, kind, same, satisfiable, unsatisfiable, unknown}
 use Rattle.solver_text.specs.Walk.{right?, after, said_after, wrong_lines}
+use Rattle.solver_lines.specs.declared.Mark.{Mark}
+use Rattle.solver_lines.specs.declared.Mark.TheVariants.{Absent, Positive, Negative, Repeated}
+use Rattle.solver_lines.specs.declared.Status.{Status}
+use Rattle.solver_lines.specs.declared.Status.TheVariants.{Satisfiable, Unsatisfiable, Unknown}
 use Rattle.solver_lines.specs.declared.Values.{Values}
 use Rattle.solver_lines.specs.declared.Line.{Line}
-use Rattle.solver_lines.specs.declared.Lines.{Lines}
 
--- ---- marks: of variable i + 1 at place i, 0 for not given, 1 for given as itself, 2 for its negative, 3 for more than once
-abbrev pub again : ℕ → ℕ → ℕ
-again m sign = cond (eqb m 0) sign 3
+-- ---- marks, that of variable i + 1 at place i
+-- the mark after one that is given as `sign`
+abbrev pub again : Mark → Mark → Mark
+again Absent sign = sign
+again Positive sign = Repeated
+again Negative sign = Repeated
+again Repeated sign = Repeated
 
 -- the marks after a number; 0 is no literal
-unfoldable pub mark : List ℕ → ℤ → List ℕ
+unfoldable pub mark : List Mark → ℤ → List Mark
 mark ms (pos zero) = ms
-mark ms (pos (suc i)) = set ms i (again (get_or ms i 0) 1)
-mark ms (negsuc i) = set ms i (again (get_or ms i 0) 2)
+mark ms (pos (suc i)) = set ms i (again (get_or ms i Absent) Positive)
+mark ms (negsuc i) = set ms i (again (get_or ms i Absent) Negative)
 
-unfoldable pub marked : List ℕ → List ℤ → List ℕ
+unfoldable pub marked : List Mark → List ℤ → List Mark
 marked ms [] = ms
 marked ms (v ∷ vs) = marked (mark ms v) vs
 
--- r is what the tokens of l say, which begins at `at`, and marks ms become ms' by them
-pub record IsValues (N : ℕ) (ms l : List ℕ) (at : ℕ) (r : Values) (ms' : List ℕ) : Type 0 where
-  pub right : r.right ≡ tokens? N false (pieces 32 l)
-  pub closed : r.right ≡ true → r.closed ≡ any zero? (pieces 32 l)
-  pub marks : r.right ≡ true → ms' ≡ marked ms (each (λ t. unless (zero? t) (value t)) (pieces 32 l))
-  pub end : r.right ≡ true → r.end ≡ at + length l
-  pub long : length ms' ≡ length ms
-
 -- ---- lines
--- the s line's kind by its number, 0 for none
-unfoldable pub status_of : List ℕ → ℕ
-status_of l = cond (same l satisfiable) 1 (cond (same l unsatisfiable || same l unknown) 2 0)
+-- what the tokens of l say, which begins at `at`, where they are right
+unfoldable pub values_of : ℕ → List ℕ → ℕ → Option Values
+values_of N l at = cond (tokens? N false (pieces 32 l)) (Some (record { closed = any zero? (pieces 32 l); end = at + length l })) None
 
--- r is what the line l says, which begins at `at`, after those that said `said`; and marks ms become ms' by it
-pub record IsLine (N : ℕ) (ms l : List ℕ) (at : ℕ) (said : Said) (r : Line) (ms' : List ℕ) : Type 0 where
-  pub right : r.right ≡ right? N said (kind l)
-  pub says : r.right ≡ true → r.said ≡ after at said (kind l)
-  pub marks : r.right ≡ true → ms' ≡ marked ms (literals_on (kind l))
-  pub end : r.right ≡ true → r.end ≡ at + length l
-  pub long : length ms' ≡ length ms
+-- the s line's kind
+unfoldable pub status_of : List ℕ → Option Status
+status_of l =
+    cond (same l satisfiable) (Some Satisfiable) (cond (same l unsatisfiable) (Some Unsatisfiable) (cond (same l unknown) (Some Unknown) None))
 
--- the lines from a place on: none beyond the text
-unfoldable pub lines_at : List ℕ → ℕ → List (List ℕ)
-lines_at text at = cond (leb at (length text)) (lines (drop at text)) []
+-- what the line l says, which begins at `at`, after those that said `said`, where it is right
+unfoldable pub line_of : ℕ → List ℕ → ℕ → Said → Option Line
+line_of N l at said = cond (right? N said (kind l)) (Some (record { end = at + length l; said = after at said (kind l) })) None
 
--- r is what the lines ls say, from the offset `at` on
-pub record IsLines (N : ℕ) (ms : List ℕ) (ls : List (List ℕ)) (at : ℕ) (said : Said) (r : Lines) (ms' : List ℕ) : Type 0 where
-  pub wrong : r.right ≡ false → (qs : List Question) (c : ℕ) → decide (wrong_lines N at said ls ∷ qs) c ≡ refuse 27 r.place
-  pub right : r.right ≡ true → wrong_lines N at said ls ≡ []
-  pub says : r.right ≡ true → r.said ≡ said_after at said ls
-  pub marks : r.right ≡ true → ms' ≡ marked ms (literals_of ls)
-  pub long : length ms' ≡ length ms
+-- what the lines ls say, from the offset `at` on, or the offset of the first wrong one
+abbrev pub IsLines : ℕ → List (List ℕ) → ℕ → Said → Result Said ℕ → Type 0
+IsLines N ls at said (Ok s) = (wrong_lines N at said ls ≡ []) × (s ≡ said_after at said ls)
+IsLines N ls at said (Err place) = (qs : List Question) (c : ℕ) → decide (wrong_lines N at said ls ∷ qs) c ≡ refuse 27 place

@@ -1,54 +1,60 @@
 // The lines of a solver's text: their tokens are read, the variables given are marked, and what they say is kept.
 #![tactic(auto)]
 
-ghost use Rattle.std.specs.Prelude.{◌≡◌, not, cond, false, ◌+◌, ◌≤◌, ◌<◌, length, T, eqb};
-ghost use Rattle.lists.specs.Loop.{all};
-ghost use Rattle.solver_text.specs.Text.{same};
+ghost use Rattle.std.specs.Prelude.{◌≡◌, ◌+◌, ◌≤◌, ℕ, cond, length, eqb, IsSome, IsOk};
+ghost use Rattle.std.specs.List.{position};
+ghost use Rattle.solver_text.specs.Text.{Kind, values, kind, lines, pieces};
+ghost use Rattle.solver_text.specs.Form.{literals_on, literals_of};
 ghost use Rattle.solver_text.specs.Walk.{nothing};
 ghost use Rattle.solver_tokens.specs.Token.{byte, line, literal};
-ghost use Rattle.solver_lines.specs.Lines.{again, mark, IsValues, IsLine, IsLines, status_of, lines_at};
+ghost use Rattle.solver_lines.specs.Lines.{again, mark, marked, values_of, status_of, line_of, IsLines};
 
-use solver_text::Said;
+use solver_text::{Said, Verdict};
 
-// The tokens of a v line: whether they are right, whether the 0 is among them, and where the line ends.
-#[derive(Clone, Copy)]
-pub struct Values {
-    pub right: bool,
-    pub closed: bool,
-    pub end: usize,
+// How a variable is given: not, as itself, as its negative, or more than once.
+#[derive(Clone, Copy, PartialEq, Eq)]
+pub enum Mark {
+    Absent,
+    Positive,
+    Negative,
+    Repeated,
 }
 
-// A line: whether it is right, where it ends, and what has been said with it.
-#[derive(Clone, Copy)]
-pub struct Line {
-    pub right: bool,
-    pub end: usize,
-    pub said: Said,
+// The three s lines.
+#[derive(Clone, Copy, PartialEq, Eq)]
+enum Status {
+    Satisfiable,
+    Unsatisfiable,
+    Unknown,
 }
 
-// All lines: whether all are right, else the place of the first wrong one, and what they have said.
+// The tokens of a v line: whether the 0 is among them, and where the line ends.
 #[derive(Clone, Copy)]
-pub struct Lines {
-    pub right: bool,
-    pub place: usize,
-    pub said: Said,
+struct Values {
+    closed: bool,
+    end: usize,
+}
+
+// A line: where it ends, and what has been said with it.
+#[derive(Clone, Copy)]
+struct Line {
+    end: usize,
+    said: Said,
 }
 
 // The mark of a variable that is given once more.
-fn mark_after(m: u8, negative: bool) -> u8
-    ensures { result ≡ again m (cond negative 2 1) }
+fn mark_after(m: Mark, negative: bool) -> Mark
+    ensures { result ≡ again m (cond negative Mark.Negative Mark.Positive) }
 {
-    if m != 0 {
-        return 3;
+    match m {
+        Mark::Absent if negative => Mark::Negative,
+        Mark::Absent => Mark::Positive,
+        _ => Mark::Repeated,
     }
-    if negative {
-        return 2;
-    }
-    1
 }
 
 // Marks the variable of a literal; size 0 is none.
-fn mark_literal(marks: &mut [u8], negative: bool, size: usize)
+fn mark_literal(marks: &mut [Mark], negative: bool, size: usize)
     requires { size ≤ length marks.old }
     ensures { marks.new ≡ mark marks.old (literal negative size) }
 {
@@ -56,216 +62,145 @@ fn mark_literal(marks: &mut [u8], negative: bool, size: usize)
         return;
     }
     let i = size - 1;
-    let m = mark_after(marks[i], negative);
-    marks[i] = m;
+    marks[i] = mark_after(marks[i], negative);
 }
 
 // The tokens of a v line, where no 0 has come before.
-fn read_values(text: &[u8], from: usize, n: usize, marks: &mut [u8]) -> Values
-    requires { (length text.now ≤ 524288) × (from ≤ length text.now) × (n ≤ 65536) × (n ≤ length marks.old) }
-    ensures { IsValues n marks.old (line text.now from) from result marks.new }
+fn read_values(text: &[u8], from: usize, n: usize, marks: &mut [Mark]) -> Option<Values>
+    requires { (from ≤ length text.now) × (n ≤ 65536) × (n ≤ length marks.old) }
+    ensures value { result ≡ values_of n (line text.now from) from }
+    ensures marks_after { IsSome result → marks.new ≡ marked marks.old (literals_on (values (pieces 32 (line text.now from)))) }
 {
-    let len = text.len();
     let mut at = from;
-    while at <= len {
-        let t = solver_tokens::read_token(text, at, n);
-        if !t.right {
-            return Values {
-                right: false,
-                closed: false,
-                end: at,
-            };
-        }
+    loop {
+        let t = solver_tokens::read_token(text, at, n)?;
         mark_literal(marks, t.negative, t.size);
         let next = solver_tokens::byte_at(text, t.end);
         if t.size == 0 {
-            return Values {
-                right: next == 10,
+            return (next == b'\n').then_some(Values {
                 closed: true,
                 end: t.end,
-            };
+            });
         }
-        if next == 10 {
-            return Values {
-                right: true,
+        if next == b'\n' {
+            return Some(Values {
                 closed: false,
                 end: t.end,
-            };
+            });
         }
         at = t.end + 1;
     }
-    Values {
-        right: false,
-        closed: false,
-        end: at,
-    }
+}
+
+// Where the first newline is.
+fn newline(text: &[u8]) -> Option<usize>
+    ensures { result ≡ position (λ d. eqb d 10) text.now }
+{
+    text.iter().position(|d| *d == b'\n')
 }
 
 // Where the line ends.
 fn line_end(text: &[u8], from: usize) -> usize
-    requires { (length text.now ≤ 524288) × (from ≤ length text.now) }
+    requires { from ≤ length text.now }
     ensures { result ≡ from + length (line text.now from) }
 {
-    let len = text.len();
-    let mut at = from;
-    while at < len {
-        if solver_tokens::byte_at(text, at) == 10 {
-            return at;
-        }
-        at += 1;
-    }
-    at
+    let rest = &text[from..];
+    from + newline(rest).unwrap_or(rest.len())
 }
 
-// Is the line this word?
-fn is_line(text: &[u8], from: usize, word: &[u8]) -> bool
-    requires { (from ≤ 524288) × (length word.now ≤ 64) × T (all (λ d. not (eqb d 10)) word.now) }
-    ensures { result ≡ same (line text.now from) word.now }
+// Which s line it is.
+fn status_of(line: &[u8]) -> Option<Status>
+    ensures { result ≡ status_of line.now }
 {
-    let len = word.len();
-    for i in 0..len {
-        if solver_tokens::byte_at(text, from + i) != numbers::wide(word[i]) {
-            return false;
-        }
+    if line == b"s SATISFIABLE".as_slice() {
+        return Some(Status::Satisfiable);
     }
-    solver_tokens::byte_at(text, from + len) == 10
-}
-
-// Which s line it is: 1 for SATISFIABLE, 2 for the other two, 0 for none.
-fn status_at(text: &[u8], from: usize) -> usize
-    requires { from ≤ 524288 }
-    ensures { result ≡ status_of (line text.now from) }
-{
-    if is_line(text, from, b"s SATISFIABLE") {
-        return 1;
+    if line == b"s UNSATISFIABLE".as_slice() {
+        return Some(Status::Unsatisfiable);
     }
-    if is_line(text, from, b"s UNSATISFIABLE") {
-        return 2;
+    if line == b"s UNKNOWN".as_slice() {
+        return Some(Status::Unknown);
     }
-    if is_line(text, from, b"s UNKNOWN") {
-        return 2;
-    }
-    0
-}
-
-fn wrong_line(from: usize, said: Said) -> Line
-    ensures { result.right ≡ false }
-{
-    Line {
-        right: false,
-        end: from,
-        said: said,
-    }
+    None
 }
 
 // A line that begins with v.
-fn read_v_line(text: &[u8], from: usize, n: usize, said: Said, marks: &mut [u8]) -> Line
-    requires { (length text.now ≤ 524288) × (byte text.now from ≡ 118) × (n ≤ 65536) × (n ≤ length marks.old) }
-    ensures { IsLine n marks.old (line text.now from) from said result marks.new }
+fn read_v_line(text: &[u8], from: usize, n: usize, said: Said, marks: &mut [Mark]) -> Option<Line>
+    requires { (byte text.now from ≡ 118) × (n ≤ 65536) × (n ≤ length marks.old) }
+    ensures value { result ≡ line_of n (line text.now from) from said }
+    ensures marks_after { IsSome result → marks.new ≡ marked marks.old (literals_on (kind (line text.now from))) }
 {
     let next = solver_tokens::byte_at(text, from + 1);
-    if next != 32 {
-        return wrong_line(from, said);
+    if next != b' ' {
+        return None;
     }
     if said.closed {
-        return wrong_line(from, said);
+        return None;
     }
-    let v = read_values(text, from + 2, n, marks);
-    Line {
-        right: v.right,
-        end: v.end,
-        said: Said {
-            stated: said.stated,
-            satisfiable: said.satisfiable,
-            place: said.place,
-            closed: v.closed,
-        },
-    }
+    let v = read_values(text, from + 2, n, marks)?;
+    let said = Said {
+        verdict: said.verdict,
+        closed: v.closed,
+    };
+    Some(Line { end: v.end, said })
 }
 
 // A line that begins with s.
-fn read_s_line(text: &[u8], from: usize, n: usize, said: Said, marks: &[u8]) -> Line
-    requires { (length text.now ≤ 524288) × (byte text.now from ≡ 115) }
-    ensures { IsLine n marks.now (line text.now from) from said result marks.now }
+fn read_s_line(text: &[u8], from: usize, said: Said) -> Option<Line>
+    requires { byte text.now from ≡ 115 }
+    ensures { (N : ℕ) → result ≡ line_of N (line text.now from) from said }
 {
-    let s = status_at(text, from);
-    if s == 0 {
-        return wrong_line(from, said);
-    }
-    if said.stated {
-        return wrong_line(from, said);
+    if said.verdict.is_some() {
+        return None;
     }
     let end = line_end(text, from);
-    Line {
-        right: true,
-        end: end,
-        said: Said {
-            stated: true,
-            satisfiable: said.satisfiable | (s == 1),
-            place: from,
-            closed: said.closed,
-        },
-    }
+    let status = status_of(&text[from..end])?;
+    let verdict = Verdict {
+        satisfiable: status == Status::Satisfiable,
+        place: from,
+    };
+    let said = Said {
+        verdict: Some(verdict),
+        closed: said.closed,
+    };
+    Some(Line { end, said })
 }
 
 // A line.
-fn read_line(text: &[u8], from: usize, n: usize, said: Said, marks: &mut [u8]) -> Line
-    requires { (length text.now ≤ 524288) × (from ≤ length text.now) × (n ≤ 65536) × (n ≤ length marks.old) }
-    ensures { IsLine n marks.old (line text.now from) from said result marks.new }
+fn read_line(text: &[u8], from: usize, n: usize, said: Said, marks: &mut [Mark]) -> Option<Line>
+    requires { (from ≤ length text.now) × (n ≤ 65536) × (n ≤ length marks.old) }
+    ensures value { result ≡ line_of n (line text.now from) from said }
+    ensures marks_after { IsSome result → marks.new ≡ marked marks.old (literals_on (kind (line text.now from))) }
 {
-    let first = solver_tokens::byte_at(text, from);
-    if first == 118 {
-        return read_v_line(text, from, n, said, marks);
+    match solver_tokens::byte_at(text, from) {
+        b'v' => read_v_line(text, from, n, said, marks),
+        b's' => read_s_line(text, from, said),
+        b'c' => Some(Line {
+            end: line_end(text, from),
+            said,
+        }),
+        b'\n' => Some(Line { end: from, said }),
+        _ => None,
     }
-    if first == 115 {
-        return read_s_line(text, from, n, said, marks);
-    }
-    if first == 10 {
-        return Line {
-            right: true,
-            end: from,
-            said: said,
-        };
-    }
-    if first == 99 {
-        let end = line_end(text, from);
-        return Line {
-            right: true,
-            end: end,
-            said: said,
-        };
-    }
-    wrong_line(from, said)
 }
 
-// All lines.
-pub fn read_lines(text: &[u8], n: usize, marks: &mut [u8]) -> Lines
-    requires { (length text.now ≤ 524288) × (n ≤ 65536) × (n ≤ length marks.old) }
-    ensures { IsLines n marks.old (lines_at text.now 0) 0 nothing result marks.new }
+// All lines, or the place of the first wrong one.
+pub fn read_lines(text: &[u8], n: usize, marks: &mut [Mark]) -> Result<Said, usize>
+    requires { (n ≤ 65536) × (n ≤ length marks.old) }
+    ensures value { IsLines n (lines text.now) 0 nothing result }
+    ensures marks_after { IsOk result → marks.new ≡ marked marks.old (literals_of (lines text.now)) }
 {
-    let len = text.len();
     let mut said = Said {
-        stated: false,
-        satisfiable: false,
-        place: 0,
+        verdict: None,
         closed: false,
     };
     let mut at: usize = 0;
-    while at <= len {
-        let l = read_line(text, at, n, said, marks);
-        if !l.right {
-            return Lines {
-                right: false,
-                place: at,
-                said: said,
-            };
-        }
+    while at <= text.len() {
+        let Some(l) = read_line(text, at, n, said, marks) else {
+            return Err(at);
+        };
         said = l.said;
         at = l.end + 1;
     }
-    Lines {
-        right: true,
-        place: len,
-        said: said,
-    }
+    Ok(said)
 }

@@ -12,6 +12,7 @@ use lib.Dec.{T, leb, ltb, eqb}
 use lib.IntN.{ℤ, pos, negsuc, neg_ℤ, nat_abs}
 use lib.ListN.{length, length-append}
 use lib.Seq.{ext_get_or}
+use Rattle.std.specs.Prelude.{Some}
 use Rattle.lists.specs.Loop.{for, each, all, any, unless}
 use Rattle.lists.proofs.Tests.{and_iff, leb_iff, or_false}
 use Rattle.lists.proofs.Loops.{all_append, all_get_d, each_append, for_ext}
@@ -24,7 +25,7 @@ use Rattle.solver_text.specs.declared.Said.{Said}
 use Rattle.solver_text.specs.Text.{ahead, behind, lines, value, zero?, tokens?, kind, Kind, values, satisfiable}
 use Rattle.solver_text.specs.Form.{text_most, literal?, satisfiable?, complete?, literals_of, given, times, in_order}
 use Rattle.solver_text.specs.Printed.{v_line, printed, gathered, some?}
-use Rattle.solver_text.specs.Walk.{nothing, after, said_after, wrong_lines, whole?}
+use Rattle.solver_text.specs.Walk.{nothing, satisfied?, after, said_after, wrong_lines, whole?}
 use Rattle.solver_text.proofs.Walk.{split, whole_is, satisfied_is}
 use Rattle.solver_text.proofs.Given.{range}
 use Rattle.solver_text.proofs.Pieces.{pieces_cut, tokens_of, kind_v, line_free, token_right, token_value, token_zero}
@@ -103,7 +104,7 @@ module _ (N : ℕ) where
 
   -- ---- along the lines
   abbrev begun : Bool → Said
-  begun closed = record { stated = true; satisfiable = true; place = 0; closed = closed }
+  begun closed = record { verdict = Some (record { satisfiable = true; place = 0 }); closed = closed }
 
   module _ (tail : List (List ℕ)) where
     wrong_groups : (groups : List (List ℤ)) → T (all some? groups) → T (all (all (literal? N)) groups)
@@ -360,7 +361,7 @@ module _ (N : ℕ) (groups : List (List ℤ)) (last : List ℤ) (o : T (all some
         record {
           right = no_wrong N groups last o in_groups in_last;
           complete = subst T (whole_is text) (subst (λ (x : Said). T (whole? x)) (sym said) tt);
-          satisfied = subst T (satisfied_is text) (subst (λ (x : Said). T x.satisfiable) (sym said) tt);
+          satisfied = subst T (satisfied_is text) (subst (λ (x : Said). T (satisfied? x)) (sym said) tt);
           literals = all_literals N groups last o in_groups in_last;
         }
 

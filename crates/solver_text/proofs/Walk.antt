@@ -6,17 +6,19 @@ use Prim.Native.Nat.{ℕ, zero, suc, ◌+◌, ◌<◌}
 use native.Mathlib.Omega.{arith}
 use lib.Dec.{T}
 use lib.ListN.{length, get_or, take}
+use Rattle.std.specs.Prelude.{Option, None, Some, is_some, option_map, unwrap_or}
 use Rattle.lists.specs.Loop.{for, sum, unless, any}
 use Rattle.lists.proofs.Tests.{or_false, not_iff}
 use Rattle.lists.proofs.Loops.{for_ext}
 use Rattle.answers.specs.Answers.{Question, refuse, ask_each}
 use Rattle.answers.specs.Fault.{FirstFault}
 use Rattle.answers.proofs.Faults.{fault_first}
+use Rattle.solver_text.specs.declared.Verdict.{Verdict}
 use Rattle.solver_text.specs.declared.Said.{Said}
 use Rattle.solver_text.specs.Text.{Kind, skipped, status, values, neither, kind, lines, tokens?}
 use Rattle.solver_text.specs.Form.{is_status, is_satisfiable, is_closing, status?, satisfiable?, closing?, may_follow, complete?, right_line, status_place}
 use Rattle.solver_text.specs.Form as form
-use Rattle.solver_text.specs.Walk.{nothing, right?, after, said_after, wrong_lines, whole?}
+use Rattle.solver_text.specs.Walk.{nothing, stated?, satisfied?, place_or, right?, after, said_after, wrong_lines, whole?}
 
 -- a test that comes out one way or the other
 pub split : {C : Type 0} (b : Bool) → (b ≡ true → C) → (b ≡ false → C) → C
@@ -33,15 +35,15 @@ or_assoc false b c = refl
 
 -- ---- what was said
 module _ (at : ℕ) (said : Said) where
-  stated_one : (k : Kind) (r : Bool) → ((after at said k).stated || r) ≡ (said.stated || (is_status k || r))
+  stated_one : (k : Kind) (r : Bool) → (stated? (after at said k) || r) ≡ (stated? said || (is_status k || r))
   stated_one skipped r = refl
-  stated_one (status s) r = sym (or_true said.stated)
+  stated_one (status s) r = sym (or_true (stated? said))
   stated_one (values ts) r = refl
   stated_one neither r = refl
 
-  satisfiable_one : (k : Kind) (r : Bool) → ((after at said k).satisfiable || r) ≡ (said.satisfiable || (is_satisfiable k || r))
+  satisfiable_one : (k : Kind) (r : Bool) → (satisfied? (after at said k) || r) ≡ (satisfied? said || (is_satisfiable k || r))
   satisfiable_one skipped r = refl
-  satisfiable_one (status s) r = or_assoc said.satisfiable s r
+  satisfiable_one (status s) r = or_assoc (satisfied? said) s r
   satisfiable_one (values ts) r = refl
   satisfiable_one neither r = refl
 
@@ -51,14 +53,14 @@ module _ (at : ℕ) (said : Said) where
   closed_one (values ts) r = or_assoc said.closed _ r
   closed_one neither r = refl
 
-stated_is : (at : ℕ) (said : Said) (ls : List (List ℕ)) → (said_after at said ls).stated ≡ (said.stated || any status? ls)
+stated_is : (at : ℕ) (said : Said) (ls : List (List ℕ)) → stated? (said_after at said ls) ≡ (stated? said || any status? ls)
 unfolding said_after status?
-stated_is at said [] = sym (or_false said.stated)
+stated_is at said [] = sym (or_false (stated? said))
 stated_is at said (l ∷ ls) = stated_is (at + length l + 1) (after at said (kind l)) ls ∙ stated_one at said (kind l) _
 
-satisfiable_is : (at : ℕ) (said : Said) (ls : List (List ℕ)) → (said_after at said ls).satisfiable ≡ (said.satisfiable || any satisfiable? ls)
+satisfiable_is : (at : ℕ) (said : Said) (ls : List (List ℕ)) → satisfied? (said_after at said ls) ≡ (satisfied? said || any satisfiable? ls)
 unfolding said_after satisfiable?
-satisfiable_is at said [] = sym (or_false said.satisfiable)
+satisfiable_is at said [] = sym (or_false (satisfied? said))
 satisfiable_is at said (l ∷ ls) = satisfiable_is (at + length l + 1) (after at said (kind l)) ls ∙ satisfiable_one at said (kind l) _
 
 closed_is : (at : ℕ) (said : Said) (ls : List (List ℕ)) → (said_after at said ls).closed ≡ (said.closed || any closing? ls)
@@ -80,7 +82,7 @@ module _ (text : List ℕ) where
       ap₂ (λ (x : Bool) (y : Bool). x && y) (stated_is 0 nothing (lines text))
       (ap₂ (λ (x : Bool) (y : Bool). not x || y) (satisfiable_is 0 nothing (lines text)) (closed_is 0 nothing (lines text)))
 
-  pub satisfied_is : (said_after 0 nothing (lines text)).satisfiable ≡ any satisfiable? (lines text)
+  pub satisfied_is : satisfied? (said_after 0 nothing (lines text)) ≡ any satisfiable? (lines text)
   satisfied_is = satisfiable_is 0 nothing (lines text)
 
 -- ---- the lines asked one by one
@@ -127,25 +129,33 @@ lines_asked N text =
     (let e : offset 0 (lines text) i ≡ sum i (λ j. length (get_or (lines text) j []) + 1) = omega arith in e)))
 
 -- ---- the place of the s line
-place_one : (at : ℕ) (said : Said) (k : Kind) → said.stated ≡ true → ((after at said k).stated ≡ true) × ((after at said k).place ≡ said.place)
+place_known : (v : Option Verdict) (p q : ℕ) → is_some v ≡ true → unwrap_or (option_map (λ v. v.place) v) p ≡ unwrap_or (option_map (λ v. v.place) v) q
+place_known None p q e = absurd (subst T (sym e) tt)
+place_known (Some v) p q e = refl
+
+place_none : (v : Option Verdict) (p : ℕ) → is_some v ≡ false → unwrap_or (option_map (λ v. v.place) v) p ≡ p
+place_none None p e = refl
+place_none (Some v) p e = absurd (subst T e tt)
+
+place_one : (at : ℕ) (said : Said) (k : Kind) → stated? said ≡ true → (stated? (after at said k) ≡ true) × (place_or 0 (after at said k) ≡ place_or 0 said)
 place_one at said skipped e = (e, refl)
-place_one at said (status s) e = (refl, rw e)
+place_one at said (status s) e = (refl, place_known said.verdict at 0 e)
 place_one at said (values ts) e = (e, refl)
 place_one at said neither e = (e, refl)
 
-place_kept : (at : ℕ) (said : Said) (ls : List (List ℕ)) → said.stated ≡ true → (said_after at said ls).place ≡ said.place
+place_kept : (at : ℕ) (said : Said) (ls : List (List ℕ)) → stated? said ≡ true → place_or 0 (said_after at said ls) ≡ place_or 0 said
 unfolding said_after
 place_kept at said [] e = refl
 place_kept at said (l ∷ ls) e =
     let (s, p) = place_one at said (kind l) e in place_kept (at + length l + 1) (after at said (kind l)) ls s ∙ p
 
-place_new : (at : ℕ) (said : Said) (k : Kind) → said.stated ≡ false → is_status k ≡ true → ((after at said k).stated ≡ true) × ((after at said k).place ≡ at)
+place_new : (at : ℕ) (said : Said) (k : Kind) → stated? said ≡ false → is_status k ≡ true → (stated? (after at said k) ≡ true) × (place_or 0 (after at said k) ≡ at)
 place_new at said skipped f e = absurd (subst T (sym e) tt)
-place_new at said (status s) f e = (refl, rw f)
+place_new at said (status s) f e = (refl, place_none said.verdict at f)
 place_new at said (values ts) f e = absurd (subst T (sym e) tt)
 place_new at said neither f e = absurd (subst T (sym e) tt)
 
-still_none : (at : ℕ) (said : Said) (k : Kind) → said.stated ≡ false → is_status k ≡ false → (after at said k).stated ≡ false
+still_none : (at : ℕ) (said : Said) (k : Kind) → stated? said ≡ false → is_status k ≡ false → stated? (after at said k) ≡ false
 still_none at said skipped f e = f
 still_none at said (status s) f e = absurd (subst T e tt)
 still_none at said (values ts) f e = f
@@ -156,9 +166,9 @@ record Stated (at : ℕ) (said : Said) (ls : List (List ℕ)) : Type 0 where
   r : ℕ
   inside : r < length ls
   before : FirstFault (length ls) (λ i. not (status? (get_or ls i []))) r
-  place : (said_after at said ls).place ≡ offset at ls r
+  place : place_or 0 (said_after at said ls) ≡ offset at ls r
 
-stated : (at : ℕ) (said : Said) (ls : List (List ℕ)) → said.stated ≡ false → T (any status? ls) → Stated at said ls
+stated : (at : ℕ) (said : Said) (ls : List (List ℕ)) → stated? said ≡ false → T (any status? ls) → Stated at said ls
 unfolding said_after status?
 stated at said [] f h = absurd h
 stated at said (l ∷ ls) f h =
@@ -190,7 +200,7 @@ stated at said (l ∷ ls) f h =
     below r e b zero z = subst (λ (x : Bool). T (not x)) (sym e) tt
     below r e b (suc i) z = b i (omega arith)
 
-pub place_is : (text : List ℕ) → T (any status? (lines text)) → (said_after 0 nothing (lines text)).place ≡ status_place text
+pub place_is : (text : List ℕ) → T (any status? (lines text)) → place_or 0 (said_after 0 nothing (lines text)) ≡ status_place text
 unfolding status_place form.offset
 place_is text h =
     let w = stated 0 nothing (lines text) refl h in

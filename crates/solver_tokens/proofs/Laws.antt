@@ -2,25 +2,27 @@
 use mathlib.Core.Path.{◌≡◌, refl, sym, ◌∙◌, ap, subst}
 use mathlib.Core.Logic.{by_cases, ◌⊎◌, inl, inr, ⊎_elim}
 use mathlib.Core.List.{List, [], ◌∷◌}
-use mathlib.Core.Bool.{Bool, true, false, not, ◌&&◌, ◌||◌}
-use Prim.Native.Nat.{ℕ, zero, suc, ◌+◌, ◌*◌, ◌-◌, ◌≤◌, ◌<◌}
+use mathlib.Core.Bool.{Bool, true, false, not, ◌||◌, cond}
+use Prim.Native.Nat.{ℕ, suc, ◌+◌, ◌*◌, ◌-◌, ◌≤◌, ◌<◌}
 use native.Mathlib.Nat.{add-zero}
 use native.Mathlib.Decide.{dec_lt}
 use native.Mathlib.Omega.{arith}
 use borrow.Author.Tests.{eq-eqb, ne_eqb, eqb-true, le-leb, lt-leb}
 use lib.Dec.{T, leb, eqb}
-use lib.IntN.{pos, neg_ℤ}
 use lib.ListN.{length, get_or, drop, get_or-eq_default}
 use lib.Seq.{get_or-drop, drop-drop}
+use Rattle.std.specs.Prelude.{Option, None, Some, option_map}
+use Rattle.std.specs.Bool.{then_some}
 use Rattle.lists.specs.Loop.{all}
-use Rattle.lists.proofs.Tests.{and_iff, and_false, leb_iff}
+use Rattle.lists.proofs.Tests.{and_iff, or_iff, not_iff, eqb_iff, and_false, leb_iff}
 use Rattle.answers.proofs.Faults.{T_true}
 use Rattle.decimals.specs.Decimals.{digit?, read_on}
 use Rattle.decimals.proofs.Reading.{read_most}
-use Rattle.solver_text.specs.Text.{ahead, token?, zero?, negative?, value}
+use Rattle.solver_text.specs.Text.{ahead, size?, token?, zero?, negative?, unsigned, value}
 use Rattle.solver_text.proofs.Walk.{split}
 use Rattle.solver_tokens.specs.declared.Number.{Number}
-use Rattle.solver_tokens.specs.Token.{byte, line, token, end?, IsNumber, IsSize, IsToken}
+use Rattle.solver_tokens.specs.declared.Token.{Token}
+use Rattle.solver_tokens.specs.Token.{byte, line, token, end?, number_of, size_of, token_of, literal}
 
 -- ---- pieces, byte by byte
 pub ahead_end : (s : ℕ) (l : List ℕ) → get_or l 0 s ≡ s → ahead s l ≡ []
@@ -69,156 +71,151 @@ module _ (text : List ℕ) where
   unfolding token ahead
   token_more at e = rw (line_more at (differs_not 10 end? e tt), ne_eqb (byte text at) 32 (differs_not 32 end? e tt))
 
-pub get_or_other : (l : List ℕ) (i d e : ℕ) → i < length l → get_or l i d ≡ get_or l i e
-get_or_other [] i d e h = absurd (let f : ⊥ = omega arith in f)
-get_or_other (x ∷ l) zero d e h = refl
-get_or_other (x ∷ l) (suc i) d e h = get_or_other l i d e (omega arith)
-
 -- ---- numbers
 pub digit_range : (d : ℕ) → digit? d ≡ true → (48 ≤ d) × (d ≤ 57)
 digit_range d e = let h = (and_iff (leb 48 d) (leb d 57)).0 (subst T (sym e) tt) in ((leb_iff 48 d).0 h.0, (leb_iff d 57).0 h.1)
 
-module _ (text : List ℕ) (N : ℕ) where
-  digit_end : (d : ℕ) → digit? d ≡ true → end? d ≡ false
-  digit_end d e = rw (ne_eqb d 32 (differs 32 digit? e (λ t. t)), ne_eqb d 10 (differs 10 digit? e (λ t. t)))
+module _ (text : List ℕ) (N at : ℕ) where
+  -- d is the byte read here
+  module _ (d : ℕ) (ed : d ≡ byte text at) where
+    some_more : end? d ≡ false → token text at ≡ d ∷ token text (at + 1)
+    some_more e = token_more text at (sym (ap end? ed) ∙ e) ∙ ap (λ (y : ℕ). y ∷ token text (at + 1)) (sym ed)
 
-  begun : (x at : ℕ) → digit? (byte text at) ≡ true → (r : Number)
-      → IsNumber N (10 * x + (byte text at - 48)) (token text (at + 1)) (at + 1) r → IsNumber N x (token text at) at r
-  begun x at e r h =
-      rw (token_more text at (digit_end (byte text at) e))
-      (record { right = rw e h.right; size = h.size; end = λ t. let q = h.end t in omega arith })
+    no_more : end? d ≡ true → token text at ≡ []
+    no_more e = token_end text at (sym (ap end? ed) ∙ e)
 
-  -- d is the byte read at this place
-  pub number_begun : (x at d : ℕ) → d ≡ byte text at → digit? d ≡ true → (r : Number)
-      → IsNumber N (10 * x + (d - 48)) (token text (at + 1)) (at + 1) r → IsNumber N x (token text at) at r
-  number_begun x at d ed e r h =
-      begun x at (sym (ap digit? ed) ∙ e) r (subst (λ (y : ℕ). IsNumber N (10 * x + (y - 48)) (token text (at + 1)) (at + 1) r) ed h)
+    digit_end : digit? d ≡ true → end? d ≡ false
+    digit_end e = rw (ne_eqb d 32 (differs 32 digit? e (λ t. t)), ne_eqb d 10 (differs 10 digit? e (λ t. t)))
 
-  pub number_over : (x at from : ℕ) (t : List ℕ) → N < x → IsNumber N x t at (record { right = false; size = 0; end = from })
-  number_over x at from t l =
-      record {
-        right = sym (ap (λ (b : Bool). all digit? t && b) (lt-leb (read_on x t) N (omega (arith, read_most x t))) ∙ and_false (all digit? t));
-        size = λ e. absurd (subst T (sym e) tt);
-        end = λ e. absurd (subst T (sym e) tt);
-      }
+    pub digit_in : digit? d ≡ true → at < length text
+    digit_in e = byte_in text at (λ z. differs 10 digit? e (λ t. t) (ed ∙ z))
 
-  done : (x at : ℕ) → x ≤ N → digit? (byte text at) ≡ false
-      → IsNumber N x (token text at) at (record { right = end? (byte text at); size = x; end = at })
-  done x at l e =
-      split (end? (byte text at))
-      (λ h. rw (token_end text at h, h) (record { right = sym (le-leb x N l); size = λ _. refl; end = λ _. omega arith }))
-      (λ h.
-      rw (token_more text at h, h)
-      (record { right = rw e; size = λ z. absurd (subst T (sym z) tt); end = λ z. absurd (subst T (sym z) tt) }))
+    -- a digit more, or none
+    pub number_begun : (x : ℕ) → digit? d ≡ true → number_of N (10 * x + (d - 48)) (token text (at + 1)) (at + 1) ≡ number_of N x (token text at) at
+    unfolding number_of
+    number_begun x e =
+        let k : at + 1 + length (token text (at + 1)) ≡ at + suc (length (token text (at + 1))) = omega arith in
+        rw (some_more (digit_end e), e, k)
 
-  pub number_done : (x at d : ℕ) (b : Bool) → d ≡ byte text at → b ≡ end? d → x ≤ N → digit? d ≡ false
-      → IsNumber N x (token text at) at (record { right = b; size = x; end = at })
-  number_done x at d b ed eb l e = let z : b ≡ end? (byte text at) = eb ∙ ap end? ed in rw z (done x at l (sym (ap digit? ed) ∙ e))
+    pub number_done : (x : ℕ) → x ≤ N → digit? d ≡ false → then_some (end? d) (record { size = x; end = at }) ≡ number_of N x (token text at) at
+    unfolding number_of
+    number_done x l e =
+        split (end? d)
+        (λ h. rw (no_more h, h, le-leb x N l, add-zero))
+        (λ h. rw (some_more h, h, e))
 
--- ---- sizes
-no_size : (N : ℕ) (t : List ℕ) (at from : ℕ) → get_or t 0 48 ≡ 48 → IsSize N t at (record { right = false; size = 0; end = from })
-no_size N t at from e =
-    record {
-      right = rw (eq-eqb (get_or t 0 48) 48 e);
-      size = λ z. absurd (subst T (sym z) tt);
-      end = λ z. absurd (subst T (sym z) tt);
-      some = λ z. absurd (subst T (sym z) tt);
-      most = λ z. absurd (subst T (sym z) tt);
-    }
+    -- ---- sizes
+    pub size_none : digit? d ≡ false → None ≡ size_of N (token text at) at
+    unfolding size_of
+    size_none e =
+        split (end? d)
+        (λ h. rw (no_more h))
+        (λ h. rw (some_more h, e, and_false))
 
-module _ (text : List ℕ) (N : ℕ) where
-  pub size_none : (at d : ℕ) → d ≡ byte text at → digit? d ≡ false → IsSize N (token text at) at (record { right = false; size = 0; end = at })
-  size_none at d ed e =
-      let b : digit? (byte text at) ≡ false = sym (ap digit? ed) ∙ e in
-      split (end? (byte text at))
-      (λ z. no_size N (token text at) at at (rw (token_end text at z)))
-      (λ z.
-      rw (token_more text at z)
-      (record {
-        right = rw b (sym (and_false (not (eqb (byte text at) 48))));
-        size = λ y. absurd (subst T (sym y) tt);
-        end = λ y. absurd (subst T (sym y) tt);
-        some = λ y. absurd (subst T (sym y) tt);
-        most = λ y. absurd (subst T (sym y) tt);
-      }))
+    pub size_zero : d ≡ 48 → None ≡ size_of N (token text at) at
+    unfolding size_of
+    size_zero z = rw (some_more (ap end? z), z)
 
-  pub size_zero : (at d : ℕ) → d ≡ byte text at → d ≡ 48 → IsSize N (token text at) at (record { right = false; size = 0; end = at })
-  size_zero at d ed e =
-      let z : byte text at ≡ 48 = sym ed ∙ e in
-      no_size N (token text at) at at (ap (λ (t : List ℕ). get_or t 0 48) (token_more text at (ap end? z)) ∙ z)
+    pub size_number : digit? d ≡ true → (d ≡ 48 → ⊥) → number_of N 0 (token text at) at ≡ size_of N (token text at) at
+    unfolding size_of number_of
+    size_number e f = rw (some_more (digit_end e), ne_eqb d 48 f)
 
-  pub size_number : (at d : ℕ) → d ≡ byte text at → digit? d ≡ true → (d ≡ 48 → ⊥) → (r : Number)
-      → IsNumber N 0 (token text at) at r → IsSize N (token text at) at r
-  size_number at d ed e f r h =
-      let more : token text at ≡ d ∷ token text (at + 1) =
-      token_more text at (sym (ap end? ed) ∙ digit_end text N d e) ∙ ap (λ (y : ℕ). y ∷ token text (at + 1)) (sym ed) in
-      let test : r.right ≡ true → T (all digit? (token text at)) × T (leb (read_on 0 (token text at)) N) =
-      λ z. (and_iff (all digit? (token text at)) _).0 (subst T (sym z ∙ h.right) tt) in
-      record {
-        right = h.right ∙ rw (more, ne_eqb d 48 f);
-        size = h.size;
-        end = h.end;
-        some = λ z.
-            let q : r.size ≡ read_on (10 * 0 + (d - 48)) (token text (at + 1)) = h.size z ∙ ap (read_on 0) more in
-            let k : T (digit? d) = ((and_iff (digit? d) _).0 (subst (λ (t : List ℕ). T (all digit? t)) more (test z).0)).0 in
-            let g = digit_range d (T_true (digit? d) k) in
-            omega (arith, read_most (10 * 0 + (d - 48)) (token text (at + 1)), q, g, f);
-        most = λ z. let g = (leb_iff (read_on 0 (token text at)) N).0 (test z).1 in omega (arith, h.size z, g);
-      }
+    -- ---- tokens
+    -- "0"
+    pub token_zero : (f : ℕ) → d ≡ 48 → f ≡ byte text (at + 1)
+        → then_some (end? f) (record { negative = false; size = 0; end = at + 1 }) ≡ token_of N (token text at) at
+    unfolding token_of token?
+    token_zero f z ef =
+        let more : token text at ≡ 48 ∷ token text (at + 1) = some_more (ap end? z) ∙ ap (λ (y : ℕ). y ∷ token text (at + 1)) z in
+        split (end? f)
+        (λ h. rw (more, token_end text (at + 1) (sym (ap end? ef) ∙ h), h))
+        (λ h. rw (more, token_more text (at + 1) (sym (ap end? ef) ∙ h), h))
 
--- ---- tokens
-module _ (N : ℕ) (x : Number) where
-  -- no sign, or "-" before the size
-  positive : (t : List ℕ) (at : ℕ) → zero? t ≡ false → negative? t ≡ false → IsSize N t at x
-      → IsToken N t at (record { right = x.right; negative = false; size = x.size; end = x.end })
-  unfolding token? value
-  positive t at ez en h =
-      record {
-        right = h.right ∙ rw (ez, en);
-        value = λ z. rw en (ap pos (sym (h.size z)));
-        zero = λ z. ez ∙ sym (ne_eqb x.size 0 (λ y. let o = h.some z in omega arith));
-        most = h.most;
-        end = h.end;
-      }
+    -- "-" before the size, or no sign
+    pub token_negative : (r : Option Number) → d ≡ 45 → r ≡ size_of N (token text (at + 1)) (at + 1)
+        → option_map (λ x. record { negative = true; size = x.size; end = x.end }) r ≡ token_of N (token text at) at
+    unfolding token_of token? size_of
+    token_negative r z e =
+        let more : token text at ≡ 45 ∷ token text (at + 1) = some_more (ap end? z) ∙ ap (λ (y : ℕ). y ∷ token text (at + 1)) z in
+        let k : at + 1 + length (token text (at + 1)) ≡ at + suc (length (token text (at + 1))) = omega arith in
+        split (size? N (token text (at + 1))) (λ h. rw (more, e, h, k)) (λ h. rw (more, e, h))
 
-  negative : (t : List ℕ) (at : ℕ) → IsSize N t (at + 1) x
-      → IsToken N (45 ∷ t) at (record { right = x.right; negative = true; size = x.size; end = x.end })
-  unfolding token? value
-  negative t at h =
-      record {
-        right = h.right;
-        value = λ z. ap (λ (y : ℕ). neg_ℤ (pos y)) (sym (h.size z));
-        zero = λ z. sym (ne_eqb x.size 0 (λ y. let o = h.some z in omega arith));
-        most = h.most;
-        end = λ z. omega (arith, h.end z);
-      }
+    pub token_positive : (r : Option Number) → (d ≡ 48 → ⊥) → (d ≡ 45 → ⊥) → r ≡ size_of N (token text at) at
+        → option_map (λ x. record { negative = false; size = x.size; end = x.end }) r ≡ token_of N (token text at) at
+    unfolding token_of token? size_of
+    token_positive r f g e =
+        split (end? d)
+        (λ h. rw (e, no_more h))
+        (λ h.
+        let more = some_more h in
+        let s : negative? (token text at) ≡ false = rw more (ne_eqb d 45 g) in
+        let z : zero? (token text at) ≡ false = rw more (rw (ne_eqb d 48 f)) in
+        split (size? N (token text at)) (λ y. rw (e, z, s, y)) (λ y. rw (e, z, s, y)))
 
-module _ (text : List ℕ) (N : ℕ) where
-  pub token_zero : (at d f : ℕ) (b : Bool) → d ≡ byte text at → d ≡ 48 → f ≡ byte text (at + 1) → b ≡ end? f
-      → IsToken N (token text at) at (record { right = b; negative = false; size = 0; end = at + 1 })
-  unfolding token? value
-  token_zero at d f b ed e ef eb =
-      let z : byte text at ≡ 48 = sym ed ∙ e in
-      let more : token text at ≡ 48 ∷ token text (at + 1) = token_more text at (ap end? z) ∙ ap (λ (y : ℕ). y ∷ token text (at + 1)) z in
-      let w : b ≡ end? (byte text (at + 1)) = eb ∙ ap end? ef in
-      split b
-      (λ h. rw (more, token_end text (at + 1) (sym w ∙ h), h)
-      (record { right = refl; value = λ _. refl; zero = λ _. refl; most = λ _. omega arith; end = λ _. refl }))
-      (λ h. rw (more, token_more text (at + 1) (sym w ∙ h), h)
-      (record { right = refl; value = λ y. absurd (subst T (sym y) tt); zero = λ y. absurd (subst T (sym y) tt); most = λ y. absurd (subst T (sym y) tt); end = λ y. absurd (subst T (sym y) tt) }))
+pub number_over : (N x at : ℕ) (t : List ℕ) → N < x → None ≡ number_of N x t at
+unfolding number_of
+number_over N x at t l = rw (lt-leb (read_on x t) N (omega (arith, read_most x t)), and_false (all digit? t))
 
-  pub token_negative : (at d : ℕ) (x : Number) → d ≡ byte text at → d ≡ 45 → IsSize N (token text (at + 1)) (at + 1) x
-      → IsToken N (token text at) at (record { right = x.right; negative = true; size = x.size; end = x.end })
-  token_negative at d x ed e h =
-      let z : byte text at ≡ 45 = sym ed ∙ e in
-      let more : token text at ≡ 45 ∷ token text (at + 1) = token_more text at (ap end? z) ∙ ap (λ (y : ℕ). y ∷ token text (at + 1)) z in
-      rw more (negative N x (token text (at + 1)) at h)
+-- ---- what a token says
+size_at_most : (N : ℕ) (t : List ℕ) → T (size? N t) → read_on 0 t ≤ N
+size_at_most N t h = (leb_iff (read_on 0 t) N).0 ((and_iff (all digit? t) _).0 ((and_iff (not (eqb (get_or t 0 48) 48)) _).0 h).1).1
 
-  pub token_positive : (at d : ℕ) (x : Number) → d ≡ byte text at → (d ≡ 48 → ⊥) → (d ≡ 45 → ⊥) → IsSize N (token text at) at x
-      → IsToken N (token text at) at (record { right = x.right; negative = false; size = x.size; end = x.end })
-  token_positive at d x ed f g h =
-      split (end? (byte text at))
-      (λ e. let more = token_end text at e in positive N x (token text at) at (rw more) (rw more) h)
+-- it is not 0
+size_some : (N : ℕ) (t : List ℕ) → T (size? N t) → 1 ≤ read_on 0 t
+size_some N [] h = absurd h
+size_some N (d ∷ t) h =
+    let (f, g) = (and_iff (not (eqb d 48)) _).0 h in
+    let k = digit_range d (T_true (digit? d) ((and_iff (digit? d) _).0 ((and_iff (all digit? (d ∷ t)) _).0 g).0).0) in
+    let q : d ≡ 48 → ⊥ = λ e. (not_iff (eqb d 48)).0 f ((eqb_iff d 48).1 e) in
+    omega (arith, read_most (10 * 0 + (d - 48)) t, k, q)
+
+module _ (N : ℕ) (t : List ℕ) (h : token? N t ≡ true) where
+  same_zero : (t : List ℕ) → T (zero? t) → t ≡ 48 ∷ []
+  same_zero [] z = absurd z
+  same_zero (d ∷ []) z = ap (λ (x : ℕ). x ∷ []) ((eqb_iff d 48).0 ((and_iff (eqb d 48) _).0 z).0)
+  same_zero (d ∷ e ∷ t) z = absurd ((and_iff (eqb d 48) _).0 z).1
+
+  token_cases : (t ≡ 48 ∷ []) ⊎ T (size? N (unsigned t))
+  unfolding token?
+  token_cases = ⊎_elim (λ z. inl (same_zero t z)) (λ s. inr s) ((or_iff (zero? t) _).0 (subst T (sym h) tt))
+
+  pub token_most : read_on 0 (unsigned t) ≤ N
+  token_most = ⊎_elim (λ e. rw e (omega arith)) (size_at_most N (unsigned t)) token_cases
+
+  -- its size is 0 where it is the token "0"
+  pub token_size : zero? t ≡ eqb (read_on 0 (unsigned t)) 0
+  token_size =
+      split (zero? t)
+      (λ e. rw (same_zero t (subst T (sym e) tt)))
       (λ e.
-      let more = token_more text at e in
-      positive N x (token text at) at (rw (more, ne_eqb (byte text at) 48 (λ y. f (ed ∙ y)))) (rw (more, ne_eqb (byte text at) 45 (λ y. g (ed ∙ y)))) h)
+      ⊎_elim
+      (λ f. absurd (subst T (sym (ap zero? f) ∙ e) tt))
+      (λ s. let l = size_some N (unsigned t) s in e ∙ sym (ne_eqb (read_on 0 (unsigned t)) 0 (λ z. omega arith)))
+      token_cases)
+
+-- what was read at a token's place
+pub record IsToken (N : ℕ) (t : List ℕ) (at : ℕ) (x : Token) : Type 0 where
+  pub right : token? N t ≡ true
+  pub value : value t ≡ literal x.negative x.size
+  pub zero : zero? t ≡ eqb x.size 0
+  pub most : x.size ≤ N
+  pub end : x.end ≡ at + length t
+
+-- what a value says that is there where a test holds
+pub some_cond : {A : Type 0} (b : Bool) (x y : A) → Some y ≡ cond b (Some x) None → (b ≡ true) × (y ≡ x)
+some_cond true x y e = (refl, cc)
+some_cond false x y e = cc
+
+pub none_cond : {A : Type 0} (b : Bool) (x : A) → None ≡ cond b (Some x) None → b ≡ false
+none_cond true x e = cc
+none_cond false x e = refl
+
+pub token_is : (N : ℕ) (t : List ℕ) (at : ℕ) (x : Token) → Some x ≡ token_of N t at → IsToken N t at x
+unfolding token_of value
+token_is N t at x e =
+    let (h, z) = some_cond (token? N t) _ x e in
+    subst (IsToken N t at) (sym z) (record { right = h; value = refl; zero = token_size N t h; most = token_most N t h; end = refl })
+
+pub token_wrong : (N : ℕ) (t : List ℕ) (at : ℕ) → None ≡ token_of N t at → token? N t ≡ false
+unfolding token_of
+token_wrong N t at e = none_cond (token? N t) _ e

@@ -1,8 +1,8 @@
 -- What stands ahead of a place in the text, and the numbers and tokens read there. They stand in contracts.
-use Rattle.std.specs.Prelude.{◌≡◌, List, Bool, true, ◌&&◌, ◌||◌, cond, ℕ, ◌+◌, ◌≤◌, length, get_or, drop, leb, eqb, ℤ, pos, neg_ℤ}
+use Rattle.std.specs.Prelude.{List, Bool, ◌&&◌, ◌||◌, cond, ℕ, ◌+◌, length, get_or, drop, leb, eqb, ℤ, pos, neg_ℤ, Option, None, Some}
 use Rattle.lists.specs.Loop.{all}
 use Rattle.decimals.specs.Decimals.{digit?, read_on}
-use Rattle.solver_text.specs.Text.{ahead, size?, token?, zero?, value}
+use Rattle.solver_text.specs.Text.{ahead, size?, token?, negative?, unsigned}
 use Rattle.solver_tokens.specs.declared.Number.{Number}
 use Rattle.solver_tokens.specs.declared.Token.{Token}
 
@@ -21,28 +21,18 @@ token text at = ahead 32 (line text at)
 abbrev pub end? : ℕ → Bool
 end? d = eqb d 32 || eqb d 10
 
--- r is the number that the digits t say after those that said x, where it is at most N; they begin at `at`
-pub record IsNumber (N x : ℕ) (t : List ℕ) (at : ℕ) (r : Number) : Type 0 where
-  pub right : r.right ≡ (all digit? t && leb (read_on x t) N)
-  pub size : r.right ≡ true → r.size ≡ read_on x t
-  pub end : r.right ≡ true → r.end ≡ at + length t
+-- the number that the digits t say after those that said x, where it is at most N, and where they end; they begin at `at`
+unfoldable pub number_of : ℕ → ℕ → List ℕ → ℕ → Option Number
+number_of N x t at = cond (all digit? t && leb (read_on x t) N) (Some (record { size = read_on x t; end = at + length t })) None
 
 -- the same of digits that do not begin with 0
-pub record IsSize (N : ℕ) (t : List ℕ) (at : ℕ) (r : Number) : Type 0 where
-  pub right : r.right ≡ size? N t
-  pub size : r.right ≡ true → r.size ≡ read_on 0 t
-  pub end : r.right ≡ true → r.end ≡ at + length t
-  pub some : r.right ≡ true → 1 ≤ r.size
-  pub most : r.right ≡ true → r.size ≤ N
+unfoldable pub size_of : ℕ → List ℕ → ℕ → Option Number
+size_of N t at = cond (size? N t) (Some (record { size = read_on 0 t; end = at + length t })) None
 
 -- a literal by its sign and its size
 abbrev pub literal : Bool → ℕ → ℤ
 literal negative size = cond negative (neg_ℤ (pos size)) (pos size)
 
--- r is the token t
-pub record IsToken (N : ℕ) (t : List ℕ) (at : ℕ) (r : Token) : Type 0 where
-  pub right : r.right ≡ token? N t
-  pub value : r.right ≡ true → value t ≡ literal r.negative r.size
-  pub zero : r.right ≡ true → zero? t ≡ eqb r.size 0
-  pub most : r.right ≡ true → r.size ≤ N
-  pub end : r.right ≡ true → r.end ≡ at + length t
+-- the token t, which begins at `at`
+unfoldable pub token_of : ℕ → List ℕ → ℕ → Option Token
+token_of N t at = cond (token? N t) (Some (record { negative = negative? t; size = read_on 0 (unsigned t); end = at + length t })) None

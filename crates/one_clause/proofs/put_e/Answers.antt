@@ -6,12 +6,12 @@ use Rattle.one_clause.proofs.Clauses.{room_put, wrote_put, pair_clause}
 use Rattle.one_clause.proofs.put_e.Goals as goal
 
 pub put_pair-requires : goal.put_pair-requires
-put_pair-requires c = room_put (pair_clause c.args.s.k (λ a. ¬X c.args.s c.args.t.0 a c.args.v.0) c.pair_of-pair.ensures) c.requires.p_in_bounds
+put_pair-requires c = room_put (pair_clause c.args.s.sizes.k (λ a. ¬X c.args.s.sizes c.args.t.0 a c.args.v.0) c.pair_of-pair.ensures) c.requires.p_in_bounds
 
 pub returns : goal.returns
 returns c =
     wrote_put
-    (pair_clause c.args.s.k (λ a. ¬X c.args.s c.args.t.0 a c.args.v.0) c.pair_of-pair.ensures)
+    (pair_clause c.args.s.sizes.k (λ a. ¬X c.args.s.sizes c.args.t.0 a c.args.v.0) c.pair_of-pair.ensures)
     _
     _
     (rw (to_z-of_z (sfits_of c.negative.type_inv), c.negative.ensures, to_z-of_z (sfits_of c.negative-2.type_inv), c.negative-2.ensures) at c.put_pair.ensures)

@@ -1,35 +1,30 @@
 -- `reader::ask_form` meets its contract. Assumes nothing.
-use native.Mathlib.Omega.{arith}
+use Rattle.std.proofs.Common.{sym, ◌∙◌, ap, arith, unwrap_or, option_map, false, Option}
 use borrow.Author.Tests.{not-true, not-false}
+use Rattle.solver_text.specs.declared.Verdict.{Verdict}
+use Rattle.answers.specs.Answers.{refuse}
 use Rattle.reader.proofs.Questions.{form_long, form_wrong, form_missing, form_unsatisfied, form_right}
 use Rattle.reader.proofs.ask_form.Goals as goal
 
-pub returns-then-len-gt524288 : goal.returns-then-len-gt524288
-returns-then-len-gt524288 c = let f = form_long c.args.n c.args.text.now c.args.marks.now c.if-len-gt524288.true in record { value = f.0; marks_after = f.1.0; marks_len_unchanged = f.1.1 }
+pub returns-then-text-gt524288-clause-value : goal.returns-then-text-gt524288-clause-value
+returns-then-text-gt524288-clause-value c = rw c.at.ensures (form_long c.args.n c.args.text.now c.if-text-gt524288.true)
 
-pub read_lines-l-requires : goal.read_lines-l-requires
-read_lines-l-requires c = (omega (arith, c.if-len-gt524288.false), c.requires.0, c.requires.1)
+pub returns-in-Err-clause-value : goal.returns-in-Err-clause-value
+returns-in-Err-clause-value c = rw c.at-in-Err.ensures (form_wrong c.args.n c.args.text.now (omega arith) c.in-Err.place c.in-Err.ensures.value)
 
-pub shape_of-marks-then-not-l : goal.shape_of-marks-then-not-l
-shape_of-marks-then-not-l c = c.read_lines-l.ensures.long
+pub returns-then-not-is_whole-clause-value : goal.returns-then-not-is_whole-clause-value
+returns-then-not-is_whole-clause-value c =
+    rw c.at-then-not-is_whole.ensures
+    (form_missing c.args.n c.args.text.now (omega arith) c.in-Ok.said c.in-Ok.ensures.value (sym c.is_whole.ensures ∙ c.if-not-is_whole.true))
 
-pub returns-then-not-l : goal.returns-then-not-l
-returns-then-not-l c = let f = form_wrong c.args.n c.args.text.now c.args.marks.now (omega (arith, c.if-len-gt524288.false)) c.read_lines-l.result _ c.read_lines-l.ensures (not-true _ c.if-not-l.true) in record { value = f.0; marks_after = f.1.0; marks_len_unchanged = f.1.1 }
+pub returns-in-Some-clause-value : goal.returns-in-Some-clause-value
+returns-in-Some-clause-value c =
+    rw c.at-in-Some.ensures
+    (ap (refuse 28) (ap (λ (v : Option Verdict). unwrap_or (option_map (λ u. u.place) v) 0) (sym c.in-Some.is))
+    ∙ form_unsatisfied c.args.n c.args.text.now (omega arith) c.in-Ok.said c.in-Ok.ensures.value (sym c.is_whole.ensures ∙ c.if-not-is_whole.false)
+    (ap (λ (v : Option Verdict). unwrap_or (option_map (λ u. u.satisfiable) v) false) c.in-Some.is ∙ not-true _ c.if-not-verdict.true))
 
-pub shape_of-marks-then-not-is_whole : goal.shape_of-marks-then-not-is_whole
-shape_of-marks-then-not-is_whole c = c.read_lines-l.ensures.long
-
-pub returns-then-not-is_whole : goal.returns-then-not-is_whole
-returns-then-not-is_whole c = let f = form_missing c.args.n c.args.text.now c.args.marks.now (omega (arith, c.if-len-gt524288.false)) c.read_lines-l.result _ c.read_lines-l.ensures (not-false _ c.if-not-l.false) c.is_whole.result c.is_whole.ensures c.if-not-is_whole.true in record { value = f.0; marks_after = f.1.0; marks_len_unchanged = f.1.1 }
-
-pub shape_of-marks-then-not-said : goal.shape_of-marks-then-not-said
-shape_of-marks-then-not-said c = c.read_lines-l.ensures.long
-
-pub returns-then-not-said : goal.returns-then-not-said
-returns-then-not-said c = let f = form_unsatisfied c.args.n c.args.text.now c.args.marks.now (omega (arith, c.if-len-gt524288.false)) c.read_lines-l.result _ c.read_lines-l.ensures (not-false _ c.if-not-l.false) c.is_whole.result c.is_whole.ensures c.if-not-is_whole.false (not-true _ c.if-not-said.true) in record { value = f.0; marks_after = f.1.0; marks_len_unchanged = f.1.1 }
-
-pub shape_of-marks : goal.shape_of-marks
-shape_of-marks c = c.read_lines-l.ensures.long
-
-pub returns : goal.returns
-returns c = let f = form_right c.args.n c.args.text.now c.args.marks.now (omega (arith, c.if-len-gt524288.false)) c.read_lines-l.result _ c.read_lines-l.ensures (not-false _ c.if-not-l.false) c.is_whole.result c.is_whole.ensures c.if-not-is_whole.false (not-false _ c.if-not-said.false) in record { value = f.0; marks_after = f.1.0; marks_len_unchanged = f.1.1 }
+pub returns-in_default-clause-value : goal.returns-in_default-clause-value
+returns-in_default-clause-value c =
+    form_right c.args.n c.args.text.now (omega arith) c.in-Ok.said c.in-Ok.ensures.value (sym c.is_whole.ensures ∙ c.if-not-is_whole.false)
+    (ap (λ (v : Option Verdict). unwrap_or (option_map (λ u. u.satisfiable) v) false) c.in-Some.is ∙ not-false _ c.if-not-verdict.false)

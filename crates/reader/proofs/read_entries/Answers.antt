@@ -1,16 +1,19 @@
 -- `reader::read_entries` meets its contract. Assumes nothing.
-use native.Mathlib.Omega.{arith}
-use lib.ListN.{length}
-use Rattle.answers.specs.Answers.{refuse}
-use Rattle.solver_text.specs.Form.{given}
-use Rattle.reader.proofs.Questions.{text_no, stop_16, pass_16}
+use Rattle.std.proofs.Common.{refl, ◌∙◌, ap, arith, length}
+use Rattle.answers.specs.Returned.{refused}
+use Rattle.answers.proofs.Returned.{refused_lent}
+use Rattle.solver_text.specs.Form.{given, in_order}
+use Rattle.reader.proofs.Questions.{stop_16, pass_16}
 use Rattle.reader.proofs.read_entries.Goals as goal
 
-pub returns-then-z-n : goal.returns-then-z-n
-returns-then-z-n c = record { value = stop_16 c.args.n c.args.text.now (length c.args.z.now) c.if-z-n.true; z_after = text_no c.args.n (given c.args.text.now) c.args.z.now (refuse 16 c.args.n) (λ z. let f : ⊥ = omega arith in f) }
+pub returns-then-z-n-clause-value : goal.returns-then-z-n-clause-value
+returns-then-z-n-clause-value c = ap refused c.at.ensures ∙ stop_16 c.args.n c.args.text.now (length c.args.z.now) c.if-z-n.true
 
-pub read_text-requires : goal.read_text-requires
-read_text-requires c = (c.requires, omega (arith, c.if-z-n.false))
+pub returns-then-z-n-clause-z_after : goal.returns-then-z-n-clause-z_after
+returns-then-z-n-clause-z_after c = refused_lent c.at.result (in_order c.args.n (given c.args.text.now)) c.args.z.now refl
 
-pub returns : goal.returns
-returns c = record { value = pass_16 c.args.n c.args.text.now (length c.args.z.now) (omega (arith, c.if-z-n.false)) c.read_text.result c.read_text.ensures.value; z_after = c.read_text.ensures.z_after }
+pub returns-clause-value : goal.returns-clause-value
+returns-clause-value c = c.read_text.ensures.value ∙ pass_16 c.args.n c.args.text.now (length c.args.z.now) (omega arith)
+
+pub returns-clause-z_after : goal.returns-clause-z_after
+returns-clause-z_after c = c.read_text.ensures.z_after

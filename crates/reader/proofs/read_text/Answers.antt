@@ -1,19 +1,17 @@
 -- `reader::read_text` meets its contract. Assumes nothing.
-use Prim.Native.Nat.{ℕ}
-use native.Mathlib.Omega.{arith}
-use lib.ListN.{length-replicate}
-use Rattle.solver_text.specs.Form.{given}
-use Rattle.reader.proofs.Questions.{zeros, text_no, text_yes}
+use Rattle.std.proofs.Common.{refl, sym, ◌∙◌, ap, List}
+use lib.IntN.{ℤ}
+use Rattle.lists.specs.Slice.{filled}
+use Rattle.answers.specs.Answers.{lent}
+use Rattle.answers.proofs.Returned.{passed_on, refused_lent}
+use Rattle.solver_text.specs.Form.{given, in_order}
 use Rattle.reader.proofs.read_text.Goals as goal
 
-pub ask_text-answer-requires : goal.ask_text-answer-requires
-ask_text-answer-requires c = (omega (arith, c.requires), omega (arith, c.requires.0, length-replicate {A = ℕ} 38912 0), zeros 38912)
+pub returns-in_err-ask_text-clause-z_after : goal.returns-in_err-ask_text-clause-z_after
+returns-in_err-ask_text-clause-z_after c =
+    refused_lent c.in_err-ask_text.field-0.0 (in_order c.args.n (given c.args.text.now)) c.args.z.now
+    (sym (passed_on (λ k. k) c.in_err-ask_text.field-0.0 c.from_residual.result c.from_residual.ensures.1 refl))
 
-pub returns-then-answer-ne0 : goal.returns-then-answer-ne0
-returns-then-answer-ne0 c = record { value = c.ask_text-answer.ensures.value; z_after = text_no c.args.n (given c.args.text.now) c.args.z.now c.ask_text-answer.result c.if-answer-ne0.true }
-
-pub write_entries-requires : goal.write_entries-requires
-write_entries-requires c = (omega (arith, c.requires), omega (arith, c.requires.0, c.ask_text-answer.ensures.marks_len_unchanged, length-replicate {A = ℕ} 38912 0), c.requires.1)
-
-pub returns : goal.returns
-returns c = record { value = c.ask_text-answer.ensures.value; z_after = text_yes c.args.n (given c.args.text.now) c.args.z.now c.ask_text-answer.result c.if-answer-ne0.false c.ask_text-answer.new.marks (c.ask_text-answer.ensures.says c.if-answer-ne0.false) _ c.write_entries.ensures }
+pub returns-clause-z_after : goal.returns-clause-z_after
+unfolding lent
+returns-clause-z_after c = c.write_entries.ensures ∙ ap (λ (l : List ℤ). filled l c.args.z.now) (c.in_ok-ask_text.ensures.says refl)

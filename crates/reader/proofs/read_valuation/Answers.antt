@@ -1,15 +1,16 @@
 -- `reader::read_valuation` meets its contract. Assumes nothing.
-use mathlib.Core.Path.{◌∙◌, ap, ap₂}
+use mathlib.Core.Path.{refl, ◌∙◌, ap, ap₂}
 use mathlib.Core.List.{List}
 use Prim.Native.Nat.{ℕ}
 use native.Mathlib.Omega.{arith}
 use lib.ListN.{length}
 use Rattle.answers.specs.declared.Answer.{Answer}
-use Rattle.answers.specs.Answers.{Question, decide, lent}
+use Rattle.answers.specs.Answers.{Question, accept, decide, lent}
 use Rattle.instance.specs.Instance.{Instance}
-use Rattle.instance.specs.Accepted.{Accepted}
-use Rattle.instance.proofs.Accepted.{limits_known, sizes_same}
-use Rattle.instance.proofs.Call.{passed, horizon, instance_refuses, call_answers, slice_refused}
+use Rattle.answers.proofs.Returned.{passed_on, refused_lent}
+use Rattle.instance.specs.Problem.{ProblemOf}
+use Rattle.instance.proofs.Accepted.{sizes_same}
+use Rattle.instance.proofs.Call.{passed, horizon, call_refused, call_answers}
 use Rattle.formula.specs.Variables.{variable_count}
 use Rattle.formula.specs.Formula.{formula}
 use Rattle.solver_text.specs.Form.{given, in_order}
@@ -19,27 +20,23 @@ use Rattle.reader.proofs.read_valuation.Goals as goal
 abbrev count : Instance → ℕ
 count I = (formula I).variables
 
-pub returns-then-refusal-ne0 : goal.returns-then-refusal-ne0
+pub returns-in_err-problem : goal.returns-in_err-problem
 unfolding read_answer read_slice
-returns-then-refusal-ne0 c =
+returns-in_err-problem c =
     let asks : Instance → List Question = λ I. read_rest (formula I).variables c.args.text.now (length c.args.z.now) in
-    let e = instance_refuses c.args.b.now c.args.m c.args.rule c.check_instance-inspection.result.answer c.check_instance-inspection.result.checked c.check_instance-inspection.ensures.0 c.check_instance-inspection.ensures.1 asks count c.if-refusal-ne0.true in
-    record { value = e; z_after = slice_refused _ c.check_instance-inspection.result.answer e _ c.args.z.now c.if-refusal-ne0.true }
-
-pub variable_count-n-requires : goal.variable_count-n-requires
-variable_count-n-requires c =
-    let known : Accepted c.args.b.now c.check_instance-inspection.result.checked = passed c.args.b.now c.args.m c.args.rule c.check_instance-inspection.result.answer c.check_instance-inspection.result.checked c.check_instance-inspection.ensures.0 c.check_instance-inspection.ensures.1 c.if-refusal-ne0.false in
-    limits_known _ _ known
+    let e = call_refused c.args.b.now c.args.m c.args.rule _ c.in_err-problem.ensures.answer asks count in
+    record { value = passed_on _ _ c.from_residual.result c.from_residual.ensures.1 e; z_after = refused_lent _ _ c.args.z.now e }
 
 pub read_entries-requires : goal.read_entries-requires
-read_entries-requires c = omega (arith, c.variable_count-n.ensures.1)
+read_entries-requires c = omega (arith, c.variable_count.ensures.1)
 
 pub returns : goal.returns
 unfolding read_answer read_slice
 returns c =
     let asks : Instance → List Question = λ I. read_rest (formula I).variables c.args.text.now (length c.args.z.now) in
-    let known : Accepted c.args.b.now c.check_instance-inspection.result.checked = passed c.args.b.now c.args.m c.args.rule c.check_instance-inspection.result.answer c.check_instance-inspection.result.checked c.check_instance-inspection.ensures.0 c.check_instance-inspection.ensures.1 c.if-refusal-ne0.false in
-    let n = c.variable_count-n.ensures.0 ∙ ap variable_count (sizes_same _ _ known) in
-    let same = horizon c.args.b.now c.args.m c.args.rule c.check_instance-inspection.result.answer c.check_instance-inspection.result.checked c.check_instance-inspection.ensures.0 c.check_instance-inspection.ensures.1 c.if-refusal-ne0.false in
-    let e = call_answers c.args.b.now c.args.m c.args.rule c.check_instance-inspection.result.answer c.check_instance-inspection.result.checked c.check_instance-inspection.ensures.0 c.check_instance-inspection.ensures.1 asks count c.if-refusal-ne0.false c.read_entries.result (c.read_entries.ensures.value ∙ ap (λ (N : ℕ). decide (read_rest N c.args.text.now (length c.args.z.now)) N) n) in
+    let ok = c.in_ok-problem in
+    let known : ProblemOf c.args.b.now ok.problem = passed c.args.b.now c.args.m c.args.rule (accept 0) _ ok.ensures.answer ok.ensures.problem refl in
+    let n = c.variable_count.ensures.0 ∙ ap variable_count (sizes_same _ _ known) in
+    let same = horizon c.args.b.now c.args.m c.args.rule (accept 0) _ ok.ensures.answer ok.ensures.problem refl in
+    let e = call_answers c.args.b.now c.args.m c.args.rule (accept 0) _ ok.ensures.answer ok.ensures.problem asks count refl _ (c.read_entries.ensures.value ∙ ap (λ (N : ℕ). decide (read_rest N c.args.text.now (length c.args.z.now)) N) n) in
     record { value = e; z_after = c.read_entries.ensures.z_after ∙ ap₂ (λ (a : Answer) (N : ℕ). lent a (in_order N (given c.args.text.now)) c.args.z.now) e (n ∙ ap (λ (J : Instance). (formula J).variables) same) }

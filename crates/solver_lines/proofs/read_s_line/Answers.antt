@@ -1,20 +1,36 @@
 -- `solver_lines::read_s_line` meets its contract. Assumes nothing.
+use Rattle.std.proofs.Common.{◌≡◌, sym, ◌∙◌, refl, ap, arith, ◌≤◌, length}
+use denote.Enum.Bare.{sameb}
 use Rattle.solver_tokens.proofs.Laws.{byte_in}
-use Rattle.solver_lines.proofs.TextLines.{line_s_none, line_s_again, line_s}
-use native.Mathlib.Omega.{arith}
+use Rattle.solver_lines.specs.declared.Status.{Status}
+use Rattle.solver_lines.specs.declared.Status.TheVariants.{Satisfiable, Unsatisfiable, Unknown}
+use Rattle.solver_lines.specs.contracts.Status.{the_type}
+use Rattle.solver_lines.specs.Lines.{status_of}
+use Rattle.solver_lines.proofs.TextLines.{line_room, line_taken, line_s_again, line_s_none, line_s, is_satisfiable}
 use Rattle.solver_lines.proofs.read_s_line.Goals as goal
 
-pub status_at-s-requires : goal.status_at-s-requires
-status_at-s-requires c = omega (arith, c.requires.0, byte_in c.args.text.now c.args.from (λ e. omega (arith, c.requires.1)))
+same_status : (s : Status) → sameb the_type s Satisfiable ≡ is_satisfiable s
+same_status Satisfiable = refl
+same_status Unsatisfiable = refl
+same_status Unknown = refl
 
-pub returns-then-s-eq0 : goal.returns-then-s-eq0
-returns-then-s-eq0 c = line_s_none c.args.text.now c.args.n c.args.from c.args.said c.args.marks.now c.requires.1 c.status_at-s.result _ c.status_at-s.ensures c.if-s-eq0.true c.wrong_line.ensures
+pub returns-then-is_some : goal.returns-then-is_some
+returns-then-is_some c = λ N. line_s_again c.args.text.now N c.args.from c.args.said c.requires (sym c.is_some.ensures ∙ c.if-is_some.true)
 
-pub returns-then-said : goal.returns-then-said
-returns-then-said c = line_s_again c.args.text.now c.args.n c.args.from c.args.said c.args.marks.now c.requires.1 c.status_at-s.result c.status_at-s.ensures c.if-s-eq0.false _ c.if-said.true c.wrong_line-then-said.ensures
+pub slice_bounds-status_of-end : goal.slice_bounds-status_of-end
+slice_bounds-status_of-end c =
+    let l : c.args.from ≤ length c.args.text.now = omega (arith, byte_in c.args.text.now c.args.from (λ e. omega (arith, c.requires))) in
+    omega (arith, line_room c.args.text.now c.args.from l, c.line_end-end.ensures)
 
-pub line_end-end-requires : goal.line_end-end-requires
-line_end-end-requires c = (c.requires.0, omega (arith, byte_in c.args.text.now c.args.from (λ e. omega (arith, c.requires.1))))
+pub returns-in_err-status : goal.returns-in_err-status
+returns-in_err-status c = λ N.
+    c.from_residual.ensures
+    ∙ line_s_none c.args.text.now N c.args.from c.args.said c.requires
+    (c.in_err-status.ensures ∙ ap status_of (line_taken c.args.text.now c.args.from c.line_end-end.result c.line_end-end.ensures))
 
 pub returns : goal.returns
-returns c = line_s c.args.text.now c.args.n c.args.from c.args.said c.args.marks.now c.requires.1 c.status_at-s.result c.status_at-s.ensures c.if-s-eq0.false c.line_end-end.result c.line_end-end.ensures c.if-said.false
+returns c = λ N.
+    rw (c.line_end-end.ensures, c.eq.ensures ∙ same_status c.in_ok-status.status)
+    (line_s c.args.text.now N c.args.from c.args.said c.requires c.in_ok-status.status
+    (c.in_ok-status.ensures ∙ ap status_of (line_taken c.args.text.now c.args.from c.line_end-end.result c.line_end-end.ensures))
+    (sym c.is_some.ensures ∙ c.if-is_some.false))

@@ -1,49 +1,48 @@
--- `solver_lines::read_values` meets its contract: whatever answers for the rest of the line answers for the whole. Assumes nothing.
-use lib.ListN.{length}
-use borrow.Author.Tests.{not-true, not-false}
-use Rattle.solver_lines.proofs.LineTokens.{values_wrong, values_zero, values_last, values_next, values_more, mark_length}
-use mathlib.Core.Path.{refl, ◌∙◌, ap}
-use native.Mathlib.Omega.{arith}
+-- `solver_lines::read_values` meets its contract. Assumes nothing.
+use Rattle.std.proofs.Common.{sym, ◌∙◌, ap, arith, eqb-true, is_some}
+use Rattle.solver_lines.proofs.LineTokens.{values_wrong, values_zero, values_last, values_next, values_more, marks_last, marks_more, token_most, token_later, some_then}
 use Rattle.solver_lines.proofs.read_values.Goals as goal
 
-pub loop-at-init : goal.loop-at-init
-loop-at-init c = (c.requires.1, refl, λ r ms h. h)
-
-pub read_token-t-requires : goal.read_token-t-requires
-read_token-t-requires c = (c.requires.0, c.loop-at.invariant.0, c.requires.2)
-
-pub shape_of-marks-then-not-t : goal.shape_of-marks-then-not-t
-shape_of-marks-then-not-t c = c.loop-at.invariant.1
-
-pub returns-then-not-t : goal.returns-then-not-t
-returns-then-not-t c = c.loop-at.invariant.2 _ _ (values_wrong c.args.text.now c.args.n c.loop-at.at c.read_token-t.result c.read_token-t.ensures c.loop-at.marks _ refl (not-true _ c.if-not-t.true))
+pub returns-in_err-t-clause-value : goal.returns-in_err-t-clause-value
+returns-in_err-t-clause-value c = c.from_residual.ensures ∙ values_wrong c.args.text.now c.args.n c.loop-t.at c.in_err-t.ensures ∙ c.loop-t.invariant.same
 
 pub mark_literal-requires : goal.mark_literal-requires
-mark_literal-requires c = omega (arith, c.read_token-t.ensures.most (not-false _ c.if-not-t.false), c.loop-at.invariant.1, c.requires.3)
+mark_literal-requires c = omega (arith, token_most c.args.text.now c.args.n c.loop-t.at c.in_ok-t.t c.in_ok-t.ensures)
 
-pub shape_of-marks-then-t-eq0 : goal.shape_of-marks-then-t-eq0
-shape_of-marks-then-t-eq0 c = ap length c.mark_literal.ensures ∙ mark_length c.loop-at.marks _ ∙ c.loop-at.invariant.1
+pub returns-then-t-eq0-clause-value : goal.returns-then-t-eq0-clause-value
+returns-then-t-eq0-clause-value c =
+    c.then_some.ensures
+    ∙ values_zero c.args.text.now c.args.n c.loop-t.at c.in_ok-t.t c.in_ok-t.ensures c.byte_at-next.result c.byte_at-next.ensures c.if-t-eq0.true
+    ∙ c.loop-t.invariant.same
 
-pub returns-then-t-eq0 : goal.returns-then-t-eq0
-returns-then-t-eq0 c = c.loop-at.invariant.2 _ _ (values_zero c.args.text.now c.args.n c.loop-at.at c.read_token-t.result c.read_token-t.ensures c.loop-at.marks (not-false _ c.if-not-t.false) c.mark_literal.new.marks c.mark_literal.ensures c.byte_at-next.result c.byte_at-next.ensures.0 _ refl c.if-t-eq0.true)
+pub returns-then-t-eq0-clause-marks_after : goal.returns-then-t-eq0-clause-marks_after
+returns-then-t-eq0-clause-marks_after c = λ s.
+    let e = eqb-true c.byte_at-next.result 10 (some_then _ _ (ap is_some (sym c.then_some.ensures) ∙ s)) in
+    marks_last c.args.text.now c.args.n c.loop-t.at c.in_ok-t.t c.in_ok-t.ensures c.loop-t.marks c.mark_literal.new.marks c.mark_literal.ensures (sym c.byte_at-next.ensures ∙ e)
+    ∙ c.loop-t.invariant.marks
 
-pub shape_of-marks-then-next-eq10 : goal.shape_of-marks-then-next-eq10
-shape_of-marks-then-next-eq10 c = ap length c.mark_literal.ensures ∙ mark_length c.loop-at.marks _ ∙ c.loop-at.invariant.1
+pub returns-then-next-eq10-clause-value : goal.returns-then-next-eq10-clause-value
+returns-then-next-eq10-clause-value c =
+    values_last c.args.text.now c.args.n c.loop-t.at c.in_ok-t.t c.in_ok-t.ensures c.byte_at-next.result c.byte_at-next.ensures c.if-t-eq0.false c.if-next-eq10.true
+    ∙ c.loop-t.invariant.same
 
-pub returns-then-next-eq10 : goal.returns-then-next-eq10
-returns-then-next-eq10 c = c.loop-at.invariant.2 _ _ (values_last c.args.text.now c.args.n c.loop-at.at c.read_token-t.result c.read_token-t.ensures c.loop-at.marks (not-false _ c.if-not-t.false) c.mark_literal.new.marks c.mark_literal.ensures c.byte_at-next.result c.byte_at-next.ensures.0 c.if-t-eq0.false c.if-next-eq10.true)
+pub returns-then-next-eq10-clause-marks_after : goal.returns-then-next-eq10-clause-marks_after
+returns-then-next-eq10-clause-marks_after c = λ s.
+    marks_last c.args.text.now c.args.n c.loop-t.at c.in_ok-t.t c.in_ok-t.ensures c.loop-t.marks c.mark_literal.new.marks c.mark_literal.ensures (sym c.byte_at-next.ensures ∙ c.if-next-eq10.true)
+    ∙ c.loop-t.invariant.marks
 
-pub overflow_add-at : goal.overflow_add-at
-overflow_add-at c = omega (arith, values_next c.args.text.now c.args.n c.loop-at.at c.read_token-t.result c.read_token-t.ensures c.loop-at.marks (not-false _ c.if-not-t.false) c.mark_literal.new.marks c.mark_literal.ensures c.byte_at-next.result c.byte_at-next.ensures.0 c.if-t-eq0.false c.if-next-eq10.false, c.requires.0)
+pub loop-t-smaller : goal.loop-t-smaller
+loop-t-smaller c =
+    omega (
+      arith,
+      values_next c.args.text.now c.args.n c.loop-t.at c.in_ok-t.t c.in_ok-t.ensures c.byte_at-next.result c.byte_at-next.ensures c.if-t-eq0.false c.if-next-eq10.false,
+      token_later c.args.text.now c.args.n c.loop-t.at c.in_ok-t.t c.in_ok-t.ensures,
+    )
 
-pub loop-at-smaller : goal.loop-at-smaller
-loop-at-smaller c = omega (arith, values_next c.args.text.now c.args.n c.loop-at.at c.read_token-t.result c.read_token-t.ensures c.loop-at.marks (not-false _ c.if-not-t.false) c.mark_literal.new.marks c.mark_literal.ensures c.byte_at-next.result c.byte_at-next.ensures.0 c.if-t-eq0.false c.if-next-eq10.false, c.read_token-t.ensures.end (not-false _ c.if-not-t.false))
-
-pub loop-at-preserved : goal.loop-at-preserved
-loop-at-preserved c = (omega (arith, values_next c.args.text.now c.args.n c.loop-at.at c.read_token-t.result c.read_token-t.ensures c.loop-at.marks (not-false _ c.if-not-t.false) c.mark_literal.new.marks c.mark_literal.ensures c.byte_at-next.result c.byte_at-next.ensures.0 c.if-t-eq0.false c.if-next-eq10.false), ap length c.mark_literal.ensures ∙ mark_length c.loop-at.marks _ ∙ c.loop-at.invariant.1, λ r ms h. c.loop-at.invariant.2 r ms (values_more c.args.text.now c.args.n c.loop-at.at c.read_token-t.result c.read_token-t.ensures c.loop-at.marks (not-false _ c.if-not-t.false) c.mark_literal.new.marks c.mark_literal.ensures c.byte_at-next.result c.byte_at-next.ensures.0 c.if-t-eq0.false c.if-next-eq10.false r ms h))
-
-pub shape_of-marks : goal.shape_of-marks
-shape_of-marks c = c.loop-at.invariant.1
-
-pub returns : goal.returns
-returns c = absurd (let f : ⊥ = omega (arith, c.loop-at.invariant.0) in f)
+pub loop-t-preserved : goal.loop-t-preserved
+loop-t-preserved c =
+    record {
+      inside = omega (arith, values_next c.args.text.now c.args.n c.loop-t.at c.in_ok-t.t c.in_ok-t.ensures c.byte_at-next.result c.byte_at-next.ensures c.if-t-eq0.false c.if-next-eq10.false);
+      same = values_more c.args.text.now c.args.n c.loop-t.at c.in_ok-t.t c.in_ok-t.ensures c.byte_at-next.result c.byte_at-next.ensures c.if-t-eq0.false c.if-next-eq10.false ∙ c.loop-t.invariant.same;
+      marks = marks_more c.args.text.now c.args.n c.loop-t.at c.in_ok-t.t c.in_ok-t.ensures c.loop-t.marks c.mark_literal.new.marks c.mark_literal.ensures (λ e. c.if-next-eq10.false (c.byte_at-next.ensures ∙ e)) ∙ c.loop-t.invariant.marks;
+    }
