@@ -1,4 +1,4 @@
--- `dimacs::put_pair` meets its contract: two texts, one behind the other, and the line's end. Assumes nothing.
+-- `dimacs::WordTexts::put_pair` meets its contract: two texts, one behind the other, and the line's end. Assumes nothing.
 use mathlib.Core.Path.{◌≡◌}
 use mathlib.Core.List.{List, [], ◌∷◌, ◌++◌}
 use Prim.Native.Nat.{ℕ, ◌+◌, ◌-◌, ◌≤◌}
@@ -9,13 +9,7 @@ use mir.Facts.{to_z-of_z}
 use Rattle.dimacs.specs.Text.{word_text}
 use Rattle.dimacs.specs.Table.{Begins}
 use Rattle.dimacs.proofs.Table.{begins_part, begins_set, pair_end}
-use Rattle.dimacs.proofs.put_pair.Goals as goal
-
-pub bounds-out-n-2 : goal.bounds-out-n-2
-bounds-out-n-2 c = simp length-set (omega (arith, c.put_word-m.ensures.1, c.put_word.ensures.1, c.requires.3))
-
-pub shape_of-out : goal.shape_of-out
-shape_of-out c = simp length-set (omega arith)
+use Rattle.dimacs.proofs.WordTexts.put_pair.Goals as goal
 
 pub returns : goal.returns
 returns c =
@@ -31,7 +25,7 @@ returns c =
     let b : Begins (word_text x ++ word_text y) g (m + n) = begins_part f ys (word_text x) (word_text y) m n bx by in
     let l : length g ≡ length c.args.out.now = omega arith in
     let most : m + n ≤ 16 = omega (arith, c.put_word-m.ensures.1, c.put_word.ensures.1) in
-    let b1 = begins_set (word_text x ++ word_text y) g (m + n) 48 b (omega (arith, c.requires.3)) in
-    let b2 = begins_set ((word_text x ++ word_text y) ++ 48 ∷ []) (set g (m + n) 48) (m + n + 1) 10 b1 (simp length-set (omega (arith, c.requires.3))) in
+    let b1 = begins_set (word_text x ++ word_text y) g (m + n) 48 b (omega (arith, c.requires.2)) in
+    let b2 = begins_set ((word_text x ++ word_text y) ++ 48 ∷ []) (set g (m + n) 48) (m + n + 1) 10 b1 (simp length-set (omega (arith, c.requires.2))) in
     let q : m + n + 1 + 1 ≡ m + n + 2 = omega arith in
     (rw (q, pair_end x y) at b2, omega arith)
