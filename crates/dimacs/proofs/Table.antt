@@ -211,10 +211,14 @@ module _ (top : ℕ) where
   unfolding Within
   within_at words i w h = (leb_iff _ top).0 ((all_get_d (pos 0) (λ w. leb (nat_abs w) top) words).0 w i h)
 
--- the first eight bytes of `texts[8 * i..]`
-pub entry_part : (texts : List ℕ) (i : ℕ) → 8 * i + 8 ≤ length texts → take 8 (take (length texts - 8 * i) (drop (8 * i) texts)) ≡ entry_at texts i
+-- an entry is a chunk of eight bytes
+pub entry_chunk : (k i : ℕ) (texts : List ℕ) → i < k → get_or (first_chunks 8 k texts) i [] ≡ entry_at texts i
 unfolding entry_at
-entry_part texts i room = take-take 8 (length texts - 8 * i) (drop (8 * i) texts) (omega arith)
+entry_chunk zero i texts h = absurd (let z : ⊥ = omega arith in z)
+entry_chunk (suc k) zero texts h = refl
+entry_chunk (suc k) (suc i) texts h =
+    let e : 8 * i + 8 ≡ 8 * suc i = omega arith in
+    entry_chunk k i (drop 8 texts) (omega arith) ∙ ap (take 8) (drop-drop (8 * i) 8 texts ∙ ap (λ (n : ℕ). drop n texts) (omega arith))
 
 -- an entry, copied to the start of a slice
 pub entry_copied : (w : ℤ) (e f s : List ℕ) → length e ≡ 8 → Entry w e → f ≡ filled e s → Begins (word_text w) f (get_or e 7 0) × (get_or e 7 0 ≤ 8)

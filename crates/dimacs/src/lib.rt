@@ -93,7 +93,7 @@ fn copied_entry(texts: &[u8], i: usize) -> [u8; 8]
     requires { 8 * i + 8 ≤ length texts.now }
     ensures { result ≡ entry_at texts.now i }
 {
-    *texts[8 * i..].first_chunk().unwrap()
+    texts.as_chunks().0[i]
 }
 
 // The entry of x, in a table that has those of the numbers below x.
@@ -170,12 +170,11 @@ impl<'a> WordTexts<'a> {
     }
 
     // The entry of a word.
-    fn entry(self, w: i32) -> &'a [u8; 8]
+    fn entry(self, w: i32) -> [u8; 8]
         requires { nat_abs w ≤ self.top }
-        ensures { Entry w result.now }
+        ensures { Entry w result }
     {
-        let at = 8 * entry_of(w, self.top);
-        self.bytes[at..].first_chunk().unwrap()
+        copied_entry(self.bytes, entry_of(w, self.top))
     }
 
     // The text of a word. Bytes behind it, up to the eighth, are written over; so it is with the functions below.
@@ -184,7 +183,7 @@ impl<'a> WordTexts<'a> {
         ensures { Begins (word_text w) out.new result × (result ≤ 8) }
     {
         let entry = self.entry(w);
-        out[..8].copy_from_slice(entry);
+        out[..8].copy_from_slice(&entry);
         usize::from(entry[7])
     }
 

@@ -1,7 +1,7 @@
--- `dimacs::copied_entry` meets its contract: the first eight bytes from 8 * i on. Assumes nothing.
-use mathlib.Core.Path.{◌∙◌}
-use Rattle.dimacs.proofs.Table.{entry_part}
+-- `dimacs::copied_entry` meets its contract: the table's chunks of eight bytes are its entries. Assumes nothing.
+use native.Mathlib.Omega.{arith}
+use Rattle.dimacs.proofs.Table.{entry_chunk}
 use Rattle.dimacs.proofs.copied_entry.Goals as goal
 
 pub returns : goal.returns
-returns c = let h = rw c.unwrap.ensures at c.first_chunk.ensures.cases in h.same ∙ entry_part c.args.texts.now c.args.i c.requires
+returns c = rw c.as_chunks.ensures.front (entry_chunk _ c.args.i c.args.texts.now (omega arith))

@@ -8,7 +8,7 @@ use Rattle.dimacs.proofs.WordTexts.put_word.Goals as goal
 
 pub returns : goal.returns
 returns c =
-    let e = c.entry-entry.result.now in
+    let e = c.entry-entry.result in
     let out = c.args.out.now in
     let copy = c.copy_from_slice.ensures in
     let eight : length e ≡ 8 = omega (arith, ap length copy.after, copy.len, length-take 8 out) in
