@@ -88,7 +88,8 @@ fn put_negated(out: &mut [u8], entry: &[u8; 8], x: usize)
     out[7] = entry[7] + 1;
 }
 
-// Entry i of a table.
+// Entry i of a table. It is read by value: written from there it is one move of eight bytes, where a copy from slice to slice would first
+// ask whether they overlap.
 fn copied_entry(texts: &[u8], i: usize) -> [u8; 8]
     requires { 8 * i + 8 ≤ length texts.now }
     ensures { result ≡ entry_at texts.now i }
