@@ -35,7 +35,11 @@ fn hash<T: Element>(z: &[T]) -> u32 {
 }
 
 // What comes of a call that is lent the first `len` elements of the space. None where it has not so many.
-pub fn lending<T: Element, F: FnOnce(&mut [T]) -> Answer>(space: &mut [T], len: usize, call: F) -> Option<Outcome>
+pub fn lending<T: Element, F: FnOnce(&mut [T]) -> Answer>(
+    space: &mut [T],
+    len: usize,
+    call: F,
+) -> Option<Outcome>
     requires { F.IsAlwaysCallable call }
 {
     if space.len() < len {

@@ -8,7 +8,7 @@
 // array here, or there is no record.
 #![tactic(auto)]
 
-mod calls;
+mod call;
 mod case;
 mod lent;
 mod outcome;
@@ -35,7 +35,7 @@ fn main(rt: HostRuntime) -> io::Result<()> {
         let Some(case) = Case::read(&mut stdin, &mut input) else {
             break;
         };
-        match calls::run(case, &mut words, &mut plan) {
+        match call::run(case, &mut words, &mut plan) {
             Some(outcome) => println!(rt; "{outcome}")?,
             None => println!(rt; "skip")?,
         }

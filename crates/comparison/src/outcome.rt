@@ -41,6 +41,10 @@ impl From<Size> for Outcome {
 
 impl fmt::Display for Outcome {
     fn fmt<W: fmt::Write>(&self, f: &mut fmt::Formatter<W>) -> fmt::Result {
-        write!(f, "{} {} {} {}", self.number, self.second, self.clauses, self.hash)
+        write!(
+            f,
+            "{} {} {} {}",
+            self.number, self.second, self.clauses, self.hash
+        )
     }
 }

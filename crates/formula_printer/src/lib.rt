@@ -224,7 +224,7 @@ pub fn print(input: &[u8]) -> Status
     print_input(&mut words, &mut text, &mut texts, input)
 }
 
-// Reads until the slice is full, or to the end.
+// Reads until the slice is full, or to the end. (`read_exact` gives no count where the end comes first, and `read_to_end` needs a heap.)
 fn read_input<R: Read>(reader: &mut R, input: &mut [u8]) -> std::io::Result<usize>
     ensures { IfOk result (λ n. n ≤ length input.new) }
 {
