@@ -15,7 +15,8 @@ fn digit_of(d: usize) -> u8
     b'0' + d as u8
 }
 
-// The digits of a number: those of a tenth of it, then its last one.
+// The digits of a number: those of a tenth of it, then its last one. (By the library's formatting it is no plainer: that writes to a
+// buffer of its own, and states other words for the digits.)
 fn put_digits(out: &mut [u8], x: usize) -> usize
     requires { length (decimal x) ≤ length out.old }
     ensures { Wrote (decimal x) out.old out.new result }
