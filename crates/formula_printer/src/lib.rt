@@ -11,6 +11,7 @@ ghost use Rattle.dimacs.specs.Table.{Begins, Within, Pairs};
 ghost use Rattle.formula_printer.specs.Room.{Room, Block};
 ghost use Rattle.formula_printer.specs.Output.{answer_status, Ends, input_status, status_number};
 
+use answers::Answer;
 use dimacs::WordTexts;
 use instance::Checked;
 use std::io::Read;
@@ -72,6 +73,13 @@ impl Page<'_> {
     // Writes what is gathered.
     fn finish(&self) -> Result<(), WriteFailed> {
         write(&self.text[..self.at])
+    }
+
+    // The one line of a refusal.
+    fn print_refusal(&mut self, refusal: Answer) -> Result<(), WriteFailed> {
+        let text = &mut *self.text;
+        self.at = dimacs::put_refusal(text, refusal.number as usize, refusal.second);
+        self.finish()
     }
 }
 
@@ -138,53 +146,39 @@ impl Formula<'_, '_> {
 }
 
 // The formula of a checked instance: the header, then the seven families. The texts of its literals and of 0 are made first.
-fn print_formula(
-    words: &mut [i32],
-    text: &mut [u8],
-    texts: &mut [u8],
-    checked: &Checked,
-) -> Result<(), WriteFailed>
-    requires room { Room words.old text.old texts.old }
+fn print_formula(page: &mut Page, texts: &mut [u8], checked: &Checked) -> Result<(), WriteFailed>
+    requires room { 540680 ≤ length texts.old }
     requires ready { Ready checked.now.sizes checked.now.starts checked.now.goals checked.now.near × (checked.now.sizes.rule ≡ 1) }
 {
     let s = checked.sizes;
     let variables = counts::variable_count(s);
     let end = 8 * (2 * variables + 1);
     let texts = WordTexts::new(&mut texts[..end], variables);
-    let at = dimacs::put_header(text, variables, counts::clause_count(s));
+    let text = &mut *page.text;
+    page.at = dimacs::put_header(text, variables, counts::clause_count(s));
     let formula = Formula { checked, texts };
-    let mut page = Page { words, text, at };
     for which in 0..7 {
-        formula.print_family(&mut page, which)?;
+        formula.print_family(page, which)?;
     }
     page.finish()
 }
 
-// The one line of a refusal.
-fn print_refusal(text: &mut [u8], number: usize, place: usize) -> Result<(), WriteFailed>
-    requires { 52 ≤ length text.old }
-{
-    let n = dimacs::put_refusal(text, number, place);
-    write(&text[..n])
-}
-
 // Asks 1 to 10 of the instance, under rule 1, and prints the refusal or the formula.
 fn print_answer(
-    words: &mut [i32],
-    text: &mut [u8],
+    page: &mut Page,
     texts: &mut [u8],
     b: &[u8],
     m: usize,
 ) -> Result<Status, WriteFailed>
-    requires { Room words.old text.old texts.old }
+    requires { 540680 ≤ length texts.old }
     ensures { IfOk result (λ status. status_number status ≡ answer_status b.now m) }
 {
     let i = instance_check::check_instance(b, m, 1);
     if i.answer.number != 0 {
-        print_refusal(text, i.answer.number as usize, i.answer.second)?;
+        page.print_refusal(i.answer)?;
         return Ok(Status::Refused);
     }
-    print_formula(words, text, texts, &i.checked)?;
+    print_formula(page, texts, &i.checked)?;
     Ok(Status::Done)
 }
 
@@ -204,7 +198,8 @@ pub fn print_input(words: &mut [i32], text: &mut [u8], texts: &mut [u8], input: 
     ensures { Ends (input_status input.now) (status_number result) }
 {
     let (m, b) = asked(input);
-    print_answer(words, text, texts, b, m).unwrap_or(Status::Failed)
+    let mut page = Page { words, text, at: 0 };
+    print_answer(&mut page, texts, b, m).unwrap_or(Status::Failed)
 }
 
 // So many zeros. A long array stands in a function of its own, which says no more than its length.
