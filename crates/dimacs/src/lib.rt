@@ -98,6 +98,8 @@ fn copied_entry(texts: &[u8], i: usize) -> [u8; 8]
     texts.as_chunks().0[i]
 }
 
+// (These functions take the slice and its top: a struct round the two is no plainer, since each would first take the slice out again.)
+
 // The entry of x, in a table that has those of the numbers below x.
 fn put_positive(texts: &mut [u8], top: usize, x: usize)
     requires { Sized top texts.old × (x ≤ top) × Numbers top x texts.old }

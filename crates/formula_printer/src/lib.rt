@@ -192,7 +192,7 @@ fn asked(input: &[u8]) -> (usize, &[u8])
     }
 }
 
-// Prints what an input asks for.
+// Prints what an input asks for. (The buffers stay three parameters: a public function keeps its own.)
 pub fn print_input(words: &mut [i32], text: &mut [u8], texts: &mut [u8], input: &[u8]) -> Status
     requires { Room words.old text.old texts.old }
     ensures { Ends (input_status input.now) (status_number result) }
