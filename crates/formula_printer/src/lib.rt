@@ -7,232 +7,199 @@ ghost use Rattle.instance.specs.Ready.{Ready};
 ghost use Rattle.formula.specs.Variables.{variable_count};
 ghost use Rattle.formula.specs.Blocks.{times, blocks_at, paired};
 ghost use Rattle.dimacs.specs.Text.{words_text};
-ghost use Rattle.dimacs.specs.Table.{Begins, Texts, Within, Pairs};
+ghost use Rattle.dimacs.specs.Table.{Begins, Within, Pairs};
 ghost use Rattle.formula_printer.specs.Room.{Room, Block};
-ghost use Rattle.formula_printer.specs.Output.{answer_status, Ends, input_status};
+ghost use Rattle.formula_printer.specs.Output.{answer_status, Ends, input_status, status_number};
 
-use instance::{Checked, Sizes};
+use answers::Answer;
+use dimacs::WordTexts;
+use instance::Checked;
 use std::io::Read;
 
-// The exit status: the formula was printed, the instance was refused, or a read or a write failed.
-pub const DONE: u32 = 0;
-
-pub const REFUSED: u32 = 1;
-
-pub const FAILED: u32 = 2;
-
-// The text so far: the bytes before `at` are gathered and not yet written. It is not `ok` where a write failed.
-#[derive(Clone, Copy)]
-pub struct Gathered {
-    pub ok: bool,
-    pub at: usize,
+// How a run ended: the formula was printed, the instance was refused, or a read or a write failed.
+#[derive(Clone, Copy, Debug, PartialEq, Eq)]
+pub enum Status {
+    Done,
+    Refused,
+    Failed,
 }
 
-// Writes what is gathered where it is 64 KiB or more.
-fn write_piece(text: &[u8], at: usize) -> Gathered
-    requires { at ≤ length text.now }
-    ensures { result.at < 65536 }
-{
-    if at < 65536 {
-        return Gathered { ok: true, at };
+// The exit status.
+impl From<Status> for u32 {
+    ghost from_gives = { λ status n. n ≡ status_number status };
+
+    fn from(status: Status) -> u32 {
+        status as u32
     }
-    let ok = io::write_all(1, &text[0..at]);
-    Gathered { ok, at: 0 }
+}
+
+// A write failed.
+#[derive(Clone, Copy, Debug)]
+struct WriteFailed;
+
+// Writes a piece of text.
+fn write(text: &[u8]) -> Result<(), WriteFailed> {
+    if io::write_all(1, text) {
+        Ok(())
+    } else {
+        Err(WriteFailed)
+    }
+}
+
+// The words of a block, and the text so far: its first `at` bytes are gathered and not yet written.
+#[derive(Drop)]
+struct Page<'a> {
+    words: &'a mut [i32],
+    text: &'a mut [u8],
+    at: usize,
+    ghost room: { Block words.now text.now },
+    ghost less: { at < 65536 },
+}
+
+impl Page<'_> {
+    // Gathers so many bytes more, which stand behind those. Writes what is gathered where it is 64 KiB or more.
+    fn gather(&mut self, more: usize) -> Result<(), WriteFailed>
+        requires { more ≤ 48384 }
+    {
+        let at = self.at + more;
+        if at < 65536 {
+            self.at = at;
+            return Ok(());
+        }
+        self.at = 0;
+        write(&self.text[..at])
+    }
+
+    // Writes what is gathered.
+    fn finish(&self) -> Result<(), WriteFailed> {
+        write(&self.text[..self.at])
+    }
+
+    // The one line of a refusal.
+    fn print_refusal(&mut self, refusal: Answer) -> Result<(), WriteFailed> {
+        let text = &mut *self.text;
+        self.at = dimacs::put_refusal(text, refusal.number as usize, refusal.second);
+        self.finish()
+    }
 }
 
 // Whether a family's clauses have two literals each, under rule 1.
 fn is_paired(which: usize) -> bool
     ensures { result ≡ paired which }
 {
-    if which == 3 {
-        return true;
-    }
-    if which == 4 {
-        return true;
-    }
-    which == 6
+    matches!(which, 3 | 4 | 6)
 }
 
-// The text of a block of a family. Clauses of two literals have a way of their own, which is faster.
-fn put_block(text: &mut [u8], texts: &[u8], top: usize, words: &[i32], which: usize) -> usize
-    requires { Texts top texts.now × Within top words.now × (T (paired which) → Pairs words.now) × (8 * length words.now ≤ length text.old) }
-    ensures { Begins (words_text words.now) text.new result × (result ≤ 8 * length words.now) }
-{
-    if is_paired(which) {
-        return dimacs::put_pairs(text, texts, top, words);
-    }
-    dimacs::put_words(text, texts, top, words)
+// A formula to be printed: its instance, checked under rule 1, and the texts of its literals and of 0.
+#[derive(Clone, Copy)]
+struct Formula<'a, 'b> {
+    checked: &'a Checked,
+    texts: WordTexts<'b>,
+    ghost ready: { Ready checked.now.sizes checked.now.starts checked.now.goals checked.now.near },
+    ghost rule: { checked.now.sizes.rule ≡ 1 },
+    ghost top: { texts.top ≡ variable_count checked.now.sizes },
 }
 
-// The block of t and x of a family, behind what is gathered.
-fn print_block(
-    words: &mut [i32],
-    text: &mut [u8],
-    texts: &[u8],
-    s: Sizes,
-    starts: &[u8; 16],
-    goals: &[u8; 16],
-    near: &[u64; 64],
-    which: usize,
-    t: usize,
-    x: usize,
-    gathered: usize,
-) -> Gathered
-    requires block { Block words.old text.old × Texts (variable_count s) texts.now × (gathered < 65536) }
-    requires ready { Ready s starts.now goals.now near.now × (s.rule ≡ 1) }
-    requires which_bound { (which < 7) × (t < times s which) × (x < blocks_at s which) }
-    ensures { result.at < 65536 }
-{
-    let n = families::write_block(words, s, starts, goals, near, which, t, x);
-    let top = counts::variable_count(s);
-    let more = put_block(&mut text[gathered..], texts, top, &words[0..n], which);
-    write_piece(text, gathered + more)
-}
-
-// The blocks of t.
-fn print_step(
-    words: &mut [i32],
-    text: &mut [u8],
-    texts: &[u8],
-    s: Sizes,
-    starts: &[u8; 16],
-    goals: &[u8; 16],
-    near: &[u64; 64],
-    which: usize,
-    t: usize,
-    gathered: usize,
-) -> Gathered
-    requires block { Block words.old text.old × Texts (variable_count s) texts.now × (gathered < 65536) }
-    requires ready { Ready s starts.now goals.now near.now × (s.rule ≡ 1) }
-    requires which_bound { (which < 7) × (t < times s which) }
-    ensures { result.at < 65536 }
-{
-    let end = counts::blocks_at(s, which);
-    let mut at = gathered;
-    for x in 0..end {
-        let so_far = print_block(words, text, texts, s, starts, goals, near, which, t, x, at);
-        if !so_far.ok {
-            return so_far;
+impl Formula<'_, '_> {
+    // The text of a block of a family. Clauses of two literals have a way of their own, which is faster.
+    fn put_block(self, text: &mut [u8], words: &[i32], which: usize) -> usize
+        requires { Within self.texts.top words.now × (T (paired which) → Pairs words.now) × (8 * length words.now ≤ length text.old) }
+        ensures { Begins (words_text words.now) text.new result × (result ≤ 8 * length words.now) }
+    {
+        if is_paired(which) {
+            self.texts.put_pairs(text, words)
+        } else {
+            self.texts.put_words(text, words)
         }
-        at = so_far.at;
     }
-    Gathered { ok: true, at }
-}
 
-// A family.
-fn print_family(
-    words: &mut [i32],
-    text: &mut [u8],
-    texts: &[u8],
-    s: Sizes,
-    starts: &[u8; 16],
-    goals: &[u8; 16],
-    near: &[u64; 64],
-    which: usize,
-    gathered: usize,
-) -> Gathered
-    requires block { Block words.old text.old × Texts (variable_count s) texts.now × (gathered < 65536) }
-    requires ready { Ready s starts.now goals.now near.now × (s.rule ≡ 1) }
-    requires which_bound { which < 7 }
-    ensures { result.at < 65536 }
-{
-    let end = counts::times_of(s, which);
-    let mut at = gathered;
-    for t in 0..end {
-        let so_far = print_step(words, text, texts, s, starts, goals, near, which, t, at);
-        if !so_far.ok {
-            return so_far;
+    // The block of t and x of a family, behind what is gathered.
+    fn print_block(
+        self,
+        page: &mut Page,
+        which: usize,
+        t: usize,
+        x: usize,
+    ) -> Result<(), WriteFailed>
+        requires { (which < 7) × (t < times self.checked.now.sizes which) × (x < blocks_at self.checked.now.sizes which) }
+    {
+        let c = self.checked;
+        let words = &mut *page.words;
+        let n = families::write_block(words, c.sizes, &c.starts, &c.goals, &c.near, which, t, x);
+        let at = page.at;
+        let more = self.put_block(&mut page.text[at..], &words[..n], which);
+        page.gather(more)
+    }
+
+    // A family.
+    fn print_family(self, page: &mut Page, which: usize) -> Result<(), WriteFailed>
+        requires { which < 7 }
+    {
+        let s = self.checked.sizes;
+        for t in 0..counts::times_of(s, which) {
+            for x in 0..counts::blocks_at(s, which) {
+                self.print_block(page, which, t, x)?;
+            }
         }
-        at = so_far.at;
+        Ok(())
     }
-    Gathered { ok: true, at }
 }
 
-// The seven families of a checked instance, behind what is gathered, to the end. Answers whether all was written.
-fn print_families(
-    words: &mut [i32],
-    text: &mut [u8],
-    texts: &[u8],
-    c: Checked,
-    gathered: usize,
-) -> bool
-    requires block { Block words.old text.old × Texts (variable_count c.sizes) texts.now × (gathered < 65536) }
-    requires ready { Ready c.sizes c.starts c.goals c.near × (c.sizes.rule ≡ 1) }
+// The formula of a checked instance: the header, then the seven families. The texts of its literals and of 0 are made first.
+fn print_formula(page: &mut Page, texts: &mut [u8], checked: &Checked) -> Result<(), WriteFailed>
+    requires room { 540680 ≤ length texts.old }
+    requires ready { Ready checked.now.sizes checked.now.starts checked.now.goals checked.now.near × (checked.now.sizes.rule ≡ 1) }
 {
-    let starts = c.starts;
-    let goals = c.goals;
-    let mut at = gathered;
-    for which in 0..7usize {
-        let so_far = print_family(
-            words, text, texts, c.sizes, &starts, &goals, &c.near, which, at,
-        );
-        if !so_far.ok {
-            return false;
-        }
-        at = so_far.at;
-    }
-    io::write_all(1, &text[0..at])
-}
-
-// The formula of a checked instance. The texts of its literals and of 0 are made first.
-fn print_formula(words: &mut [i32], text: &mut [u8], texts: &mut [u8], c: Checked) -> bool
-    requires room { Room words.old text.old texts.old }
-    requires ready { Ready c.sizes c.starts c.goals c.near × (c.sizes.rule ≡ 1) }
-{
-    let s = c.sizes;
+    let s = checked.sizes;
     let variables = counts::variable_count(s);
     let end = 8 * (2 * variables + 1);
-    dimacs::put_texts(&mut texts[0..end], variables);
-    let header = dimacs::put_header(text, variables, counts::clause_count(s));
-    print_families(words, text, &texts[0..end], c, header)
-}
-
-// The one line of a refusal.
-fn print_refusal(text: &mut [u8], number: usize, place: usize) -> bool
-    requires { 52 ≤ length text.old }
-{
-    let n = dimacs::put_refusal(text, number, place);
-    io::write_all(1, &text[0..n])
-}
-
-// The status given, or that of a failure where not all was written.
-fn status_of(written: bool, status: u32) -> u32
-    ensures { Ends status result }
-{
-    if written {
-        return status;
+    let texts = WordTexts::new(&mut texts[..end], variables);
+    let text = &mut *page.text;
+    page.at = dimacs::put_header(text, variables, counts::clause_count(s));
+    let formula = Formula { checked, texts };
+    for which in 0..7 {
+        formula.print_family(page, which)?;
     }
-    FAILED
+    page.finish()
 }
 
-// Asks 1 to 10 of the instance, under rule 1, and prints the refusal or the formula. Answers the exit status.
-fn print_answer(words: &mut [i32], text: &mut [u8], texts: &mut [u8], b: &[u8], m: usize) -> u32
-    requires { Room words.old text.old texts.old }
-    ensures { Ends (answer_status b.now m) result }
+// Asks 1 to 10 of the instance, under rule 1, and prints the refusal or the formula.
+fn print_answer(
+    page: &mut Page,
+    texts: &mut [u8],
+    b: &[u8],
+    m: usize,
+) -> Result<Status, WriteFailed>
+    requires { 540680 ≤ length texts.old }
+    ensures { IfOk result (λ status. status_number status ≡ answer_status b.now m) }
 {
     let i = instance_check::check_instance(b, m, 1);
-    let answer = i.answer;
-    let c = i.checked;
-    if answer.number != 0 {
-        return status_of(
-            print_refusal(text, answer.number as usize, answer.second),
-            REFUSED,
-        );
+    if i.answer.number != 0 {
+        page.print_refusal(i.answer)?;
+        return Ok(Status::Refused);
     }
-    status_of(print_formula(words, text, texts, c), DONE)
+    print_formula(page, texts, &i.checked)?;
+    Ok(Status::Done)
 }
 
-// Prints what an input asks for: the byte m, then the instance. An empty input counts as m 0 and an empty instance. Answers the
-// exit status.
-pub fn print_input(words: &mut [i32], text: &mut [u8], texts: &mut [u8], input: &[u8]) -> u32
-    requires { Room words.old text.old texts.old }
-    ensures { Ends (input_status input.now) result }
+// What an input asks for: its byte m, and the instance behind it. An empty input counts as m 0 and an empty instance.
+fn asked(input: &[u8]) -> (usize, &[u8])
+    ensures { input_status input.now ≡ answer_status result.1.now result.0 }
 {
-    if input.len() == 0 {
-        return print_answer(words, text, texts, input, 0);
+    match input.split_first() {
+        Some((m, b)) => (usize::from(*m), b),
+        None => (0, input),
     }
-    let m = numbers::wide(input[0]);
-    print_answer(words, text, texts, &input[1..], m)
+}
+
+// Prints what an input asks for. (The buffers stay three parameters: a public function keeps its own.)
+pub fn print_input(words: &mut [i32], text: &mut [u8], texts: &mut [u8], input: &[u8]) -> Status
+    requires { Room words.old text.old texts.old }
+    ensures { Ends (input_status input.now) (status_number result) }
+{
+    let (m, b) = asked(input);
+    let mut page = Page { words, text, at: 0 };
+    print_answer(&mut page, texts, b, m).unwrap_or(Status::Failed)
 }
 
 // So many zeros. A long array stands in a function of its own, which says no more than its length.
@@ -243,8 +210,8 @@ pub fn zeros<const N: usize>() -> [u8; N]
 }
 
 // The same, with buffers of its own.
-pub fn print(input: &[u8]) -> u32
-    ensures { Ends (input_status input.now) result }
+pub fn print(input: &[u8]) -> Status
+    ensures { Ends (input_status input.now) (status_number result) }
 {
     let mut words = [0i32; 6048];
     let mut text = zeros::<113920>();
@@ -252,7 +219,7 @@ pub fn print(input: &[u8]) -> u32
     print_input(&mut words, &mut text, &mut texts, input)
 }
 
-// Reads until the slice is full, or to the end.
+// Reads until the slice is full, or to the end. (`read_exact` gives no count where the end comes first, and `read_to_end` needs a heap.)
 fn read_input<R: Read>(reader: &mut R, input: &mut [u8]) -> std::io::Result<usize>
     ensures { IfOk result (λ n. n ≤ length input.new) }
 {
@@ -267,9 +234,9 @@ fn read_input<R: Read>(reader: &mut R, input: &mut [u8]) -> std::io::Result<usiz
     Ok(at)
 }
 
-// The whole program: reads at most 4,070 bytes, the byte m and an instance, and prints. Answers the exit status, or why a read failed.
-pub fn run<R: Read>(reader: &mut R) -> std::io::Result<u32> {
+// The whole program: reads at most 4,070 bytes, the byte m and an instance, and prints. An error says why a read failed.
+pub fn run<R: Read>(reader: &mut R) -> std::io::Result<Status> {
     let mut input = [0u8; 4070];
     let n = read_input(reader, &mut input)?;
-    Ok(print(&input[0..n]))
+    Ok(print(&input[..n]))
 }

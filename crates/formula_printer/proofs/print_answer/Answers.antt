@@ -8,21 +8,21 @@ use Rattle.instance.proofs.Accepted.{ready, accepted, rule_of}
 use Rattle.formula_printer.specs.Output.{answer_status}
 use Rattle.formula_printer.proofs.print_answer.Goals as goal
 
-pub returns-then-answer-ne0 : goal.returns-then-answer-ne0
+pub returns-then-i-ne0 : goal.returns-then-i-ne0
 unfolding answer_status
-returns-then-answer-ne0 c = rw (by_number_refused {A = ℕ} (instance_answer c.args.b.now c.args.m 1).number 0 1 (λ z. c.if-answer-ne0.true (ap (λ (x : Answer). x.number) c.check_instance-i.ensures.0 ∙ z))) c.status_of.ensures
+returns-then-i-ne0 c =
+    sym
+    (by_number_refused {A = ℕ} (instance_answer c.args.b.now c.args.m 1).number 0 1 (λ z. c.if-i-ne0.true (ap (λ (x : Answer). x.number) c.check_instance-i.ensures.0 ∙ z)))
 
-pub print_formula-requires : goal.print_formula-requires
-print_formula-requires c =
+pub print_formula-requires-clause-ready : goal.print_formula-requires-clause-ready
+print_formula-requires-clause-ready c =
     let b = c.args.b.now in
-    let e : (instance_answer b c.args.m 1).number ≡ 0 = sym (ap (λ (x : Answer). x.number) c.check_instance-i.ensures.0) ∙ c.if-answer-ne0.false in record {
-      room = c.requires;
-      ready = (
-        ready _ _ (accepted b c.args.m 1 c.check_instance-i.result.checked c.check_instance-i.ensures.1 e),
-        rule_of b c.args.m 1 c.check_instance-i.result.checked c.check_instance-i.ensures.1 e,
-      );
-    }
+    let e : (instance_answer b c.args.m 1).number ≡ 0 = sym (ap (λ (x : Answer). x.number) c.check_instance-i.ensures.0) ∙ c.if-i-ne0.false in
+    let checked = c.check_instance-i.ensures.1 in
+    (ready _ _ (accepted b c.args.m 1 c.check_instance-i.result.checked checked e), rule_of b c.args.m 1 c.check_instance-i.result.checked checked e)
 
 pub returns : goal.returns
 unfolding answer_status
-returns c = rw (by_number_accepted {A = ℕ} (instance_answer c.args.b.now c.args.m 1).number 0 1 (sym (ap (λ (x : Answer). x.number) c.check_instance-i.ensures.0) ∙ c.if-answer-ne0.false)) c.status_of-2.ensures
+returns c =
+    sym
+    (by_number_accepted {A = ℕ} (instance_answer c.args.b.now c.args.m 1).number 0 1 (sym (ap (λ (x : Answer). x.number) c.check_instance-i.ensures.0) ∙ c.if-i-ne0.false))
