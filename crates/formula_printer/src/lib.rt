@@ -3,17 +3,18 @@
 #![tactic(auto)]
 
 ghost use Rattle.std.specs.Prelude.{◌≡◌, ◌*◌, ◌≤◌, ◌<◌, T, length, IfOk};
-ghost use Rattle.instance.specs.Ready.{Ready};
 ghost use Rattle.formula.specs.Variables.{variable_count};
 ghost use Rattle.formula.specs.Blocks.{times, blocks_at, paired};
+ghost use Rattle.counts.specs.Families.{place_of};
 ghost use Rattle.dimacs.specs.Text.{words_text};
 ghost use Rattle.dimacs.specs.Table.{Begins, Within, Pairs};
 ghost use Rattle.formula_printer.specs.Room.{Room, Block};
 ghost use Rattle.formula_printer.specs.Output.{answer_status, Ends, input_status, status_number};
 
-use answers::Answer;
+use answers::Refusal;
+use counts::Family;
 use dimacs::WordTexts;
-use instance::Checked;
+use instance::Problem;
 use std::io::Read;
 
 // How a run ended: the formula was printed, the instance was refused, or a read or a write failed.
@@ -76,37 +77,36 @@ impl Page<'_> {
     }
 
     // The one line of a refusal.
-    fn print_refusal(&mut self, refusal: Answer) -> Result<(), WriteFailed> {
+    fn print_refusal(&mut self, refusal: Refusal) -> Result<(), WriteFailed> {
         let text = &mut *self.text;
-        self.at = dimacs::put_refusal(text, refusal.number as usize, refusal.second);
+        self.at = dimacs::put_refusal(text, refusal.reason.number() as usize, refusal.place);
         self.finish()
     }
 }
 
 // Whether a family's clauses have two literals each, under rule 1.
-fn is_paired(which: usize) -> bool
-    ensures { result ≡ paired which }
+fn is_paired(family: Family) -> bool
+    ensures { result ≡ paired (place_of family) }
 {
-    matches!(which, 3 | 4 | 6)
+    matches!(family, Family::D | Family::E | Family::G)
 }
 
-// A formula to be printed: its instance, checked under rule 1, and the texts of its literals and of 0.
+// A formula to be printed: its problem, under rule 1, and the texts of its literals and of 0.
 #[derive(Clone, Copy)]
 struct Formula<'a, 'b> {
-    checked: &'a Checked,
+    problem: &'a Problem,
     texts: WordTexts<'b>,
-    ghost ready: { Ready checked.now.sizes checked.now.starts checked.now.goals checked.now.near },
-    ghost rule: { checked.now.sizes.rule ≡ 1 },
-    ghost top: { texts.top ≡ variable_count checked.now.sizes },
+    ghost rule: { problem.now.shape.sizes.rule ≡ 1 },
+    ghost top: { texts.top ≡ variable_count problem.now.shape.sizes },
 }
 
 impl Formula<'_, '_> {
     // The text of a block of a family. Clauses of two literals have a way of their own, which is faster.
-    fn put_block(self, text: &mut [u8], words: &[i32], which: usize) -> usize
-        requires { Within self.texts.top words.now × (T (paired which) → Pairs words.now) × (8 * length words.now ≤ length text.old) }
+    fn put_block(self, text: &mut [u8], words: &[i32], family: Family) -> usize
+        requires { Within self.texts.top words.now × (T (paired (place_of family)) → Pairs words.now) × (8 * length words.now ≤ length text.old) }
         ensures { Begins (words_text words.now) text.new result × (result ≤ 8 * length words.now) }
     {
-        if is_paired(which) {
+        if is_paired(family) {
             self.texts.put_pairs(text, words)
         } else {
             self.texts.put_words(text, words)
@@ -117,48 +117,45 @@ impl Formula<'_, '_> {
     fn print_block(
         self,
         page: &mut Page,
-        which: usize,
+        family: Family,
         t: usize,
         x: usize,
     ) -> Result<(), WriteFailed>
-        requires { (which < 7) × (t < times self.checked.now.sizes which) × (x < blocks_at self.checked.now.sizes which) }
+        requires { (t < times self.problem.now.shape.sizes (place_of family)) × (x < blocks_at self.problem.now.shape.sizes (place_of family)) }
     {
-        let c = self.checked;
         let words = &mut *page.words;
-        let n = families::write_block(words, c.sizes, &c.starts, &c.goals, &c.near, which, t, x);
+        let n = families::write_block(words, self.problem, family, t, x);
         let at = page.at;
-        let more = self.put_block(&mut page.text[at..], &words[..n], which);
+        let more = self.put_block(&mut page.text[at..], &words[..n], family);
         page.gather(more)
     }
 
     // A family.
-    fn print_family(self, page: &mut Page, which: usize) -> Result<(), WriteFailed>
-        requires { which < 7 }
-    {
-        let s = self.checked.sizes;
-        for t in 0..counts::times_of(s, which) {
-            for x in 0..counts::blocks_at(s, which) {
-                self.print_block(page, which, t, x)?;
+    fn print_family(self, page: &mut Page, family: Family) -> Result<(), WriteFailed> {
+        let s = self.problem.shape;
+        for t in 0..counts::times_of(s, family) {
+            for x in 0..counts::blocks_at(s, family) {
+                self.print_block(page, family, t, x)?;
             }
         }
         Ok(())
     }
 }
 
-// The formula of a checked instance: the header, then the seven families. The texts of its literals and of 0 are made first.
-fn print_formula(page: &mut Page, texts: &mut [u8], checked: &Checked) -> Result<(), WriteFailed>
+// The formula of a problem: the header, then the seven families. The texts of its literals and of 0 are made first.
+fn print_formula(page: &mut Page, texts: &mut [u8], problem: &Problem) -> Result<(), WriteFailed>
     requires room { 540680 ≤ length texts.old }
-    requires ready { Ready checked.now.sizes checked.now.starts checked.now.goals checked.now.near × (checked.now.sizes.rule ≡ 1) }
+    requires rule { problem.now.shape.sizes.rule ≡ 1 }
 {
-    let s = checked.sizes;
+    let s = problem.shape;
     let variables = counts::variable_count(s);
     let end = 8 * (2 * variables + 1);
     let texts = WordTexts::new(&mut texts[..end], variables);
     let text = &mut *page.text;
     page.at = dimacs::put_header(text, variables, counts::clause_count(s));
-    let formula = Formula { checked, texts };
-    for which in 0..7 {
-        formula.print_family(page, which)?;
+    let formula = Formula { problem, texts };
+    for family in Family::ALL {
+        formula.print_family(page, family)?;
     }
     page.finish()
 }
@@ -173,13 +170,16 @@ fn print_answer(
     requires { 540680 ≤ length texts.old }
     ensures { IfOk result (λ status. status_number status ≡ answer_status b.now m) }
 {
-    let i = instance_check::check_instance(b, m, 1);
-    if i.answer.number != 0 {
-        page.print_refusal(i.answer)?;
-        return Ok(Status::Refused);
+    match instance_check::check_instance(b, m, 1) {
+        Ok(problem) => {
+            print_formula(page, texts, &problem)?;
+            Ok(Status::Done)
+        },
+        Err(refusal) => {
+            page.print_refusal(refusal)?;
+            Ok(Status::Refused)
+        },
     }
-    print_formula(page, texts, &i.checked)?;
-    Ok(Status::Done)
 }
 
 // What an input asks for: its byte m, and the instance behind it. An empty input counts as m 0 and an empty instance.

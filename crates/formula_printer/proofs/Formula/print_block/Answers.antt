@@ -12,6 +12,7 @@ use Rattle.instance.specs.declared.Sizes.{Sizes}
 use Rattle.instance.specs.Ready.{Ready}
 use Rattle.formula.specs.Formula.{line}
 use Rattle.formula.specs.Blocks.{held_in, block}
+use Rattle.counts.specs.Families.{place_of}
 use Rattle.families.proofs.Words.{block_within, pairs_whole, pairs_end}
 use Rattle.families.proofs.Room.{block_most}
 use Rattle.dimacs.specs.Table.{Within}
@@ -28,16 +29,16 @@ most s starts goals near ready h which t x = block_most (held_in s starts goals 
 pub write_block-n-requires-clause-x_in_bounds : goal.write_block-n-requires-clause-x_in_bounds
 write_block-n-requires-clause-x_in_bounds c =
     let f = c.args.self in
-    let b = f.checked.now in
-    omega (arith, most b.sizes b.starts b.goals b.near f.ready f.rule c.args.which c.args.t c.args.x, c.args.page.now.room.words_room)
+    let b = f.problem.now in
+    omega (arith, most b.shape.sizes b.starts b.goals b.near b.ready f.rule (place_of c.args.family) c.args.t c.args.x, c.args.page.now.room.words_room)
 
 pub slice_bounds-put_block-end-2 : goal.slice_bounds-put_block-end-2
 slice_bounds-put_block-end-2 c =
     let f = c.args.self in
-    let b = f.checked.now in
+    let b = f.problem.now in
     omega (
       arith,
-      most b.sizes b.starts b.goals b.near f.ready f.rule c.args.which c.args.t c.args.x,
+      most b.shape.sizes b.starts b.goals b.near b.ready f.rule (place_of c.args.family) c.args.t c.args.x,
       c.args.page.now.room.words_room,
       c.write_block-n.ensures.0,
       length-take c.write_block-n.result c.write_block-n.new.f,
@@ -47,28 +48,28 @@ pub put_block-more-requires : goal.put_block-more-requires
 unfolding Within
 put_block-more-requires c =
     let f = c.args.self in
-    let b = f.checked.now in
-    let g = held_in b.sizes b.starts b.goals b.near in
-    let j = c.args.which in
+    let b = f.problem.now in
+    let g = held_in b.shape.sizes b.starts b.goals b.near in
+    let j = (place_of c.args.family) in
     let t = c.args.t in
     let x = c.args.x in
     let out : List ℤ = each line (block g j t x) in
     let e : take c.write_block-n.result c.write_block-n.new.f ≡ out =
     rw (c.write_block-n.ensures.1, c.write_block-n.ensures.0) (take_filled out c.args.page.now.words.now) in
-    let m = most b.sizes b.starts b.goals b.near f.ready f.rule j t x in
+    let m = most b.shape.sizes b.starts b.goals b.near b.ready f.rule j t x in
     rw (e, f.top) (
-      block_within b.sizes b.starts b.goals b.near f.ready j t x c.requires.1 c.requires.2,
-      (λ p. record { whole = pairs_whole g j t x (first b.sizes f.rule j) p; ends = pairs_end g j t x (first b.sizes f.rule j) p }),
+      block_within b.shape.sizes b.starts b.goals b.near b.ready j t x c.requires.0 c.requires.1,
+      (λ p. record { whole = pairs_whole g j t x (first b.shape.sizes f.rule j) p; ends = pairs_end g j t x (first b.shape.sizes f.rule j) p }),
       simp (length-take, length-drop) (omega (arith, m, c.args.page.now.room.text_room, c.args.page.now.less)),
     )
 
 pub gather-requires : goal.gather-requires
 gather-requires c =
     let f = c.args.self in
-    let b = f.checked.now in
+    let b = f.problem.now in
     omega (
       arith,
-      most b.sizes b.starts b.goals b.near f.ready f.rule c.args.which c.args.t c.args.x,
+      most b.shape.sizes b.starts b.goals b.near b.ready f.rule (place_of c.args.family) c.args.t c.args.x,
       c.put_block-more.ensures.1,
       c.write_block-n.ensures.0,
       length-take c.write_block-n.result c.write_block-n.new.f,
