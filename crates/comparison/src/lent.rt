@@ -1,6 +1,6 @@
 // What a lent slice holds before a call, and a hash of what it holds after one.
 use crate::outcome::Outcome;
-use answers::Answer;
+use answers::Refusal;
 
 // An element of a lent slice: a byte or a word.
 pub trait Element: From<u8> + Copy {
@@ -35,7 +35,7 @@ fn hash<T: Element>(z: &[T]) -> u32 {
 }
 
 // What comes of a call that is lent the first `len` elements of the space. None where it has not so many.
-pub fn lending<T: Element, F: FnOnce(&mut [T]) -> Answer>(
+pub fn lending<T: Element, F: FnOnce(&mut [T]) -> Result<usize, Refusal>>(
     space: &mut [T],
     len: usize,
     call: F,
@@ -47,6 +47,6 @@ pub fn lending<T: Element, F: FnOnce(&mut [T]) -> Answer>(
     }
     let z = &mut space[..len];
     fill(z);
-    let answer = call(z);
-    Some(Outcome::new(answer, hash(z)))
+    let result = call(z);
+    Some(Outcome::new(result, hash(z)))
 }

@@ -1,5 +1,5 @@
 // What came of a case, and its line.
-use answers::{Answer, Size};
+use answers::{Answer, Extent, Refusal, Size};
 use std::fmt;
 
 #[derive(Clone, Copy)]
@@ -11,7 +11,8 @@ pub struct Outcome {
 }
 
 impl Outcome {
-    pub fn new(answer: Answer, hash: u32) -> Outcome {
+    pub fn new(result: Result<usize, Refusal>, hash: u32) -> Outcome {
+        let answer = Answer::from(result);
         Outcome {
             number: answer.number,
             second: answer.second,
@@ -22,14 +23,15 @@ impl Outcome {
 }
 
 // A call that is lent nothing: the hash of an empty slice.
-impl From<Answer> for Outcome {
-    fn from(answer: Answer) -> Outcome {
-        Outcome::new(answer, 1)
+impl From<Result<usize, Refusal>> for Outcome {
+    fn from(result: Result<usize, Refusal>) -> Outcome {
+        Outcome::new(result, 1)
     }
 }
 
-impl From<Size> for Outcome {
-    fn from(size: Size) -> Outcome {
+impl From<Result<Extent, Refusal>> for Outcome {
+    fn from(result: Result<Extent, Refusal>) -> Outcome {
+        let size = Size::from(result);
         Outcome {
             number: size.number,
             second: size.second,

@@ -35,8 +35,10 @@ fn main(rt: HostRuntime) -> io::Result<()> {
     rt.stdin().take(65536).read_to_end(&mut input)?;
     let mut rest = input.as_slice();
     while let Some((case, behind)) = split_case(rest) {
-        let answer = instance_check::check_instance(case.instance, case.horizon, case.rule).answer;
-        println!(rt; "{} {}", answer.number, answer.second)?;
+        match instance_check::check_instance(case.instance, case.horizon, case.rule) {
+            Ok(_) => println!(rt; "0 0")?,
+            Err(refusal) => println!(rt; "{} {}", refusal.reason.number(), refusal.place)?,
+        }
         rest = behind;
     }
     Ok(())
