@@ -2,15 +2,17 @@
 use mathlib.Core.Path.{◌≡◌, refl, sym, ◌∙◌, ap, subst}
 use mathlib.Core.Logic.{◌↔◌, ◌⊎◌, inl, inr, ⊎_elim}
 use mathlib.Core.List.{List, [], ◌∷◌}
-use mathlib.Core.Bool.{true, not, ◌||◌}
-use Prim.Native.Nat.{ℕ, suc, ◌+◌, ◌-◌, ◌≤◌, ◌<◌}
+use mathlib.Core.Bool.{Bool, true, not, ◌&&◌, ◌||◌}
+use Prim.Native.Nat.{ℕ, zero, suc, ◌+◌, ◌-◌, ◌≤◌, ◌<◌}
 use native.Mathlib.Omega.{arith}
 use lib.ListN.{length, get_or, take, drop}
 use lib.Dec.{T}
+use Rattle.std.specs.Prelude.{fold}
+use Rattle.lists.specs.Loop.{every}
 use lib.IntN.{ℤ, pos, neg_ℤ}
 use lib.Signed.{lt_z}
 use borrow.Author.Tests.{lt-ltb, eq-eqb}
-use Rattle.lists.proofs.Tests.{T_ext, or_iff, or_imp, not_iff}
+use Rattle.lists.proofs.Tests.{T_ext, and_iff, or_iff, or_imp, not_iff, every_iff}
 use Rattle.lists.proofs.Loops.{any_two}
 use Rattle.lists.proofs.Slices.{part_get_or, part_length}
 use Rattle.answers.proofs.Faults.{holds, T_true}
@@ -89,3 +91,24 @@ module _ (es : List ℤ) (w : Valuation (length es) es) (z n : ℕ) (fit : z + n
 
   pub part_size : length (take (z + n - z) (drop z es)) ≡ n
   part_size = let m : z + n - z ≡ n = omega arith in rw m (part_length es z n fit)
+
+-- ---- a fold that asks a test of each element
+module _ {A : Type 0} (t : A → Bool) (d : A) where
+  each_at : (x : A) (xs : List A) → T (t x) → ((j : ℕ) → j < length xs → T (t (get_or xs j d))) → (j : ℕ) → j < length (x ∷ xs) → T (t (get_or (x ∷ xs) j d))
+  each_at x xs h r zero l = h
+  each_at x xs h r (suc j) l = r j (omega arith)
+
+  fold_all : (b : Bool) (xs : List A) → T (fold (λ a x. a && t x) b xs) → T b × ((j : ℕ) → j < length xs → T (t (get_or xs j d)))
+  fold_all b [] h = (h, λ j l. absurd (let f : ⊥ = omega arith in f))
+  fold_all b (x ∷ xs) h = let (u, r) = fold_all (b && t x) xs h in let (v, w) = (and_iff b (t x)).0 u in (v, each_at x xs w r)
+
+  all_fold : (b : Bool) (xs : List A) → T b → ((j : ℕ) → j < length xs → T (t (get_or xs j d))) → T (fold (λ a x. a && t x) b xs)
+  all_fold b [] h r = h
+  all_fold b (x ∷ xs) h r = all_fold (b && t x) xs ((and_iff b (t x)).1 (h, r 0 (omega arith))) (λ j l. r (suc j) (omega arith))
+
+  pub fold_every : (xs : List A) (n : ℕ) (p : ℕ → Bool) → length xs ≡ n → ((j : ℕ) → j < n → t (get_or xs j d) ≡ p j) → fold (λ a x. a && t x) true xs ≡ every n p
+  fold_every xs n p e same =
+      T_ext (fold (λ a x. a && t x) true xs) (every n p) (
+        (λ h. (every_iff n p).1 (λ j l. subst T (same j l) ((fold_all true xs h).1 j (omega arith)))),
+        (λ h. all_fold true xs tt (λ j l. subst T (sym (same j (omega arith))) ((every_iff n p).0 h j (omega arith)))),
+      )

@@ -1,5 +1,5 @@
 // A valuation, asked variable by variable.
-ghost use Rattle.std.specs.Prelude.{◌≡◌, not, [], ◌∷◌, ℕ, ◌+◌, ◌≤◌, ◌<◌, T, IsTrue, IsFalse, int_lt, pos, slice_index_or, MatchOption, length};
+ghost use Rattle.std.specs.Prelude.{◌≡◌, true, ◌&&◌, ◌||◌, fold, zip, not, [], ◌∷◌, ℕ, ◌+◌, ◌≤◌, ◌<◌, T, IsTrue, IsFalse, int_lt, pos, slice_index_or, MatchOption, length};
 ghost use Rattle.lists.specs.Loop.{every};
 ghost use Rattle.valuation.specs.Valuation.{right_entry, true?, satisfied?};
 ghost use Rattle.ceiling.specs.Tree.{on, off};
@@ -17,6 +17,22 @@ fn all_positive(xs: &[i32]) -> bool
     ensures { IsTrue result → (j : ℕ) → j < length xs.now → IsTrue (int_lt (pos 0) (slice_index_or xs.now j (pos 0))) }
 {
     xs.iter().all(|x| 0 < *x)
+}
+
+// Is none positive? In a fold, which has one way out, the compiler takes several at once.
+fn none_positive(xs: &[i32]) -> bool
+    ensures { result ≡ fold (λ none x. none && not (int_lt (pos 0) x)) true xs.now }
+{
+    xs.iter().fold(true, |none, x| none & !(0 < *x))
+}
+
+// Is a number of the second list positive wherever that of the first is? A fold too.
+fn positive_where(xs: &[i32], ys: &[i32]) -> bool
+    ensures { result ≡ fold (λ all p. all && (not (int_lt (pos 0) p.0) || int_lt (pos 0) p.1)) true (zip xs.now ys.now) }
+{
+    xs.iter()
+        .zip(ys)
+        .fold(true, |all, (x, y)| all & (!(0 < *x) | (0 < *y)))
 }
 
 // How many are there up to the last positive one?
@@ -46,29 +62,20 @@ impl<'a> Assignment<'a> {
         !self.is_true(z) | self.is_true(w)
     }
 
-    // Is each of the n variables after w true where that of the n after z is? The loop has one way out, so that the compiler may take
-    // several at once.
+    // Is each of the n variables after w true where that of the n after z is?
     pub fn all_imply(self, z: usize, w: usize, n: usize) -> bool
         requires { (z + n ≤ length self.entries.now) × (w + n ≤ length self.entries.now) }
         ensures { result ≡ every n (λ j. satisfied? self.entry.entries.now (off (z + (j + 1)) ∷ on (w + (j + 1)) ∷ [])) }
     {
-        let mut all = true;
-        for j in 0..n {
-            all &= self.implies(z + (j + 1), w + (j + 1));
-        }
-        all
+        positive_where(&self.entries[z..z + n], &self.entries[w..w + n])
     }
 
-    // Is none of the n variables after z true? A loop of the same form.
+    // Is none of the n variables after z true?
     pub fn none_true(self, z: usize, n: usize) -> bool
         requires { z + n ≤ length self.entries.now }
         ensures { result ≡ every n (λ j. not (true? self.entry.entries.now (on (z + (j + 1))))) }
     {
-        let mut none = true;
-        for j in 0..n {
-            none &= !self.is_true(z + (j + 1));
-        }
-        none
+        none_positive(&self.entries[z..z + n])
     }
 
     // Is each of the n variables after z true?

@@ -1,21 +1,19 @@
--- `added_satisfaction::assignment::Assignment::none_true` meets its contract. Assumes nothing.
-use mathlib.Core.Path.{◌≡◌, refl, ◌∙◌, ap}
+-- `added_satisfaction::assignment::Assignment::none_true` meets its contract: an entry is positive where its variable is true. Assumes nothing.
+use mathlib.Core.Path.{◌∙◌, ap}
 use mathlib.Core.Bool.{not}
-use Prim.Native.Nat.{ℕ, ◌+◌}
-use native.Mathlib.Numerals.{add-one}
-use native.Mathlib.Omega.{arith}
-use Rattle.lists.specs.Loop.{every}
+use Prim.Native.Nat.{◌+◌}
+use lib.IntN.{pos}
+use lib.Signed.{lt_z}
 use Rattle.valuation.specs.Valuation.{true?}
 use Rattle.ceiling.specs.Tree.{on}
+use Rattle.added_satisfaction.proofs.Truth.{valuation, part_true, part_size, fold_every}
 use Rattle.added_satisfaction.proofs.assignment.Assignment.none_true.Goals as goal
-
-pub loop-j-init : goal.loop-j-init
-loop-j-init c = (omega arith, refl)
-
-pub loop-j-preserved : goal.loop-j-preserved
-loop-j-preserved c = (omega arith, rw (add-one c.loop-j.j, c.loop-j.invariant.1, c.is_true.ensures))
 
 pub returns : goal.returns
 returns c =
-    let e : c.loop-j.j ≡ c.args.n = omega (arith, c.loop-j.invariant.0) in
-    c.loop-j.invariant.1 ∙ ap (λ (x : ℕ). every x (λ h. not (true? c.args.self.entries.now (on (c.args.z + (h + 1)))))) e
+    let es = c.args.self.entries.now in
+    let v = valuation es c.args.self.right in
+    let z = c.args.z in
+    let n = c.args.n in
+    c.none_positive.ensures
+    ∙ fold_every (λ x. not (lt_z (pos 0) x)) (pos 0) _ n (λ j. not (true? es (on (z + (j + 1))))) (part_size es v z n c.requires) (λ j l. ap not (part_true es v z n c.requires j l))
