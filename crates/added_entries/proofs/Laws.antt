@@ -1,10 +1,10 @@
 -- A loop that writes one entry a turn; the tree by the length of its list; and a plan's entries by the array.
-use mathlib.Core.Path.{◌≡◌, refl, sym, ◌∙◌, ap, ap₂}
+use mathlib.Core.Path.{◌≡◌, refl, sym, ◌∙◌, ap, ap₂, subst}
 use mathlib.Core.Logic.Iff
 use mathlib.Core.List.{List, [], ◌∷◌, ◌++◌}
 use mathlib.Core.Bool.{Bool, true, false, cond}
 use Prim.Native.Nat.{ℕ, zero, suc, ◌+◌, ◌-◌, ◌*◌, ◌/◌, ◌%◌, ◌≤◌, ◌<◌, min}
-use native.Mathlib.Nat.{mod-lt, suc-mul}
+use native.Mathlib.Nat.{mod-lt}
 use native.Mathlib.Numerals.{add-one}
 use native.Mathlib.Omega.{arith}
 use borrow.Rule.Slice.PartMut.{put_mid}
@@ -16,7 +16,7 @@ use Rattle.lists.specs.Loop.{for}
 use Rattle.lists.specs.Slice.{filled, Wrote}
 use Rattle.lists.proofs.Tests.{T_ext, ltb_iff}
 use Rattle.lists.proofs.Loops.{for_ext}
-use Rattle.lists.proofs.Blocks.{for1_length, for1_get_or, quotient, remainder}
+use Rattle.lists.proofs.Blocks.{for1_length, for1_get_or, place_lt, quotient, remainder}
 use Rattle.lists.proofs.Slices.{Filling, filling_from, filling_next, filling_on, filling_set, filling_done}
 use Rattle.instance.specs.declared.Sizes.{Sizes}
 use Rattle.instance.specs.Limits.{Limits}
@@ -68,14 +68,14 @@ as_number : (b : Bool) → bool_byte b ≡ 0 + cond b 1 0
 as_number true = refl
 as_number false = refl
 
-module _ (marks : List ℕ) where
+module _ (marks : List Bool) where
   pub one_entries : (c l x y : ℕ) → l < 2 → entries_over marks c l x y ≡ []
   unfolding entries_over tree_entries
   one_entries c l x y h = rw (tree_one l h)
 
-  pub one_count : (l x : ℕ) (b : Bool) → l ≡ 1 → b ≡ busy_in marks x → bool_byte b ≡ count_over marks l x
+  pub one_count : (x : ℕ) → bool_byte (busy_in marks x) ≡ count_over marks 1 x
   unfolding count_over
-  one_count l x b h q = let e : x + 1 - 1 ≡ x = omega arith in rw (h, e, ← q) (as_number b)
+  one_count x = let e : x + 1 - 1 ≡ x = omega arith in rw e (as_number (busy_in marks x))
 
   pub count_within : (l x : ℕ) → count_over marks l x ≤ l
   unfolding count_over
@@ -130,45 +130,24 @@ module _ (b d : ℕ → Bool) (c : ℕ) where
       rw (e, f) (h (inputs l + j) (omega arith)))))
       (ap (λ (n : ℕ). for (outputs c (node l r)) λ j. entry_of (leb (suc j) n) (before c (node l r) x y + suc j) ∷ []) (count_same b d (inputs l + inputs r) x w h))
 
--- ---- the marks, one a turn: input i is that of agent a at time t
-pub record Turn (k i t a : ℕ) : Type 0 where
-  pub place : i ≡ t * k + a
-  pub below : a < k
-  pub early : t ≤ i
+-- ---- the marks, one a turn: input t * k + a is that of agent a at time t
+module _ (rest : List ℕ) (m k : ℕ) where
+  abbrev pub Marking : ℕ → List Bool → Type 0
+  Marking i f = Filling (λ j. mark rest k j ∷ []) (m * k) (replicate 512 false) i i f
 
-pub turn_first : (k : ℕ) → 1 ≤ k → Turn k 0 0 0
-turn_first k h = record { place = omega arith; below = omega arith; early = omega arith }
+  pub marking_from : m * k ≤ 512 → Marking 0 (replicate 512 false)
+  marking_from h =
+      filling_from 0 (omega arith) refl (omega (arith, h, for1_length (m * k) (mark rest k), length-replicate {A = Bool} 512 false))
 
--- the next agent, or the first at the next time
-pub turn_next : {k i t a : ℕ} → Turn k i t a → (a + 1 ≡ k → ⊥) → Turn k (i + 1) t (a + 1)
-turn_next u d = record { place = omega (arith, u.place); below = omega (arith, u.below); early = omega (arith, u.early) }
-
-pub turn_time : {k i t a : ℕ} → Turn k i t a → a + 1 ≡ k → Turn k (i + 1) (t + 1) 0
-turn_time {k} {i} {t} {a} u e =
-    let f : (t + 1) * k ≡ t * k + k = rw (add-one t) (suc-mul t k) in
-    record { place = omega (arith, u.place, f); below = omega arith; early = omega (arith, u.early) }
-
-as_mark : (b : Bool) → cond b 1 0 ≡ bool_byte b
-as_mark true = refl
-as_mark false = refl
-
-module _ (rest : List ℕ) (k l : ℕ) where
-  abbrev pub Marking : ℕ → List ℕ → Type 0
-  Marking i f = Filling (λ j. mark rest k j ∷ []) l (replicate 512 0) i i f
-
-  pub marking_from : l ≤ 512 → Marking 0 (replicate 512 0)
-  marking_from h = filling_from 0 (omega arith) refl (omega (arith, for1_length l (mark rest k), length-replicate {A = ℕ} 512 0))
-
-  pub marking_next : {i t a x : ℕ} {f : List ℕ} → Marking i f → i < l → Turn k i t a → x ≡ bool_byte (ltb t (get_or rest a 0)) → Marking (i + 1) (set f i x)
-  marking_next {i} {t} {a} {x} {f} w h u e =
-      filling_set w h x (ap (λ (v : ℕ). v ∷ []) (rw (u.place, quotient t k a u.below, remainder t k a u.below) (as_mark (ltb t (get_or rest a 0))) ∙ sym e))
-
-above_0 : (b : Bool) → ltb 0 (cond b 1 0) ≡ b
-above_0 true = refl
-above_0 false = refl
+  pub marking_next : {t a : ℕ} {f : List Bool} {x : Bool} → Marking (t * k + a) f → t < m → a < k → x ≡ ltb t (get_or rest a 0)
+      → Marking (t * k + (a + 1)) (set f (t * k + a) x)
+  marking_next {t} {a} {f} {x} w h l e =
+      let n : t * k + a + 1 ≡ t * k + (a + 1) = omega arith in
+      subst (λ (i : ℕ). Marking i (set f (t * k + a) x)) n
+      (filling_set w (place_lt m k t a h l) x (rw (quotient t k a l, remainder t k a l) (ap (λ (b : Bool). b ∷ []) (sym e))))
 
 -- ---- a plan's entries by the array
-module _ (s : Sizes) (p rest : List ℕ) (w : rest ≡ filled (rest_times s p) (replicate 16 0)) (some : 1 ≤ s.k) (marks : List ℕ) (v : marks ≡ filled (marks_of rest s.k (s.m * s.k)) (replicate 512 0)) where
+module _ (s : Sizes) (p rest : List ℕ) (w : rest ≡ filled (rest_times s p) (replicate 16 0)) (some : 1 ≤ s.k) (marks : List Bool) (v : marks ≡ filled (marks_of rest s.k (s.m * s.k)) (replicate 512 false)) where
   open s use {k, m}
 
   abbrev N : ℕ
@@ -184,9 +163,9 @@ module _ (s : Sizes) (p rest : List ℕ) (w : rest ≡ filled (rest_times s p) (
   marked : (i : ℕ) → i < m * k → busy_in marks i ≡ ltb (i / k) (get_or rest (i % k) 0)
   unfolding filled busy_in
   marked i l =
-      ap (λ (r : List ℕ). ltb 0 (get_or r i 0)) v
-      ∙ ap (λ (x : ℕ). ltb 0 x) (get_or-append (marks_of rest k (m * k)) _ 0 i (omega (arith, for1_length (m * k) (mark rest k))) ∙ for1_get_or (m * k) (mark rest k) 0 i l)
-      ∙ above_0 _
+      ap (λ (r : List Bool). get_or r i false) v
+      ∙ get_or-append (marks_of rest k (m * k)) _ false i (omega (arith, for1_length (m * k) (mark rest k)))
+      ∙ for1_get_or (m * k) (mark rest k) false i l
 
   busy_same : (i : ℕ) → i < m * k → busy_at s p (N + suc i) ≡ busy_in marks i
   unfolding busy_at

@@ -9,6 +9,7 @@ use native.Mathlib.Decide.{dec_lt}
 use native.Mathlib.Omega.{arith}
 use borrow.Author.Tests.{lt-ltb}
 use lib.ListN.{length}
+use Rattle.std.specs.Prelude.{Option, None, Some}
 use lib.Dec.{T, ltb, leb}
 use lib.IntN.{ℤ}
 use Rattle.lists.specs.Loop.{for, when}
@@ -27,11 +28,14 @@ use Rattle.ceiling.proofs.Tree.{join_iff, one_of}
 use Rattle.ceiling.proofs.Counts.{count_joins}
 use Rattle.ceiling.proofs.Entries.{clash}
 use Rattle.counting.specs.declared.Node.{Node}
-use Rattle.added_satisfaction.specs.Search.{cell, Within}
+use Rattle.added_satisfaction.specs.Search.{Passes, Fails, Stops, FirstOf, cell, follows, Within}
 use Rattle.added_satisfaction.proofs.Truth.{off_iff, two_iff}
 
 module _ (es : List ℤ) (w : Valuation (length es) es) (d : Node) (fit : Within es d) where
-  open d use {c, a, b, p, q, o}
+  open d use {a, b, p, q, o}
+
+  abbrev c : ℕ
+  c = d.ceiling.c
 
   -- output i is true, or its negation is
   decided : (p i : ℕ) → p + i ≤ length es → (0 < i → T (true? es (on (p + i)))) ⊎ ((0 < i) × T (true? es (off (p + i))))
@@ -90,7 +94,7 @@ module _ (es : List ℤ) (w : Valuation (length es) es) (d : Node) (fit : Within
         (λ u. f (subst (λ (z : ℕ). T (true? es (on (o + z)))) e ((cell_iff i 0 x (omega arith)).0 u (omega arith) (λ z. t) (λ z. absurd (let n : ⊥ = omega arith in n)))))
 
     -- both are true, or i is 0
-    pub row_rest : (0 < i → T (true? es (on (p + i)))) → (0 < i → T (true? es (on (o + i)))) → (r : ℕ)
+    row_rest : (0 < i → T (true? es (on (p + i)))) → (0 < i → T (true? es (on (o + i)))) → (r : ℕ)
         → Stop (λ j. satisfied? es (off (q + j) ∷ on (o + min (i + j) (c + 1)) ∷ [])) 1 (b + 1) r → FirstFault (b + 1) (cell es d i) r
     row_rest t u r f =
         let g = fit.right.1 in
@@ -111,6 +115,11 @@ module _ (es : List ℤ) (w : Valuation (length es) es) (d : Node) (fit : Within
               let m = f.least in
               f.here l ((two r m l).1 (λ v. (cell_iff i r x (omega arith)).0 y (omega arith) t (λ z. v)));
         }
+
+    pub row_found : (0 < i → T (true? es (on (p + i)))) → (0 < i → T (true? es (on (o + i)))) → (r : Option ℕ)
+        → Stops (follows es d i) 1 (b + 1) r → FirstOf (b + 1) (cell es d i) r
+    row_found t u None f = row_rest t u (b + 1) f
+    row_found t u (Some j) (f, l) = (row_rest t u j f, l)
 
 -- ---- a node's clauses in one list: number n is that of the n + 1st pair i, j
 module _ (c p q o a b : ℕ) where
@@ -143,19 +152,13 @@ module _ (c p q o a b : ℕ) where
       ∙ ap₂ ◌++◌ first_none (for_ext (suc a * suc b - 1) _ _ (λ n l. later_one n))
 
 module _ (es : List ℤ) (d : Node) where
-  open d use {c, a, b, p, q, o}
-
-  pub few_pairs : Within es d → (1 ≤ (a + 1) * (b + 1)) × ((a + 1) * (b + 1) ≤ 16900)
-  few_pairs f =
-      let l = f.left.0 in
-      let r = f.right.0 in
-      (mul-le-mul {n₁ = 1} {m₁ = 1} (omega arith) (omega arith), mul-le-mul {n₂ = 130} {m₂ = 130} (omega (arith, f.ceiling)) (omega (arith, f.ceiling)))
+  open d use {a, b, p, q, o}
 
   -- the pair of number n, and its clause
-  sat_at : (n : ℕ) → T (cell es d (suc n / suc b) (suc n % suc b)) → T (satisfied? es (join c p q o (suc n / suc b) (suc n % suc b)))
+  sat_at : (n : ℕ) → T (cell es d (suc n / suc b) (suc n % suc b)) → T (satisfied? es (join d.ceiling.c p q o (suc n / suc b) (suc n % suc b)))
   sat_at n t =
       ⊎_elim
-      (λ u. absurd (let z = (leb_iff (suc n / suc b + suc n % suc b) 0).0 u in let s = later_some c p q o a b n in let f : ⊥ = omega arith in f))
+      (λ u. absurd (let z = (leb_iff (suc n / suc b + suc n % suc b) 0).0 u in let s = later_some d.ceiling.c p q o a b n in let f : ⊥ = omega arith in f))
       (λ u. u)
       ((or_iff (leb (suc n / suc b + suc n % suc b) 0) _).0 t)
 
@@ -184,28 +187,40 @@ module _ (es : List ℤ) (d : Node) where
         (λ k. absurd (let m = mul-le-mul_right (suc b) k in let s = suc-mul i (suc b) in let n : ⊥ = omega arith in n))
         (λ k. let x : i ≡ u = omega arith in let y : i * suc b ≡ u * suc b = rw x in subst (λ (z : ℕ). T (cell es d z v)) x (f.before v (omega arith))))
 
-    pub node_stops : i < a + 1 → Fault es (joins c a b p q o) (i * (b + 1) + j - 1)
+    node_stops : i < a + 1 → Fault es (joins d.ceiling.c a b p q o) (i * (b + 1) + j - 1)
     node_stops h =
         let s = place_some in
         let w : i * (b + 1) ≡ i * suc b = rw add-one in
         let e : suc (i * (b + 1) + j - 1) ≡ i * suc b + j = omega arith in
         let m = place_lt (suc a) (suc b) i j (omega arith) (omega arith) in
-        rw (joins_flat c p q o a b)
+        rw (joins_flat d.ceiling.c p q o a b)
         (singles es (suc a * suc b - 1) _ (i * (b + 1) + j - 1) (fault_at (omega arith)
         (λ n g. sat_at n (before_place n (omega arith)))
         (λ t.
         f.here l ((or_iff (leb (i + j) 0) _).1 (inr
-        (subst (λ (u : ℕ). T (satisfied? es (join c p q o u j))) (quotient i (suc b) j (omega arith))
-        (subst (λ (v : ℕ). T (satisfied? es (join c p q o ((i * suc b + j) / suc b) v))) (remainder i (suc b) j (omega arith))
-        (subst (λ (x : ℕ). T (satisfied? es (join c p q o (x / suc b) (x % suc b)))) e t))))))))
+        (subst (λ (u : ℕ). T (satisfied? es (join d.ceiling.c p q o u j))) (quotient i (suc b) j (omega arith))
+        (subst (λ (v : ℕ). T (satisfied? es (join d.ceiling.c p q o ((i * suc b + j) / suc b) v))) (remainder i (suc b) j (omega arith))
+        (subst (λ (x : ℕ). T (satisfied? es (join d.ceiling.c p q o (x / suc b) (x % suc b)))) e t))))))))
 
-  pub node_passes : (i : ℕ) → i ≡ a + 1 → ((u : ℕ) → u < i → (v : ℕ) → v < b + 1 → T (cell es d u v)) → Fault es (joins c a b p q o) ((a + 1) * (b + 1) - 1)
+  node_size : length (joins d.ceiling.c a b p q o) ≡ (a + 1) * (b + 1) - 1
+  node_size = count_joins d.ceiling.c p q o a b ∙ rw (add-one, add-one)
+
+  pub node_fails : (i j : ℕ) → ((u : ℕ) → u < i → (v : ℕ) → v < b + 1 → T (cell es d u v)) → FirstFault (b + 1) (cell es d i) j → j < b + 1
+      → i < a + 1 → Fails es (joins d.ceiling.c a b p q o) (i * (b + 1) + j - 1)
+  node_fails i j rows f l h =
+      record {
+        first = node_stops i j rows f l h;
+        within = omega (arith, node_size, place_some i j rows f l, place_lt (a + 1) (b + 1) i j h l);
+      }
+
+  pub node_passes : (i : ℕ) → i ≡ a + 1 → ((u : ℕ) → u < i → (v : ℕ) → v < b + 1 → T (cell es d u v)) → Passes es (joins d.ceiling.c a b p q o) ((a + 1) * (b + 1) - 1)
   node_passes i e rows =
       let x : (a + 1) * (b + 1) ≡ suc a * suc b = rw (add-one, add-one) in
-      rw (joins_flat c p q o a b, x)
-      (singles es (suc a * suc b - 1) _ (suc a * suc b - 1) (fault_none {r = suc a * suc b - 1} refl (λ n l.
-      let (h, (u, v)) = cell_at (suc a) (suc b) (suc n) (omega arith) in
-      sat_at n (rows (suc n / suc b) (omega arith) (suc n % suc b) (omega arith)))))
-
-  pub node_size : length (joins c a b p q o) ≡ (a + 1) * (b + 1) - 1
-  node_size = count_joins c p q o a b ∙ rw (add-one, add-one)
+      record {
+        all =
+            rw (joins_flat d.ceiling.c p q o a b, x)
+            (singles es (suc a * suc b - 1) _ (suc a * suc b - 1) (fault_none {r = suc a * suc b - 1} refl (λ n l.
+            let (h, (u, v)) = cell_at (suc a) (suc b) (suc n) (omega arith) in
+            sat_at n (rows (suc n / suc b) (omega arith) (suc n % suc b) (omega arith)))));
+        count = node_size;
+      }

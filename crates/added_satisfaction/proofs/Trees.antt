@@ -1,5 +1,5 @@
 -- The search through joined lists, and through the tree by the length of its list.
-use mathlib.Core.Path.{◌≡◌, refl, sym}
+use mathlib.Core.Path.{◌≡◌, refl}
 use mathlib.Core.Logic.{by_cases}
 use mathlib.Core.List.{List, [], ◌++◌}
 use Prim.Native.Nat.{ℕ, ◌+◌, ◌-◌, ◌/◌, ◌≤◌, ◌<◌, min}
@@ -13,60 +13,46 @@ use Rattle.satisfaction.specs.Rows.{Fault}
 use Rattle.satisfaction.proofs.Laws.{fault_all, fault_passed, fault_left, fault_right}
 use Rattle.counting.specs.Over.{variables_over, clauses_over, before_outputs, own_clauses}
 use Rattle.counting.proofs.Laws.{one_clauses, two_clauses}
-use Rattle.added_satisfaction.specs.Search.{Finds}
+use Rattle.added_satisfaction.specs.Search.{Passes, Fails}
 
 module _ (es : List ℤ) where
-  pub fault_most : (L : List Clause) (n r : ℕ) → length L ≡ n → Fault es L r → r ≤ n
-  unfolding Fault
-  fault_most L n r e f = omega (arith, f.within)
+  pub passes_none : Passes es [] 0
+  passes_none = record { all = fault_all es [] tt; count = refl }
 
-  -- all were asked
-  pub finds_part : (L : List Clause) (n r : ℕ) → length L ≡ n → Fault es L r → Finds es L n r
-  finds_part L n r e f = record { first = f; within = fault_most L n r e f; some = omega arith; all = λ h. sym e }
+  -- two lists that both pass; one that fails, first or second
+  module _ (K M : List Clause) where
+    pub fails_left : {r : ℕ} → Fails es K r → Fails es (K ++ M) r
+    fails_left {r} f = let w = f.within in record { first = fault_left es K M r f.first w; within = omega (arith, length-append K M) }
 
-  -- in the first of two lists, or beyond it
-  pub finds_stop : (K M : List Clause) (n r : ℕ) → Finds es K n r → r < n → Finds es (K ++ M) n r
-  finds_stop K M n r s l =
-      let m = s.some in
-      record {
-        first = fault_left es K M r s.first (omega arith);
-        within = omega arith;
-        some = omega (arith, length-append K M);
-        all = λ h. absurd (let f : ⊥ = omega arith in f);
-      }
+    module _ {n : ℕ} (p : Passes es K n) where
+      both : (r : ℕ) → Fault es M r → Fault es (K ++ M) (n + r)
+      both r f = let e : n ≡ length K = omega (arith, p.count) in rw e (fault_right es K M r (fault_passed es K n p.all (omega arith)) f)
 
-  pub finds_on : (K M : List Clause) (n r o u : ℕ) → Finds es K n r → n ≤ r → Finds es M o u → Finds es (K ++ M) (n + o) (n + u)
-  finds_on K M n r o u s h t =
-      let e : n ≡ length K = s.all h in
-      let a = length-append K M in
-      let m = t.some in
-      let w = t.within in
-      rw e (record {
-        first = fault_right es K M u (fault_passed es K r s.first (omega arith)) t.first;
-        within = omega arith;
-        some = omega arith;
-        all = λ g. let z = t.all (omega arith) in omega arith;
-      })
+      pub passes_on : {r : ℕ} → Passes es M r → Passes es (K ++ M) (n + r)
+      passes_on {r} f = record { all = both r f.all; count = omega (arith, length-append K M, p.count, f.count) }
+
+      pub fails_on : {r : ℕ} → Fails es M r → Fails es (K ++ M) (n + r)
+      fails_on {r} f = record { first = both r f.first; within = omega (arith, length-append K M, p.count, f.within) }
 
 -- ---- the tree over l inputs
 module _ (es : List ℤ) (c l x y : ℕ) where
-  pub tree_none : l < 2 → Finds es (clauses_over c l x y) 0 0
-  tree_none h = rw (one_clauses c l x y h) (finds_part es [] 0 0 refl (fault_all es [] tt))
+  pub tree_none : l < 2 → Passes es (clauses_over c l x y) 0
+  tree_none h = rw (one_clauses c l x y h) (passes_none es)
 
   module _ (h : 2 ≤ l) where
-    pub tree_left : (n r : ℕ) → Finds es (clauses_over c (l / 2) x y) n r → r < n → Finds es (clauses_over c l x y) n r
-    tree_left n r s k = rw (two_clauses c l x y h) (finds_stop es _ _ n r (finds_stop es _ _ n r s k) k)
+    pub tree_left : {r : ℕ} → Fails es (clauses_over c (l / 2) x y) r → Fails es (clauses_over c l x y) r
+    tree_left f = rw (two_clauses c l x y h) (fails_left es _ _ (fails_left es _ _ f))
 
-    module _ (n r u : ℕ) (s : Finds es (clauses_over c (l / 2) x y) n r) (p : n ≤ r) (e : u ≡ y + variables_over c (l / 2)) (o w : ℕ)
-        (t : Finds es (clauses_over c (l - l / 2) (x + l / 2) u) o w) where
-      pub tree_right : w < o → Finds es (clauses_over c l x y) (n + o) (n + w)
-      tree_right k =
-          rw (two_clauses c l x y h, ← e) (finds_stop es _ _ (n + o) (n + w) (finds_on es _ _ n r o w s p t) (omega arith))
+    module _ {n u : ℕ} (s : Passes es (clauses_over c (l / 2) x y) n) (e : u ≡ y + variables_over c (l / 2)) where
+      pub tree_right : {r : ℕ} → Fails es (clauses_over c (l - l / 2) (x + l / 2) u) r → Fails es (clauses_over c l x y) (n + r)
+      tree_right f = rw (two_clauses c l x y h, ← e) (fails_left es _ _ (fails_on es _ _ s f))
 
-      pub tree_own : (v k f : ℕ) → o ≤ w → v ≡ u + variables_over c (l - l / 2) → length (own_clauses c l x u v) ≡ k → Fault es (own_clauses c l x u v) f
-          → Finds es (clauses_over c l x y) (n + o + k) (n + o + f)
-      tree_own v k f q g m z =
-          rw (two_clauses c l x y h, ← e, ← g) (finds_on es _ _ (n + o) (n + w) k f (finds_on es _ _ n r o w s p t) (omega arith) (finds_part es _ k f m z))
+      module _ {o v : ℕ} (t : Passes es (clauses_over c (l - l / 2) (x + l / 2) u) o) (g : v ≡ u + variables_over c (l - l / 2)) where
+        pub tree_fails : {r : ℕ} → Fails es (own_clauses c l x u v) r → Fails es (clauses_over c l x y) (n + o + r)
+        tree_fails f = rw (two_clauses c l x y h, ← e, ← g) (fails_on es _ _ (passes_on es _ _ s t) f)
+
+        pub tree_passes : {k : ℕ} → Passes es (own_clauses c l x u v) k → Passes es (clauses_over c l x y) (n + o + k)
+        tree_passes f = rw (two_clauses c l x y h, ← e, ← g) (passes_on es _ _ (passes_on es _ _ s t) f)
 
 -- a subtree's outputs are within the variables
 pub before_within : (c l x next n : ℕ) → x + l ≤ n → next ≤ n → (2 ≤ l → min l (c + 1) ≤ next) → before_outputs c l x next + min l (c + 1) ≤ n

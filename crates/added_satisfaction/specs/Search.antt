@@ -1,33 +1,45 @@
 -- What the search among the added clauses is given, and what it finds. It stands in the contracts of inner functions.
-use Rattle.std.specs.Prelude.{◌≡◌, List, Bool, ◌||◌, ℕ, ◌+◌, ◌≤◌, min, length, leb, ℤ}
+use Rattle.std.specs.Prelude.{◌≡◌, List, [], ◌∷◌, Bool, ◌||◌, ℕ, ◌+◌, ◌≤◌, ◌<◌, min, length, leb, ℤ, Option, Result, MatchOption, MatchResult}
+use Rattle.answers.specs.Fault.{FirstFault}
 use Rattle.formula.specs.Formula.{Clause}
 use Rattle.valuation.specs.Valuation.{satisfied?}
-use Rattle.valuation.specs.Satisfying.{Valuation}
-use Rattle.satisfaction.specs.Rows.{Fault}
-use Rattle.ceiling.specs.Tree.{join}
+use Rattle.satisfaction.specs.Rows.{Fault, Stop}
+use Rattle.ceiling.specs.Tree.{join, on, off}
 use Rattle.counting.specs.declared.Node.{Node}
 
--- the entries are a valuation of as many variables, and few
-pub record Assigned (entries : List ℤ) : Type 0 where
-  pub valid : Valuation (length entries) entries
-  pub few : length entries ≤ 40000
+-- each of the clauses has a true literal, and they are so many
+pub record Passes (entries : List ℤ) (clauses : List Clause) (size : ℕ) : Type 0 where
+  pub all : Fault entries clauses size
+  pub count : length clauses ≡ size
 
--- of the clauses the first `size` were asked: the first without a true literal stands at `fault`; or they are all, and `fault` is their
--- number
-pub record Finds (entries : List ℤ) (clauses : List Clause) (size fault : ℕ) : Type 0 where
-  pub first : Fault entries clauses fault
-  pub within : fault ≤ size
-  pub some : size ≤ length clauses
-  pub all : size ≤ fault → size ≡ length clauses
+-- one has none, and the first such stands at this place
+pub record Fails (entries : List ℤ) (clauses : List Clause) (place : ℕ) : Type 0 where
+  pub first : Fault entries clauses place
+  pub within : place < length clauses
+
+-- the answer is how many clauses there are, where each has a true literal, else the place of the first without one
+abbrev pub Searched : List ℤ → List Clause → Result ℕ ℕ → Type 0
+Searched entries clauses r = MatchResult r (Passes entries clauses) (Fails entries clauses)
+
+-- of the numbers from `low` on, below n, the first that fails the test
+abbrev pub Stops : (ℕ → Bool) → ℕ → ℕ → Option ℕ → Type 0
+Stops test low n r = MatchOption r (Stop test low n n) (λ j. Stop test low n j × (j < n))
+
+-- of the items below n, the first that fails the test
+abbrev pub FirstOf : ℕ → (ℕ → Bool) → Option ℕ → Type 0
+FirstOf n test r = MatchOption r (FirstFault n test n) (λ j. FirstFault n test j × (j < n))
 
 module _ (entries : List ℤ) where
   -- the clause of i on the left and j on the right has a true literal; there is none where both are 0
   abbrev pub cell : Node → ℕ → ℕ → Bool
-  cell d i j = leb (i + j) 0 || satisfied? entries (join d.c d.p d.q d.o i j)
+  cell d i j = leb (i + j) 0 || satisfied? entries (join d.ceiling.c d.p d.q d.o i j)
+
+  -- the clause of output j on the right and of the node's for i and j has one
+  abbrev pub follows : Node → ℕ → ℕ → Bool
+  follows d i j = satisfied? entries (off (d.q + j) ∷ on (d.o + min (i + j) (d.ceiling.c + 1)) ∷ [])
 
   -- a node's variables have entries
   pub record Within (d : Node) : Type 0 where
-    pub ceiling : d.c ≤ 128
-    pub left : (d.a ≤ d.c + 1) × (d.p + d.a ≤ length entries)
-    pub right : (d.b ≤ d.c + 1) × (d.q + d.b ≤ length entries)
-    pub own : d.o + min (d.a + d.b) (d.c + 1) ≤ length entries
+    pub left : (d.a ≤ d.ceiling.c + 1) × (d.p + d.a ≤ length entries)
+    pub right : (d.b ≤ d.ceiling.c + 1) × (d.q + d.b ≤ length entries)
+    pub own : d.o + min (d.a + d.b) (d.ceiling.c + 1) ≤ length entries

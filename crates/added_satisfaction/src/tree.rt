@@ -1,232 +1,142 @@
 // The counting tree's clauses: by recursion as the tree is, and those of a node at once or row by row.
-ghost use Rattle.std.specs.Prelude.{◌≡◌, true, not, [], ◌∷◌, ℕ, ◌+◌, ◌-◌, ◌*◌, ◌/◌, ◌≤◌, ◌<◌, min, T, length};
-ghost use Rattle.lists.specs.Loop.{every};
-ghost use Rattle.answers.specs.Fault.{FirstFault};
-ghost use Rattle.valuation.specs.Valuation.{true?, satisfied?};
-ghost use Rattle.satisfaction.specs.Rows.{Fault, Stop};
-ghost use Rattle.ceiling.specs.Tree.{on, off};
+ghost use Rattle.std.specs.Prelude.{◌≡◌, true, ℕ, ◌+◌, ◌-◌, ◌/◌, ◌≤◌, ◌<◌, min, T, length, MatchResult};
 ghost use Rattle.counting.specs.Over.{variables_over, clauses_over, node_clauses, own_clauses};
-ghost use Rattle.added_satisfaction.specs.Search.{Assigned, Finds, cell, Within};
+ghost use Rattle.added_satisfaction.specs.Search.{Passes, Fails, Searched, Stops, FirstOf, cell, follows, Within};
 
-use counting::Node;
-use satisfaction::Part;
+use crate::assignment::Assignment;
+use counting::{Node, Subtree};
 
-// Of a tree's clauses: how many were asked, and the place of the first without a true literal, or that number again. Then they are
-// all, and `next` is the tree's last variable.
+// A tree whose clauses have each a true literal: how many they are, and its last variable.
 #[derive(Clone, Copy)]
-pub struct Found {
+pub struct Passed {
     pub size: usize,
-    pub fault: usize,
     pub next: usize,
 }
 
-// Is a variable true?
-pub fn is_true(entries: &[i32], z: usize) -> bool
-    requires assigned { Assigned entries.now }
-    requires le_z { (1 ≤ z) × (z ≤ length entries.now) }
-    ensures { result ≡ true? entries.now (on z) }
-{
-    let i = z - 1;
-    let e = entries[i];
-    0 < e
+// A node, with the entries of its variables.
+#[derive(Clone, Copy)]
+struct Outputs<'a> {
+    of: Assignment<'a>,
+    d: Node,
+    ghost within: { Within of.entries.now d },
 }
 
-// Is variable w true where z is: has the clause of z's negation and w a true literal?
-pub fn implies(entries: &[i32], z: usize, w: usize) -> bool
-    requires assigned { Assigned entries.now }
-    requires le_z { (1 ≤ z) × (z ≤ length entries.now) }
-    requires le_w { (1 ≤ w) × (w ≤ length entries.now) }
-    ensures { result ≡ satisfied? entries.now (off z ∷ on w ∷ []) }
-{
-    !is_true(entries, z) | is_true(entries, w)
-}
-
-// Is each of the n variables after w true where that of the n after z is? The loop has one way out, so that the compiler may take several
-// at once.
-fn all_imply(entries: &[i32], z: usize, w: usize, n: usize) -> bool
-    requires assigned { Assigned entries.now }
-    requires n_in_bounds { (z + n ≤ length entries.now) × (w + n ≤ length entries.now) }
-    ensures { result ≡ every n (λ j. satisfied? entries.now (off (z + (j + 1)) ∷ on (w + (j + 1)) ∷ [])) }
-{
-    let mut all = true;
-    for j in 0..n {
-        all = all & implies(entries, z + (j + 1), w + (j + 1));
-    }
-    all
-}
-
-// Is none of the n variables after z true? A loop of the same form.
-fn none_true(entries: &[i32], z: usize, n: usize) -> bool
-    requires assigned { Assigned entries.now }
-    requires n_in_bounds { z + n ≤ length entries.now }
-    ensures { result ≡ every n (λ j. not (true? entries.now (on (z + (j + 1))))) }
-{
-    let mut none = true;
-    for j in 0..n {
-        none = none & !is_true(entries, z + (j + 1));
-    }
-    none
-}
-
-// Row i of a node from j = 1 on: has each clause a true literal? Up to i + j = c + 1 the outputs stand one after another, beyond it there
-// is that one.
-fn row_holds(entries: &[i32], d: Node, i: usize) -> bool
-    requires assigned { Assigned entries.now }
-    requires within { Within entries.now d × (i ≤ d.a) }
-    ensures { result ≡ true → (j : ℕ) → 1 ≤ j → j < d.b + 1 → T (satisfied? entries.now (off (d.q + j) ∷ on (d.o + min (i + j) (d.c + 1)) ∷ [])) }
-{
-    let most = d.c + 1;
-    let near = counting::smaller(d.b, most - i);
-    if !all_imply(entries, d.q, d.o + i, near) {
-        return false;
-    }
-    if near == d.b {
-        return true;
-    }
-    if is_true(entries, d.o + most) {
-        return true;
-    }
-    none_true(entries, d.q + near, d.b - near)
-}
-
-// Row i of a node from j = 1 on: the first j that is reached on the right, with the node's output for i and j false; or b + 1.
-fn rest_of_row(entries: &[i32], d: Node, i: usize) -> usize
-    requires assigned { Assigned entries.now }
-    requires within { Within entries.now d × (i ≤ d.a) }
-    ensures { Stop (λ j. satisfied? entries.now (off (d.q + j) ∷ on (d.o + min (i + j) (d.c + 1)) ∷ [])) 1 (d.b + 1) result }
-{
-    let end = d.b + 1;
-    if row_holds(entries, d, i) {
-        return end;
-    }
-    let most = d.c + 1;
-    for j in 1..end {
-        if !implies(entries, d.q + j, d.o + counting::smaller(i + j, most)) {
-            return j;
-        }
-    }
-    end
-}
-
-// Row i of a node: the first j whose clause has no true literal, or b + 1. Where output i of the left is false, each has one.
-fn row_fault(entries: &[i32], d: Node, i: usize) -> usize
-    requires assigned { Assigned entries.now }
-    requires within { Within entries.now d × (i ≤ d.a) }
-    ensures { FirstFault (d.b + 1) (cell entries.now d i) result }
-{
-    if i == 0 {
-        return rest_of_row(entries, d, i);
-    }
-    if !is_true(entries, d.p + i) {
-        return d.b + 1;
-    }
-    if !is_true(entries, d.o + i) {
-        return 0;
-    }
-    rest_of_row(entries, d, i)
-}
-
-// The last true variable of the n after z, by its place among them from 1 on; 0 where none is.
-fn last_true(entries: &[i32], z: usize, n: usize) -> usize
-    requires assigned { Assigned entries.now }
-    requires n_in_bounds { z + n ≤ length entries.now }
-    ensures { (result ≤ n) × ((j : ℕ) → result < j → j ≤ n → T (true? entries.now (on (z + j))) → ⊥) }
-{
-    for j in 0..n {
-        let i = n - j;
-        if is_true(entries, z + i) {
-            return i;
-        }
-    }
-    0
-}
-
-// Are a node's outputs true up to the sum of the last on either side? Then each of its clauses has a true literal. So it is wherever
-// each output has its meaning.
-fn sum_reached(entries: &[i32], d: Node) -> bool
-    requires assigned { Assigned entries.now }
-    requires within { Within entries.now d }
-    ensures { result ≡ true → (i j : ℕ) → i ≤ d.a → j ≤ d.b → T (cell entries.now d i j) }
-{
-    let i = last_true(entries, d.p, d.a);
-    let j = last_true(entries, d.q, d.b);
-    let sum = counting::smaller(i + j, d.c + 1);
-    for z in 0..sum {
-        if !is_true(entries, d.o + (z + 1)) {
+impl<'a> Outputs<'a> {
+    // Row i from j = 1 on: has each clause a true literal? Up to i + j = c + 1 the outputs stand one after another, beyond it there is
+    // that one.
+    fn row_holds(self, i: usize) -> bool
+        requires { i ≤ self.d.a }
+        ensures { result ≡ true → (j : ℕ) → 1 ≤ j → j < self.entry.d.b + 1 → T (follows self.entry.of.entries.now self.entry.d i j) }
+    {
+        let most = self.d.ceiling.c + 1;
+        let near = self.d.b.min(most - i);
+        if !self.of.all_imply(self.d.q, self.d.o + i, near) {
             return false;
         }
-    }
-    true
-}
-
-// The clauses of a node.
-fn node_fault(entries: &[i32], d: Node) -> Part
-    requires assigned { Assigned entries.now }
-    requires within { Within entries.now d }
-    ensures d_len { (length (node_clauses d) ≡ result.size) × (result.size ≤ 16899) }
-    ensures fault { Fault entries.now (node_clauses d) result.fault }
-{
-    let rows = d.a + 1;
-    let width = d.b + 1;
-    let size = rows * width - 1;
-    if sum_reached(entries, d) {
-        return Part { size, fault: size };
-    }
-    for i in 0..rows {
-        let j = row_fault(entries, d, i);
-        if j < width {
-            return Part {
-                size,
-                fault: i * width + j - 1,
-            };
+        if near == self.d.b {
+            return true;
         }
+        self.of.is_true(self.d.o + most) || self.of.none_true(self.d.q + near, self.d.b - near)
     }
-    Part { size, fault: size }
+
+    // Row i from j = 1 on: the first j that is reached on the right, with the node's output for i and j false.
+    fn rest_of_row(self, i: usize) -> Option<usize>
+        requires { i ≤ self.d.a }
+        ensures { Stops (follows self.entry.of.entries.now self.entry.d i) 1 (self.entry.d.b + 1) result }
+    {
+        if self.row_holds(i) {
+            return None;
+        }
+        let end = self.d.b + 1;
+        for j in 1..end {
+            if !self
+                .of
+                .implies(self.d.q + j, self.d.o + self.d.ceiling.outputs(i + j))
+            {
+                return Some(j);
+            }
+        }
+        None
+    }
+
+    // Row i: the first j whose clause has no true literal. Where output i of the left is false, each has one.
+    fn row_fault(self, i: usize) -> Option<usize>
+        requires { i ≤ self.d.a }
+        ensures { FirstOf (self.entry.d.b + 1) (cell self.entry.of.entries.now self.entry.d i) result }
+    {
+        if i == 0 {
+            return self.rest_of_row(i);
+        }
+        if !self.of.is_true(self.d.p + i) {
+            return None;
+        }
+        if !self.of.is_true(self.d.o + i) {
+            return Some(0);
+        }
+        self.rest_of_row(i)
+    }
+
+    // Are the node's outputs true up to the sum of the last on either side? Then each of its clauses has a true literal. So it is
+    // wherever each output has its meaning.
+    fn sum_reached(self) -> bool
+        ensures { result ≡ true → (i j : ℕ) → i ≤ self.entry.d.a → j ≤ self.entry.d.b → T (cell self.entry.of.entries.now self.entry.d i j) }
+    {
+        let i = self.of.reached(self.d.p, self.d.a);
+        let j = self.of.reached(self.d.q, self.d.b);
+        self.of.all_true(self.d.o, self.d.ceiling.outputs(i + j))
+    }
+
+    // The clauses of the node.
+    fn fault(self) -> Result<usize, usize>
+        ensures { Searched self.entry.of.entries.now (node_clauses self.entry.d) result }
+    {
+        let rows = self.d.a + 1;
+        let width = self.d.b + 1;
+        let size = rows * width - 1;
+        if self.sum_reached() {
+            return Ok(size);
+        }
+        for i in 0..rows {
+            if let Some(j) = self.row_fault(i) {
+                return Err(i * width + j - 1);
+            }
+        }
+        Ok(size)
+    }
 }
 
-// The clauses of the node over l inputs after x, where the left subtree's variables end at u, and the right's at v.
-fn own_fault(entries: &[i32], c: usize, l: usize, x: usize, u: usize, v: usize) -> Part
-    requires assigned { Assigned entries.now }
-    requires c_bound { (c ≤ 128) × (2 ≤ l) × (x + l ≤ length entries.now) × (u ≤ length entries.now) × (v + min l (c + 1) ≤ length entries.now) }
-    requires c_bound_2 { (2 ≤ l / 2 → min (l / 2) (c + 1) ≤ u) × (2 ≤ l - l / 2 → min (l - l / 2) (c + 1) ≤ v) }
-    ensures v_len { (length (own_clauses c l x u v) ≡ result.size) × (result.size ≤ 16899) }
-    ensures fault { Fault entries.now (own_clauses c l x u v) result.fault }
+// The clauses of a tree's topmost node, where the left subtree's variables end at u, and the right's at v.
+fn own_fault(of: Assignment, tree: Subtree, u: usize, v: usize) -> Result<usize, usize>
+    requires bounds { (2 ≤ tree.l) × (tree.x + tree.l ≤ length of.entries.now) × (u ≤ length of.entries.now) × (v + min tree.l (tree.ceiling.c + 1) ≤ length of.entries.now) }
+    requires ends { (2 ≤ tree.l / 2 → min (tree.l / 2) (tree.ceiling.c + 1) ≤ u) × (2 ≤ tree.l - tree.l / 2 → min (tree.l - tree.l / 2) (tree.ceiling.c + 1) ≤ v) }
+    ensures { Searched of.entry.entries.now (own_clauses tree.ceiling.c tree.l tree.x u v) result }
 {
-    node_fault(entries, counting::node_over(c, l, x, u, v))
+    let node = Outputs {
+        of,
+        d: tree.node(u, v),
+    };
+    node.fault()
 }
 
-// The tree over the l variables after x, its own variables after y.
-pub fn tree_fault(entries: &[i32], c: usize, l: usize, x: usize, y: usize) -> Found
-    requires assigned { Assigned entries.now }
-    requires c_bound { (c ≤ 128) × (1 ≤ l) × (l ≤ 512) × (x + l ≤ length entries.now) × (y + variables_over c l ≤ length entries.now) }
-    ensures finds { Finds entries.now (clauses_over c l x y) result.size result.fault × (result.size + 16900 ≤ 16900 * l) }
-    ensures next_value { result.size ≤ result.fault → result.next ≡ y + variables_over c l }
+// A tree, its own variables after y: that it passed, or the place of its first clause without a true literal.
+pub fn tree_fault(of: Assignment, tree: Subtree, y: usize) -> Result<Passed, usize>
+    requires { (tree.x + tree.l ≤ length of.entries.now) × (y + variables_over tree.ceiling.c tree.l ≤ length of.entries.now) }
+    ensures { MatchResult result (λ t. Passes of.entry.entries.now (clauses_over tree.ceiling.c tree.l tree.x y) t.size × (t.next ≡ y + variables_over tree.ceiling.c tree.l)) (Fails of.entry.entries.now (clauses_over tree.ceiling.c tree.l tree.x y)) }
 {
-    if l < 2 {
-        return Found {
-            size: 0,
-            fault: 0,
-            next: y,
-        };
+    if tree.l < 2 {
+        return Ok(Passed { size: 0, next: y });
     }
-    let half = l / 2;
-    let left = tree_fault(entries, c, half, x, y);
-    if left.fault < left.size {
-        return left;
-    }
-    let right = tree_fault(entries, c, l - half, x + half, left.next);
-    let size = left.size + right.size;
-    if right.fault < right.size {
-        return Found {
-            size,
-            fault: left.size + right.fault,
-            next: y,
-        };
-    }
-    let own = own_fault(entries, c, l, x, left.next, right.next);
-    Found {
-        size: size + own.size,
-        fault: size + own.fault,
-        next: right.next + counting::smaller(l, c + 1),
+    let left = tree_fault(of, tree.left(), y)?;
+    let right = match tree_fault(of, tree.right(), left.next) {
+        Ok(t) => t,
+        Err(place) => return Err(left.size + place),
+    };
+    let before = left.size + right.size;
+    match own_fault(of, tree, left.next, right.next) {
+        Ok(size) => Ok(Passed {
+            size: before + size,
+            next: right.next + tree.ceiling.outputs(tree.l),
+        }),
+        Err(place) => Err(before + place),
     }
 }

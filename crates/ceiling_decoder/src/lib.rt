@@ -78,7 +78,10 @@ fn clause_fault(
     if base < count {
         return base;
     }
-    count + added_satisfaction::added_fault(s, c, entries, p)
+    match added_satisfaction::added_fault(s, c, entries, p) {
+        Ok(all) => count + all,
+        Err(place) => count + place,
+    }
 }
 
 // Questions 14, 15, 23 and 24, for a plan slice of the given size. Where they are passed, the plan stands first in `vertices`.

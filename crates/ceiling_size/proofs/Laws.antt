@@ -95,12 +95,24 @@ module _ (s : Sizes) (w : Limits s) where
       (λ o. let p = parts c h o in let x = p.moves in let y = p.waits in let z = p.clauses in omega (arith, (one_of (ltb c (m * k))).1))
       (λ o. omega (arith, (none_added c (omega arith)).1))
 
+-- the counts of the formula, by the sizes that the check has found
+module _ (b : List ℕ) (p : Problem) (w : ProblemOf b p) (c : ℕ) where
+  pub count_held : length (under_ceiling c (instance_of b (checked_of p))).clauses ≡ ceiling_count p.shape.sizes c
+  count_held =
+      ceiling_count_lem (instance_of b (checked_of p)) c (counted_known b (checked_of p) w)
+      ∙ ap (λ (s : Sizes). ceiling_count s c) (sym (sizes_same b (checked_of p) w))
+
+  pub words_held : length (words (under_ceiling c (instance_of b (checked_of p)))) ≡ ceiling_words p.shape.sizes c
+  words_held =
+      ceiling_words_lem (instance_of b (checked_of p)) c (graph b (checked_of p) w) (counted_known b (checked_of p) w)
+      ∙ ap (λ (s : Sizes). ceiling_words s c) (sym (sizes_same b (checked_of p) w))
+
 -- the check: the instance check's refusal e, or with its problem the ceiling is too high, or neither
 module _ (b : List ℕ) (m rule c : ℕ) where
   pub check_refused : (e : Refusal) → refused e ≡ instance_answer b m rule → refused e ≡ ceiling_answer b m rule c
   check_refused e h = check_refuses b m rule c (refused e) h (refusal_numbered e)
 
-  -- the size call, where the check refuses by e, or finds the problem p, whose formula has x words and y clauses
+  -- the size call, where the check refuses by e, or finds the problem p
   pub size_refused_by : (e : Refusal) → refused e ≡ ceiling_answer b m rule c → size_of (Err e) ≡ ceiling_size_answer b m rule c
   unfolding ceiling_size_answer ceiling_answer
   size_refused_by e h =
@@ -108,24 +120,15 @@ module _ (b : List ℕ) (m rule c : ℕ) where
       ∙ size_refuses (ceiling_questions b m rule c) (numbered_ceiling b m rule c) (under_ceiling c (instance b m rule)) (refused e) h (refusal_numbered e)
 
   module _ (p : Problem) (ea : accept 0 ≡ ceiling_answer b m rule c) (ek : checked_of p ≡ instance_checked b m rule) where
-    known : ProblemOf b p
+    pub known : ProblemOf b p
     known = passed b m rule c (accept 0) (checked_of p) ea ek refl
 
-    abbrev J : Instance
-    J = instance_of b (checked_of p)
-
+    -- whose formula has x words and y clauses
     pub size_found : (x y : ℕ) → x ≡ ceiling_words p.shape.sizes c → y ≡ ceiling_count p.shape.sizes c
         → size_of (Ok (record { words = x; clauses = y })) ≡ ceiling_size_answer b m rule c
     unfolding ceiling_size_answer ceiling_answer with_clauses
     size_found x y ex ey =
         let same = sym (horizon b m rule c (accept 0) (checked_of p) ea ek refl) in
-        let s = sizes_same b (checked_of p) known in
         size_accepts (ceiling_questions b m rule c) (numbered_ceiling b m rule c) (under_ceiling c (instance b m rule)) (accept 0) ea refl x y
-        (ap (λ (I : Instance). length (words (under_ceiling c I))) same
-        ∙ ceiling_words_lem J c (graph b (checked_of p) known) (counted_known b (checked_of p) known)
-        ∙ ap (λ (z : Sizes). ceiling_words z c) (sym s)
-        ∙ sym ex)
-        (ap (λ (I : Instance). length (under_ceiling c I).clauses) same
-        ∙ ceiling_count_lem J c (counted_known b (checked_of p) known)
-        ∙ ap (λ (z : Sizes). ceiling_count z c) (sym s)
-        ∙ sym ey)
+        (ap (λ (I : Instance). length (words (under_ceiling c I))) same ∙ words_held b p known c ∙ sym ex)
+        (ap (λ (I : Instance). length (under_ceiling c I).clauses) same ∙ count_held b p known c ∙ sym ey)

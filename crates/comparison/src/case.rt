@@ -1,48 +1,96 @@
-// Reading a case: its head, and the entries that a payload stands for.
-ghost use Rattle.std.specs.Prelude.{◌*◌, ◌≤◌, ◌<◌, length};
+// Reading a case.
+use std::io::Read;
 
+// Which call a case is for.
 #[derive(Clone, Copy)]
-pub struct Head {
-    pub kind: usize,
+pub enum Kind {
+    Writer,
+    Clause,
+    PlanCheck,
+    Decoder,
+    Encoder,
+    Reader,
+    Floor,
+    PrunedWriter,
+    Size,
+    PrunedSize,
+    CeilingSize,
+    CeilingWriter,
+    CeilingDecoder,
+    CeilingEncoder,
+    CeilingReader,
+    Tally,
+}
+
+impl Kind {
+    fn of(byte: u8) -> Option<Kind> {
+        let kind = match byte {
+            1 => Kind::Writer,
+            2 => Kind::Clause,
+            3 => Kind::PlanCheck,
+            4 => Kind::Decoder,
+            5 => Kind::Encoder,
+            6 => Kind::Reader,
+            7 => Kind::Floor,
+            8 => Kind::PrunedWriter,
+            9 => Kind::Size,
+            10 => Kind::PrunedSize,
+            11 => Kind::CeilingSize,
+            12 => Kind::CeilingWriter,
+            13 => Kind::CeilingDecoder,
+            14 => Kind::CeilingEncoder,
+            15 => Kind::CeilingReader,
+            16 => Kind::Tally,
+            _ => return None,
+        };
+        Some(kind)
+    }
+}
+
+// A case. It has no kind where no call has that number.
+#[derive(Clone, Copy)]
+pub struct Case<'a> {
+    pub kind: Option<Kind>,
     pub m: usize,
     pub rule: usize,
     pub number: usize,
-    pub instance: usize,
-    pub payload: usize,
     pub lent: usize,
+    pub instance: &'a [u8],
+    pub payload: &'a [u8],
 }
 
-pub fn head_of(s: &[u8]) -> Head
-    requires { 35 ≤ length s.now }
-    ensures { (result.instance < 65536) × (result.payload < 4294967296) }
-{
-    Head {
-        kind: numbers::wide(s[0]),
-        m: numbers::eight_bytes(s, 1),
-        rule: numbers::eight_bytes(s, 9),
-        number: numbers::eight_bytes(s, 17),
-        instance: numbers::two_bytes(s, 25),
-        payload: numbers::four_bytes(s, 27),
-        lent: numbers::four_bytes(s, 31),
+impl<'a> Case<'a> {
+    // Reads a case, its instance and payload into the space for them. None where the input ends before, a read fails or the space
+    // is too small.
+    pub fn read<R: Read>(reader: &mut R, space: &'a mut [u8]) -> Option<Case<'a>> {
+        let mut head = [0u8; 35];
+        reader.read_exact(&mut head).ok()?;
+        let middle = numbers::two_bytes(&head, 25);
+        let end = middle + numbers::four_bytes(&head, 27);
+        if space.len() < end {
+            return None;
+        }
+        reader.read_exact(&mut space[..end]).ok()?;
+        Some(Case {
+            kind: Kind::of(head[0]),
+            m: numbers::eight_bytes(&head, 1),
+            rule: numbers::eight_bytes(&head, 9),
+            number: numbers::eight_bytes(&head, 17),
+            lent: numbers::four_bytes(&head, 31),
+            instance: &space[..middle],
+            payload: &space[middle..end],
+        })
     }
 }
 
-// A number of four bytes as a signed one.
-fn signed(x: usize) -> i32
-    requires { x < 4294967296 }
-{
-    if x < 2147483648 {
-        return x as i32;
+// The entries of four bytes that the bytes of `s` stand for. None where the space has not so many.
+pub fn read_entries<'a>(s: &[u8], space: &'a mut [i32]) -> Option<&'a [i32]> {
+    let (entries, _) = s.as_chunks();
+    if space.len() < entries.len() {
+        return None;
     }
-    let y = (4294967295 - x) as i32;
-    -1 - y
-}
-
-// The entries that the bytes of `s` stand for.
-pub fn read_entries(s: &[u8], z: &mut [i32])
-    requires { 4 * length z.old ≤ length s.now }
-{
-    for i in 0..z.len() {
-        z[i] = signed(numbers::four_bytes(s, 4 * i));
+    for (x, bytes) in space.iter_mut().zip(entries) {
+        *x = i32::from_le_bytes(*bytes);
     }
+    Some(&space[..entries.len()])
 }

@@ -1,49 +1,52 @@
 // What a lent slice holds before a call, and a hash of what it holds after one.
-ghost use Rattle.std.specs.Prelude.{◌<◌};
+use crate::outcome::Outcome;
+use answers::Refusal;
 
-// What element i of a lent slice holds before a call.
-fn before(i: usize) -> u8 {
-    (7 * (i % 32) + 3) as u8
+// An element of a lent slice: a byte or a word.
+pub trait Element: From<u8> + Copy {
+    // What goes into the hash: no negative number.
+    fn hashed(self) -> u32;
 }
 
-pub fn fill_bytes(z: &mut [u8]) {
-    for i in 0..z.len() {
-        z[i] = before(i);
+impl Element for u8 {
+    fn hashed(self) -> u32 {
+        u32::from(self)
     }
 }
 
-pub fn fill_words(z: &mut [i32]) {
-    for i in 0..z.len() {
-        z[i] = before(i) as i32;
+impl Element for i32 {
+    fn hashed(self) -> u32 {
+        self.cast_unsigned().wrapping_add(2147483648)
     }
 }
 
-// A word and 2147483648, which is no negative number.
-fn raised(x: i32) -> usize
-    ensures { result < 4294967296 }
+fn fill<T: Element>(z: &mut [T]) {
+    for (i, x) in z.iter_mut().enumerate() {
+        *x = T::from((7 * (i % 32) + 3) as u8);
+    }
+}
+
+pub fn mixed(h: u32, y: u32) -> u32 {
+    ((u64::from(h) * 131 + u64::from(y)) % 2147483647) as u32
+}
+
+fn hash<T: Element>(z: &[T]) -> u32 {
+    z.iter().fold(1, |h, x| mixed(h, x.hashed()))
+}
+
+// What comes of a call that is lent the first `len` elements of the space. None where it has not so many.
+pub fn lending<T: Element, F: FnOnce(&mut [T]) -> Result<usize, Refusal>>(
+    space: &mut [T],
+    len: usize,
+    call: F,
+) -> Option<Outcome>
+    requires { F.IsAlwaysCallable call }
 {
-    (x as i64 + 2147483648) as usize
-}
-
-pub fn mixed(h: usize, y: usize) -> usize
-    requires { (h < 2147483647) × (y < 4294967296) }
-    ensures { result < 2147483647 }
-{
-    (h * 131 + y) % 2147483647
-}
-
-pub fn hash_bytes(z: &[u8]) -> usize {
-    let mut h: usize = 1;
-    for i in 0..z.len() {
-        h = mixed(h, numbers::wide(z[i]));
+    if space.len() < len {
+        return None;
     }
-    h
-}
-
-pub fn hash_words(z: &[i32]) -> usize {
-    let mut h: usize = 1;
-    for i in 0..z.len() {
-        h = mixed(h, raised(z[i]));
-    }
-    h
+    let z = &mut space[..len];
+    fill(z);
+    let result = call(z);
+    Some(Outcome::new(result, hash(z)))
 }

@@ -8,121 +8,37 @@
 // array here, or there is no record.
 #![tactic(auto)]
 
+mod call;
 mod case;
-mod ceilings;
 mod lent;
 mod outcome;
-mod plans;
 mod tallies;
-mod words;
 
-ghost use Rattle.std.specs.Prelude.{◌≡◌, ◌≤◌, ◌<◌, length};
+ghost use Rattle.std.specs.Prelude.{◌≡◌, length};
 
-use case::Head;
-use outcome::{Outcome, sized, skipped};
+use case::Case;
+use std::io;
 
-// One case: `b` is the instance, `s` the payload; `words` and `plan` hold the slices that are lent, of at most 40,000 entries.
-fn run_case(h: Head, b: &[u8], s: &[u8], words: &mut [i32], plan: &mut [u8]) -> Outcome
-    requires { 40000 ≤ length words.old }
-{
-    let kind = h.kind;
-    match kind {
-        1 => words::write_formula(h, b, words),
-        2 => words::clause(h, b, words),
-        3 => plans::check_plan(h, b, s),
-        4 => plans::decode(h, b, s, &mut words[0..40000], plan),
-        5 => plans::encode(h, b, s, &mut words[0..40000]),
-        6 => plans::read_valuation(h, b, s, &mut words[0..40000]),
-        7 => plans::floor(b),
-        8 => words::write_pruned(h, b, words),
-        9 => sized(formula_size::formula_size(b, h.m, h.rule)),
-        10 => sized(formula_size::pruned_size(b, h.m, h.rule)),
-        11 => sized(ceiling_size::ceiling_size(b, h.m, h.rule, h.number)),
-        12 => ceilings::write_ceiling(h, b, words),
-        13 => ceilings::decode_ceiling(h, b, s, &mut words[0..40000], plan),
-        14 => ceilings::encode_ceiling(h, b, s, &mut words[0..40000]),
-        15 => ceilings::read_ceiling(h, b, s, &mut words[0..40000]),
-        16 => tallies::tally_plan(h, b, s),
-        _ => skipped(),
-    }
-}
-
-// Reads as many bytes as `s` has; false where the input ends before, or a read fails.
-fn filled(s: &mut [u8]) -> bool {
-    io::read_full(0, s) == s.len()
-}
-
-// Reads a case, its head first, runs it and prints its line; false where there is none.
-fn next_case(input: &mut [u8], words: &mut [i32], plan: &mut [u8]) -> bool
-    requires { (35 ≤ length input.old) × (40000 ≤ length words.old) }
-{
-    if !filled(&mut input[0..35]) {
-        return false;
-    }
-    let h = case::head_of(input);
-    let middle = h.instance;
-    let end = middle + h.payload;
-    if input.len() < end {
-        return false;
-    }
-    if !filled(&mut input[0..end]) {
-        return false;
-    }
-    let r = run_case(h, &input[0..middle], &input[middle..end], words, plan);
-    outcome::print_line(r);
-    true
-}
-
-// The first of at most `left` cases. Answers how many may follow it.
-fn left_after(input: &mut [u8], words: &mut [i32], plan: &mut [u8], left: usize) -> usize
-    requires { (35 ≤ length input.old) × (40000 ≤ length words.old) × (0 < left) }
-    ensures { result < left }
-{
-    if next_case(input, words, plan) {
-        left - 1
-    } else {
-        0
-    }
-}
-
-fn run(input: &mut [u8], words: &mut [i32], plan: &mut [u8])
-    requires { (35 ≤ length input.old) × (40000 ≤ length words.old) }
-{
-    let mut left: usize = 2000000;
-    while 0 < left {
-        left = left_after(input, words, plan, left);
-    }
-}
-
-// So many zeros.
-fn zeros<const N: usize>() -> [u8; N]
+// So many zeros. A long array stands in a function of its own, which says no more than its length.
+fn zeros<T: From<u8> + Copy, const N: usize>() -> [T; N]
     ensures { length result ≡ N }
 {
-    [0; N]
+    [T::from(0); N]
 }
 
-// The arrays stand in functions of their own, which say no more than their lengths.
-fn input_space() -> [u8; 540672]
-    ensures { 540672 ≡ length result }
-{
-    zeros::<540672>()
-}
-
-fn word_space() -> [i32; 65536]
-    ensures { 65536 ≡ length result }
-{
-    [0; 65536]
-}
-
-fn plan_space() -> [u8; 1024]
-    ensures { 1024 ≡ length result }
-{
-    [0; 1024]
-}
-
-fn main() {
-    let mut input = input_space();
-    let mut words = word_space();
-    let mut plan = plan_space();
-    run(&mut input, &mut words, &mut plan);
+fn main(rt: HostRuntime) -> io::Result<()> {
+    let mut stdin = rt.stdin();
+    let mut input = zeros::<u8, 540672>();
+    let mut words = zeros::<i32, 65536>();
+    let mut plan = zeros::<u8, 1024>();
+    for _ in 0..2_000_000 {
+        let Some(case) = Case::read(&mut stdin, &mut input) else {
+            break;
+        };
+        match call::run(case, &mut words, &mut plan) {
+            Some(outcome) => println!(rt; "{outcome}")?,
+            None => println!(rt; "skip")?,
+        }
+    }
+    Ok(())
 }

@@ -14,7 +14,8 @@ use Rattle.formula.specs.Formula.{line}
 use Rattle.ceiling.specs.Tree.{Tree, input, node, tree_over, inputs, outputs, variables, before, tree_clauses, clauses_in, words_in}
 use Rattle.ceiling.proofs.Tree.{tree_one, tree_two, tree_inputs, variables_most}
 use Rattle.ceiling.proofs.Counts.{clauses_most, count_tree, words_tree}
-use Rattle.counting.specs.Over.{variables_over, clause_count_over, word_count_over, clauses_over, before_outputs, node_over, own_clauses}
+use Rattle.counting.specs.Over.{variables_over, clause_count_over, word_count_over, clauses_over, before_outputs, own_clauses, NodeAdds}
+use Rattle.counting.specs.declared.Counts.{Counts}
 
 module _ (c : ℕ) where
   pub one_clauses : (l x y : ℕ) → l < 2 → clauses_over c l x y ≡ []
@@ -43,7 +44,7 @@ module _ (c : ℕ) where
   pub two_clauses : (l x y : ℕ) → 2 ≤ l
       → clauses_over c l x y ≡ clauses_over c (l / 2) x y ++ clauses_over c (l - l / 2) (x + l / 2) (y + variables_over c (l / 2))
       ++ own_clauses c l x (y + variables_over c (l / 2)) (y + variables_over c (l / 2) + variables_over c (l - l / 2))
-  unfolding clauses_over tree_clauses outputs before node_over variables_over
+  unfolding clauses_over tree_clauses outputs before variables_over
   two_clauses l x y h =
       let left = tree_inputs (l / 2) (omega arith) in
       let right = tree_inputs (l - l / 2) (omega arith) in
@@ -75,21 +76,18 @@ words_most c h (node l r) =
     let q : min (inputs l) (suc c) * min (inputs r) (suc c) ≤ 16641 = mul-le-mul {n₂ = 129} {m₂ = 129} (omega arith) (omega arith) in
     (omega arith, omega arith)
 
--- what the code knows of a list of two or more, with a and b outputs on the left and the right
-pub record Counted (c l a b : ℕ) : Type 0 where
-  pub variables : variables_over c l ≡ variables_over c (l / 2) + variables_over c (l - l / 2) + min l (c + 1)
-  pub clauses : clause_count_over c l ≡ clause_count_over c (l / 2) + clause_count_over c (l - l / 2) + ((a + 1) * (b + 1) - 1)
-  pub words : word_count_over c l ≡ word_count_over c (l / 2) + word_count_over c (l - l / 2) + (3 * (a + b) + 4 * (a * b))
-  pub some : 1 ≤ (a + 1) * (b + 1)
-  pub node : (a + 1) * (b + 1) ≤ 16900
-  pub pairs : a * b ≤ 16641
-  pub variables_fit : variables_over c l ≤ 4608
-  pub clauses_fit : clause_count_over c l ≤ 16900 * l
-  pub words_fit : word_count_over c l ≤ 67338 * l
+-- the products that a node's size is made of
+pub products_most : (a b : ℕ) → a ≤ 129 → b ≤ 129 → (1 ≤ (a + 1) * (b + 1)) × ((a + 1) * (b + 1) ≤ 16900) × (a * b ≤ 16641)
+products_most a b p q = (
+  mul-le-mul {n₁ = 1} {m₁ = 1} (omega arith) (omega arith),
+  mul-le-mul {n₂ = 130} {m₂ = 130} (omega arith) (omega arith),
+  mul-le-mul {n₂ = 129} {m₂ = 129} p q,
+)
 
-pub counted : (c l a b : ℕ) → c ≤ 128 → 2 ≤ l → l ≤ 512 → a ≡ min (l / 2) (c + 1) → b ≡ min (l - l / 2) (c + 1) → Counted c l a b
+pub node_adds : (c l a b : ℕ) (own : Counts) → c ≤ 128 → 2 ≤ l → l ≤ 512 → a ≡ min (l / 2) (c + 1) → b ≡ min (l - l / 2) (c + 1)
+    → own.variables ≡ min l (c + 1) → own.clauses ≡ (a + 1) * (b + 1) - 1 → own.words ≡ 3 * (a + b) + 4 * (a * b) → NodeAdds c l own
 unfolding clause_count_over word_count_over clauses_in words_in outputs variables_over
-counted c l a b h p q ea eb =
+node_adds c l a b own h p q ea eb ev ec ew =
     let left = tree_inputs (l / 2) (omega arith) in
     let right = tree_inputs (l - l / 2) (omega arith) in
     let all = tree_inputs l (omega arith) in
@@ -97,15 +95,12 @@ counted c l a b h p q ea eb =
     let wm = rw all at (words_most c h (tree_over l)).1 in
     let vm = variables_most c 9 l (omega arith) in
     record {
-      variables = two_variables c l p;
-      clauses = rw (tree_two l p, left, right, ea, eb, add-one c, add-one, add-one);
-      words = rw (tree_two l p, left, right, ea, eb, add-one c);
-      some = mul-le-mul {n₁ = 1} {m₁ = 1} (omega arith) (omega arith);
-      node = mul-le-mul {n₂ = 130} {m₂ = 130} (omega arith) (omega arith);
-      pairs = mul-le-mul {n₂ = 129} {m₂ = 129} (omega arith) (omega arith);
-      variables_fit = omega arith;
-      clauses_fit = omega arith;
-      words_fit = omega arith;
+      variables = rw ev (two_variables c l p);
+      clauses = rw (ec, tree_two l p, left, right, ea, eb, add-one c, add-one, add-one);
+      words = rw (ew, tree_two l p, left, right, ea, eb, add-one c);
+      variables_most = omega arith;
+      clauses_most = omega arith;
+      words_most = omega arith;
     }
 
 -- what the callers of the writer need
@@ -116,6 +111,10 @@ tree_fits c l h = let v = variables_most c 9 l (omega arith) in omega arith
 pub clauses_are : (c l x y : ℕ) → length (clauses_over c l x y) ≡ clause_count_over c l
 unfolding clauses_over clause_count_over
 clauses_are c l x y = count_tree c (tree_over l) x y
+
+pub clauses_bound : (c l x y : ℕ) → c ≤ 128 → 1 ≤ l → length (clauses_over c l x y) + 16900 ≤ 16900 * l
+unfolding clause_count_over
+clauses_bound c l x y h o = let all = tree_inputs l o in omega (arith, clauses_are c l x y, rw all at (clauses_most c h (tree_over l)).1)
 
 pub words_are : (c l x y : ℕ) → length (each line (clauses_over c l x y)) ≡ word_count_over c l
 unfolding clauses_over word_count_over

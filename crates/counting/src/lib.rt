@@ -2,21 +2,37 @@
 #![tactic(auto)]
 
 ghost use Rattle.std.specs.Prelude.{◌≡◌, ◌+◌, ◌-◌, ◌/◌, ◌≤◌, min};
-ghost use Rattle.counting.specs.Over.{variables_over, clause_count_over, word_count_over, before_outputs, node_over};
 
 // Variables, clauses and words, as counts.
-#[derive(Clone, Copy)]
+#[derive(Clone, Copy, Default)]
 pub struct Counts {
     pub variables: usize,
     pub clauses: usize,
     pub words: usize,
 }
 
-// A node with the ceiling c, over a left tree of a outputs and a right one of b: output i of the left is the variable p + i, of the
+// A ceiling on the cost.
+#[derive(Clone, Copy)]
+pub struct Ceiling {
+    pub c: usize,
+    pub ghost c_most: { c ≤ 128 },
+}
+
+// A tree with a ceiling: its inputs are the l variables after x.
+#[derive(Clone, Copy)]
+pub struct Subtree {
+    pub ceiling: Ceiling,
+    pub l: usize,
+    pub x: usize,
+    pub ghost l_least: { 1 ≤ l },
+    pub ghost inputs_most: { x + l ≤ 40000 },
+}
+
+// A node with a ceiling, over a left tree of a outputs and a right one of b: output i of the left is the variable p + i, of the
 // right q + i, and of the node o + i.
 #[derive(Clone, Copy)]
 pub struct Node {
-    pub c: usize,
+    pub ceiling: Ceiling,
     pub a: usize,
     pub b: usize,
     pub p: usize,
@@ -24,84 +40,111 @@ pub struct Node {
     pub o: usize,
 }
 
-pub fn smaller(a: usize, b: usize) -> usize
-    ensures { result ≡ min a b }
-{
-    if a < b {
-        return a;
-    }
-    b
-}
+impl Ceiling {
+    ghost use Rattle.counting.specs.Over.{variables_over, clause_count_over, word_count_over, NodeAdds};
 
-// The variable before the outputs of a tree over l inputs after x, whose own variables end at `next`.
-pub fn before_outputs(c: usize, l: usize, x: usize, next: usize) -> usize
-    requires { (c ≤ 128) × (2 ≤ l → min l (c + 1) ≤ next) }
-    ensures { result ≡ before_outputs c l x next }
-{
-    if l < 2 {
-        return x;
+    // How many outputs a node over n inputs has: beyond c + 1 none is counted.
+    pub fn outputs(self, n: usize) -> usize
+        ensures { result ≡ min n (self.c + 1) }
+    {
+        n.min(self.c + 1)
     }
-    next - smaller(l, c + 1)
-}
 
-// The topmost node of a tree over l inputs after x, where the left subtree's variables end at u, and the right's at v.
-pub fn node_over(c: usize, l: usize, x: usize, u: usize, v: usize) -> Node
-    requires c_bound { (c ≤ 128) × (2 ≤ l) × (x + l ≤ 40000) }
-    requires c_bound_2 { (2 ≤ l / 2 → min (l / 2) (c + 1) ≤ u) × (2 ≤ l - l / 2 → min (l - l / 2) (c + 1) ≤ v) }
-    ensures { result ≡ node_over c l x u v }
-{
-    let half = l / 2;
-    let rest = l - half;
-    let p = before_outputs(c, half, x, u);
-    let q = before_outputs(c, rest, x + half, v);
-    let a = smaller(half, c + 1);
-    let b = smaller(rest, c + 1);
-    Node {
-        c,
-        a,
-        b,
-        p,
-        q,
-        o: v,
+    // What the topmost node of a tree over l inputs adds to its two subtrees.
+    fn node_size(self, l: usize) -> Counts
+        requires { (2 ≤ l) × (l ≤ 512) }
+        ensures { NodeAdds self.c l result }
+    {
+        let half = l / 2;
+        let a = self.outputs(half);
+        let b = self.outputs(l - half);
+        Counts {
+            variables: self.outputs(l),
+            clauses: (a + 1) * (b + 1) - 1,
+            words: 3 * (a + b) + 4 * (a * b),
+        }
     }
-}
 
-// The tree over l inputs, from its two subtrees.
-fn joined(c: usize, l: usize, left: Counts, right: Counts) -> Counts
-    requires c_bound { (c ≤ 128) × (2 ≤ l) × (l ≤ 512) }
-    requires variables_value { (left.variables ≡ variables_over c (l / 2)) × (left.clauses ≡ clause_count_over c (l / 2)) × (left.words ≡ word_count_over c (l / 2)) }
-    requires variables_value_2 { (right.variables ≡ variables_over c (l - l / 2)) × (right.clauses ≡ clause_count_over c (l - l / 2)) × (right.words ≡ word_count_over c (l - l / 2)) }
-    ensures { (result.variables ≡ variables_over c l) × (result.clauses ≡ clause_count_over c l) × (result.words ≡ word_count_over c l) }
-{
-    let half = l / 2;
-    let most = c + 1;
-    let a = smaller(half, most);
-    let b = smaller(l - half, most);
-    let own = smaller(l, most);
-    Counts {
-        variables: left.variables + right.variables + own,
-        clauses: left.clauses + right.clauses + ((a + 1) * (b + 1) - 1),
-        words: left.words + right.words + (3 * (a + b) + 4 * (a * b)),
-    }
-}
-
-// The tree over l inputs. Equal halves are asked once.
-pub fn tree_size(c: usize, l: usize) -> Counts
-    requires { (c ≤ 128) × (1 ≤ l) × (l ≤ 512) }
-    ensures { (result.variables ≡ variables_over c l) × (result.clauses ≡ clause_count_over c l) × (result.words ≡ word_count_over c l) }
-{
-    if l < 2 {
-        return Counts {
-            variables: 0,
-            clauses: 0,
-            words: 0,
+    // The tree over l inputs. Equal halves are asked once.
+    pub fn tree_size(self, l: usize) -> Counts
+        requires { (1 ≤ l) × (l ≤ 512) }
+        ensures { (result.variables ≡ variables_over self.c l) × (result.clauses ≡ clause_count_over self.c l) × (result.words ≡ word_count_over self.c l) }
+    {
+        if l < 2 {
+            return Counts::default();
+        }
+        let half = l / 2;
+        let left = self.tree_size(half);
+        let right = if l % 2 == 0 {
+            left
+        } else {
+            self.tree_size(l - half)
         };
+        let own = self.node_size(l);
+        Counts {
+            variables: left.variables + right.variables + own.variables,
+            clauses: left.clauses + right.clauses + own.clauses,
+            words: left.words + right.words + own.words,
+        }
     }
-    let half = l / 2;
-    let left = tree_size(c, half);
-    if l % 2 == 0 {
-        return joined(c, l, left, left);
+}
+
+impl Subtree {
+    ghost use Rattle.counting.specs.Over.{before_outputs, node_over};
+
+    // Of two or more inputs, the left half, rounded down.
+    pub fn left(self) -> Subtree
+        requires { 2 ≤ self.l }
+        ensures { (result.ceiling ≡ self.ceiling) × (result.l ≡ self.l / 2) × (result.x ≡ self.x) }
+    {
+        Subtree {
+            ceiling: self.ceiling,
+            l: self.l / 2,
+            x: self.x,
+        }
     }
-    let right = tree_size(c, l - half);
-    joined(c, l, left, right)
+
+    // And the rest.
+    pub fn right(self) -> Subtree
+        requires { 2 ≤ self.l }
+        ensures { (result.ceiling ≡ self.ceiling) × (result.l ≡ self.l - self.l / 2) × (result.x ≡ self.x + self.l / 2) }
+    {
+        let half = self.l / 2;
+        Subtree {
+            ceiling: self.ceiling,
+            l: self.l - half,
+            x: self.x + half,
+        }
+    }
+
+    #[tactic(auto, unfolding(crate::specs::Over::before_outputs))]
+    // The variable before its outputs, where its own variables end at `next`.
+    pub fn before_outputs(self, next: usize) -> usize
+        requires { 2 ≤ self.l → min self.l (self.ceiling.c + 1) ≤ next }
+        ensures { result ≡ before_outputs self.ceiling.c self.l self.x next }
+    {
+        if self.l < 2 {
+            return self.x;
+        }
+        next - self.ceiling.outputs(self.l)
+    }
+
+    #[tactic(auto, unfolding(crate::specs::Over::node_over))]
+    // Its topmost node, where the left subtree's variables end at u, and the right's at v.
+    pub fn node(self, u: usize, v: usize) -> Node
+        requires two { 2 ≤ self.l }
+        requires ends { (2 ≤ self.l / 2 → min (self.l / 2) (self.ceiling.c + 1) ≤ u) × (2 ≤ self.l - self.l / 2 → min (self.l - self.l / 2) (self.ceiling.c + 1) ≤ v) }
+        ensures { result ≡ node_over self.ceiling self.l self.x u v }
+    {
+        let left = self.left();
+        let right = self.right();
+        Node {
+            ceiling: self.ceiling,
+            a: self.ceiling.outputs(left.l),
+            b: self.ceiling.outputs(right.l),
+            p: left.before_outputs(u),
+            q: right.before_outputs(v),
+            o: v,
+        }
+    }
 }

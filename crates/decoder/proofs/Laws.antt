@@ -2,13 +2,14 @@
 use mathlib.Core.Path.{◌≡◌, sym, ◌∙◌, ap, subst}
 use mathlib.Core.Logic.{◌≢◌}
 use mathlib.Core.List.{List, [], ◌∷◌, ◌++◌}
-use Prim.Native.Nat.{ℕ, suc, ◌-◌, ◌≤◌, ◌<◌}
+use Prim.Native.Nat.{ℕ, suc, ◌≤◌, ◌<◌}
+use native.Mathlib.Nat.{le_refl}
 use native.Mathlib.Omega.{arith}
-use borrow.Rule.Slice.PartMut.{post_of}
-use lib.ListN.{length, take}
+use lib.ListN.{length, take, drop}
 use lib.Seq.{ext_get_or, length-take-le}
 use lib.Dec.{eqb, leb}
 use lib.IntN.{ℤ}
+use Rattle.std.specs.Prelude.{None, Some}
 use Rattle.lists.specs.Slice.{filled}
 use Rattle.lists.proofs.Tests.{and_iff, eqb_iff, leb_iff}
 use Rattle.lists.proofs.Blocks.{place_split}
@@ -31,7 +32,7 @@ use Rattle.valuation.proofs.Entries.{named_places, named_size, named_at}
 use Rattle.calls.specs.Questions.{question14, question15, question23, question24}
 use Rattle.calls.specs.Calls.{decode_rest}
 use Rattle.calls.proofs.Valuation.{numbered_valuation, clear_valuation}
-use Rattle.satisfaction.specs.Rows.{Fault, Read}
+use Rattle.satisfaction.specs.Rows.{Fault, Failing, Read}
 use Rattle.satisfaction.proofs.Families.{place_named}
 
 module _ (I : Instance) (F : Formula) (s : Sizes) (same : s ≡ I.sizes) (es : List ℤ) (size : ℕ) where
@@ -81,18 +82,17 @@ module _ (I : Instance) (F : Formula) (s : Sizes) (same : s ≡ I.sizes) (es : L
           pub stop_23 : i < count → refuse 23 i ≡ asked
           stop_23 h = sym (pass_15 ∙ fault_stop entries_fault (refuse 23) (q24 ∷ []) bytes (omega (arith, en)))
 
-          -- so many clauses
-          module _ (h : count ≤ i) (r total : ℕ) (g : Fault es F.clauses r) (et : total ≡ length F.clauses) where
+          module _ (h : count ≤ i) where
             pass_23 : asked ≡ decide (q24 ∷ []) bytes
             pass_23 = pass_15 ∙ fault_pass entries_fault (refuse 23) (q24 ∷ []) bytes (omega (arith, en))
 
-            pub stop_24 : r < total → refuse 24 r ≡ asked
-            unfolding Fault
-            stop_24 o = sym (pass_23 ∙ fault_stop g (refuse 24) [] bytes (omega (arith, et)))
+            pub stop_24 : (r : ℕ) → Failing es F.clauses (Some r) → refuse 24 r ≡ asked
+            unfolding Fault Failing
+            stop_24 r g = sym (pass_23 ∙ fault_stop g.1 (refuse 24) [] bytes g.0)
 
-            pub pass_24 : total ≤ r → accept (plan_bytes s) ≡ asked
-            unfolding Fault decide
-            pass_24 o = ap accept bytes_same ∙ sym (pass_23 ∙ fault_pass g (refuse 24) [] bytes (omega (arith, et)))
+            pub pass_24 : Failing es F.clauses None → accept (plan_bytes s) ≡ asked
+            unfolding Fault Failing decide
+            pass_24 g = ap accept bytes_same ∙ sym (pass_23 ∙ fault_pass g (refuse 24) [] bytes (le_refl _))
 
   -- what an acceptance says
   pub record Accepts : Type 0 where
@@ -108,22 +108,20 @@ module _ (I : Instance) (F : Formula) (s : Sizes) (same : s ≡ I.sizes) (es : L
       let l : bytes ≤ size = (leb_iff _ _).0 ((ask_nil (leb bytes size) (refuse 15 bytes)).0 ((clear_iff q15).0 o)) in
       record { valid = h.0; satisfies = h.1; fits = subst (λ (z : ℕ). z ≤ size) (sym bytes_same) l }
 
-  -- the accepted answer r holds the plan's bytes: they stand in an array of 528, and the slice has room for them
-  pub room : Limits s → (r : Answer) → r.number ≡ 0 → r ≡ asked → r.second ≡ plan_bytes s → (r.second ≤ 528) × (r.second ≤ size)
-  room w r e o d =
-      let y = accepted (sym (ap (λ (x : Answer). x.number) o) ∙ e) in
+  -- an acceptance of n bytes holds the plan's: they stand in an array of 528, and the slice has room for them
+  pub room : Limits s → (n : ℕ) → accept n ≡ asked → n ≡ plan_bytes s → (n ≤ 528) × (n ≤ size)
+  room w n o d =
+      let y = accepted (sym (ap (λ (x : Answer). x.number) o)) in
       (omega (arith, rows s w), omega (arith, y.fits))
 
 -- ---- the first n of `vertices`, copied to the start of a slice with room for them
 module _ (vertices plan : List ℕ) (n : ℕ) (h : n ≤ length vertices) (l : n ≤ length plan) where
-  pub copy_fits : length (take (n - 0) plan) ≡ length (take (n - 0) vertices)
-  copy_fits = length-take-le (n - 0) plan (omega arith) ∙ sym (length-take-le (n - 0) vertices (omega arith))
+  pub copy_fits : length (take n plan) ≡ length (take n vertices)
+  copy_fits = length-take-le n plan l ∙ sym (length-take-le n vertices h)
 
-  pub copied : {now : List ℕ} → now ≡ take (n - 0) vertices → now ++ post_of 0 (n - 0) plan ≡ filled (take n vertices) plan
+  pub copied : {now : List ℕ} → now ≡ take n vertices → now ++ drop n plan ≡ filled (take n vertices) plan
   unfolding filled
-  copied e =
-      let z : n - 0 ≡ n = omega arith in
-      rw (e, z, length-take-le n vertices h)
+  copied e = rw (e, length-take-le n vertices h)
 
 -- of entries that satisfy the base formula: the plan that the pass has read is the one named, and where the agents are
 module _ (I : Instance) (s : Sizes) (same : s ≡ I.sizes) (es : List ℤ) (h : Sat (true? es) (clauses I)) (p : List ℕ) (rd : Read s es p) where

@@ -8,20 +8,17 @@ use native.Mathlib.Decide.{dec_lt}
 use native.Mathlib.Numerals.{add-one}
 use native.Mathlib.Omega.{arith}
 use borrow.Rule.Slice.PartMut.{put_mid, mid_of, same_len_mid, mid_len, take_put, drop_put}
-use mathlib.Core.Bool.{true, false}
-use borrow.Author.Tests.{ltb-true}
 use lib.Dec.{leb}
-use lib.Signed.{lt_z}
 use lib.IntN.{ℤ, pos, negsuc, neg_ℤ, nat_abs}
-use lib.ListN.{length, get_or, set, take, drop, length-append, length-take, length-drop, drop_of_length-le, take-append-drop, get_or-eq_default}
-use lib.Seq.{drop-cons, drop_at, drop-drop, length-take-le, take-take, take-append_seam, take-append-le, take-append-add, drop-append-le, take-set-le, get_or-take, get_or-set_same, take-suc, take-suc-set, sets}
-use Rattle.lists.specs.Loop.{for, each}
+use lib.ListN.{length, get_or, set, take, drop, length-append, length-take, length-drop, take-append-drop}
+use lib.Seq.{drop_at, drop-drop, length-take-le, take-take, take-append_seam, take-append-le, take-append-add, drop-append-le, take-set-le, get_or-take, get_or-drop, get_or-set_same, take-suc, take-suc-set}
+use Rattle.std.specs.Simd.{first_chunks}
 use Rattle.lists.specs.Slice.{filled, Wrote}
 use Rattle.lists.proofs.Tests.{below_suc, leb_iff}
 use Rattle.lists.proofs.Loops.{all_get_d, each_append}
-use Rattle.lists.proofs.Slices.{part_length, part_get_or, take_filled, filled_length, sets_filled}
+use Rattle.lists.proofs.Slices.{take_filled, filled_length}
 use Rattle.decimals.specs.Decimals.{digit, digits, decimal, signed}
-use Rattle.dimacs.specs.Text.{ended, after, word_text}
+use Rattle.dimacs.specs.Text.{ended, after, word_text, words_text}
 use Rattle.dimacs.specs.Table.{Begins, Entry, entry_at, entry_of, Sized, Numbers, Negatives, Texts, Within, Pairs, pair_text}
 use Rattle.decimals.proofs.Laws.{length_most}
 use Rattle.dimacs.proofs.Laws.{length_word, word_size, end_space, put_more, put_after}
@@ -37,6 +34,11 @@ pub begins_filled : (text e s : List ℕ) (r : ℕ) → Begins text e r → Begi
 unfolding filled
 begins_filled text e s r b = (b.0, take-append-le r e _ (fits text e r b) ∙ b.1)
 
+-- after `s[..8].copy_from_slice(e)`, where e has eight bytes
+pub copied : (e s ys : List ℕ) → length e ≡ 8 → ys ≡ e → ys ++ drop 8 s ≡ filled e s
+unfolding filled
+copied e s ys l h = rw (l, h) refl
+
 -- as one that text was written to
 begins_same : (text s : List ℕ) → take (length text) s ≡ text → s ≡ filled text s
 unfolding filled
@@ -48,15 +50,6 @@ pub begins_part : (f ys text more : List ℕ) (n r : ℕ) → Begins text f n �
 begins_part f ys text more n r b o =
     let h : r ≤ length ys = fits more ys r o in
     (omega (arith, b.0, o.0, length-append text more), rw (b.1, b.0, take-append-add, take-append-le r ys _ h, o.1))
-
--- ---- elements, one by one
-abbrev pub elements : List ℕ → ℕ → ℕ → List ℕ
-elements l i zero = []
-elements l i (suc n) = get_or l i 0 ∷ elements l (suc i) n
-
-pub elements_take : (l : List ℕ) (i n : ℕ) → i + n ≤ length l → elements l i n ≡ take n (drop i l)
-elements_take l i zero h = refl
-elements_take l i (suc n) h = rw (drop-cons l i 0 (omega arith), elements_take l (suc i) n (omega arith))
 
 -- ---- entries
 -- the text of a number was written, and then its length
@@ -85,17 +78,15 @@ module _ (x : ℕ) (more : 10 ≤ x) where
       (e, begins_same d f t)
 
   -- one digit more, a space, and the length
-  pub entry_longer : (e f s : List ℕ) → x < 100000 → 8 ≤ length s → Entry (pos (x / 10)) e → f ≡ filled (take 8 e) s
+  pub entry_longer : (e f s : List ℕ) → x < 100000 → 8 ≤ length s → length e ≡ 8 → Entry (pos (x / 10)) e → f ≡ filled e s
       → Entry (pos x) (take 8 (set (set (set f (get_or e 7 0 - 1) (digit (x % 10))) (get_or e 7 0) 32) 7 (get_or e 7 0 + 1)))
   unfolding Entry
-  entry_longer e f s h k b ef =
+  entry_longer e f s h k l b ef =
       let n = get_or e 7 0 in
       let d = decimal (x / 10) in
-      let m : n ≤ 8 = omega (arith, b.0, length_word 4 (x / 10) (omega arith)) in
-      let b' : Begins (word_text (pos (x / 10))) f n =
-      rw ef (begins_filled (word_text (pos (x / 10))) (take 8 e) s n (b.0, take-take n 8 e m ∙ b.1)) in
+      let b' : Begins (word_text (pos (x / 10))) f n = rw ef (begins_filled (word_text (pos (x / 10))) e s n b) in
       let (en, same) = tenth_digits f n b' in
-      let lf : length f ≡ length s = ap length ef ∙ filled_length (take 8 e) s (omega (arith, length-take 8 e)) in
+      let lf : length f ≡ length s = ap length ef ∙ filled_length e s (omega arith) in
       let lx : length (decimal x) ≤ 5 = length_most 4 x (omega arith) in
       let w : Wrote (decimal x) f (set f (length d) (digit (x % 10))) (length d + 1) = put_more x (length d) f f more refl (omega arith) same in
       let w' = (put_after x 32 (length d + 1) (set f (length d) (digit (x % 10))) f w.0 (omega arith) w.1 (omega arith)).0 in
@@ -110,19 +101,26 @@ unfolding word_text signed
 negative_text zero h = absurd (let z : ⊥ = omega arith in z)
 negative_text (suc y) h = refl
 
-pub entry_negated : (x : ℕ) (e s : List ℕ) → 0 < x → x < 100000 → 8 ≤ length s → Entry (pos x) e
-    → Entry (neg_ℤ (pos x)) (take 8 (sets s 0 (45 ∷ elements e 0 6 ++ (get_or e 7 0 + 1) ∷ [])))
+-- after `s[0] = b'-'` and a copy of ys to `s[1..7]`
+minus : (s ys : List ℕ) → 0 < length s → put_mid 1 6 (set s 0 45) ys ≡ 45 ∷ (ys ++ drop 7 s)
+minus [] ys h = absurd (let z : ⊥ = omega arith in z)
+minus (a ∷ s) ys h = refl
+
+pub entry_negated : (x : ℕ) (e s ys : List ℕ) → 0 < x → x < 100000 → 8 ≤ length s → length e ≡ 8 → Entry (pos x) e → ys ≡ take 6 e
+    → Entry (neg_ℤ (pos x)) (take 8 (set (put_mid 1 6 (set s 0 45) ys) 7 (get_or e 7 0 + 1)))
 unfolding Entry
-entry_negated x e s p h k b =
+entry_negated x e s ys p h k l b ey =
     let n = get_or e 7 0 in
     let text = word_text (pos x) in
-    let out : List ℕ = 45 ∷ elements e 0 6 ++ (n + 1) ∷ [] in
+    let f : List ℕ = 45 ∷ (take 6 e ++ drop 7 s) in
     let m : n ≤ 6 = (entry_length x e h b).1 in
-    let l : 7 < length e = by_cases (dec_lt 7 (length e)) (λ l. l) (λ d. absurd (let z : ⊥ = omega (arith, (entry_length x e h b).0, get_or-eq_default e 0 (let q : length e ≤ 7 = omega arith in q)) in z)) in
-    let o : take 8 (sets s 0 out) ≡ out = ap (take 8) (sets_filled out s k) ∙ take_filled out s in
-    let t : (z : ℕ) → take n (elements e 0 6 ++ z ∷ []) ≡ text =
-    λ z. take-append-le n (elements e 0 6) (z ∷ []) m ∙ ap (take n) (elements_take e 0 6 (omega arith)) ∙ take-take n 6 e m ∙ b.1 in
-    rw (o, negative_text x p, add-one) (ap suc b.0, ap (λ (u : List ℕ). 45 ∷ u) (t _))
+    let six : length (take 6 e) ≡ 6 = length-take-le 6 e (omega arith) in
+    let lf : length f ≡ length s = simp (length-append, six, length-drop) (omega arith) in
+    let g : get_or (take 8 (set f 7 (n + 1))) 7 0 ≡ n + 1 = get_or-take 8 (set f 7 (n + 1)) 7 0 (omega arith) ∙ get_or-set_same f 7 (n + 1) 0 (omega arith) in
+    let t : take n (take 6 e ++ drop 7 s) ≡ text = take-append-le n (take 6 e) (drop 7 s) (omega arith) ∙ take-take n 6 e m ∙ b.1 in
+    let u : take (n + 1) (take 8 (set f 7 (n + 1))) ≡ 45 ∷ text =
+    take-take (n + 1) 8 (set f 7 (n + 1)) (omega arith) ∙ take-set-le (n + 1) f 7 (n + 1) (omega arith) ∙ rw add-one (ap (λ (v : List ℕ). 45 ∷ v) t) in
+    rw (ey, minus s (take 6 e) (omega arith), g, negative_text x p) (rw add-one (ap suc b.0), u)
 
 -- ---- the table: entry i comes back from a call on `&mut f[8 * i..8 * i + 8]` that left ys there; the others stay
 entry_before : (f : List ℕ) (i j : ℕ) → 8 * i ≤ length f → j < i → entry_at (take (8 * i) f) j ≡ entry_at f j
@@ -201,17 +199,8 @@ texts_whole top f sized numbers negatives = record { sized = sized; entries = en
     entries (pos x) h = numbers x (omega arith)
     entries (negsuc x) h = negatives (suc x) (omega arith) (omega arith)
 
--- the number of a word's entry, as the code works it out
+-- a word's entry
 module _ (top : ℕ) where
-  pub entry_negative : (w : ℤ) (x : ℕ) → lt_z w (pos 0) ≡ true → x ≡ nat_abs w → top - x ≡ entry_of top w
-  entry_negative (pos zero) x h e = let z : ◌≡◌ {A = ℕ} 0 1 = cc in absurd (let f : ⊥ = omega arith in f)
-  entry_negative (pos (suc n)) x h e = absurd (let q = ltb-true (suc n) 0 h in let f : ⊥ = omega arith in f)
-  entry_negative (negsuc n) x h e = ap (λ (y : ℕ). top - y) e
-
-  pub entry_positive : (w : ℤ) (x : ℕ) → lt_z w (pos 0) ≡ false → x ≡ nat_abs w → top + x ≡ entry_of top w
-  entry_positive (pos n) x h e = ap (λ (y : ℕ). top + y) e
-  entry_positive (negsuc n) x h e = let z : ◌≡◌ {A = ℕ} 0 1 = cc in absurd (let f : ⊥ = omega arith in f)
-
   -- it stands in the table
   pub entry_inside : (texts : List ℕ) (w : ℤ) → Texts top texts → nat_abs w ≤ top → 8 * entry_of top w + 8 ≤ length texts
   entry_inside texts (pos x) t h = omega (arith, t.sized.1)
@@ -222,30 +211,28 @@ module _ (top : ℕ) where
   unfolding Within
   within_at words i w h = (leb_iff _ top).0 ((all_get_d (pos 0) (λ w. leb (nat_abs w) top) words).0 w i h)
 
--- an entry, copied to an array of eight bytes, and to the start of a slice
-module _ (texts : List ℕ) (i : ℕ) (room : 8 * i + 8 ≤ length texts) where
-  entry_part : take 8 (take (length texts - 8 * i) (drop (8 * i) texts)) ≡ entry_at texts i
-  unfolding entry_at
-  entry_part = take-take 8 (length texts - 8 * i) (drop (8 * i) texts) (omega arith)
+-- an entry is a chunk of eight bytes
+pub entry_chunk : (k i : ℕ) (texts : List ℕ) → i < k → get_or (first_chunks 8 k texts) i [] ≡ entry_at texts i
+unfolding entry_at
+entry_chunk zero i texts h = absurd (let z : ⊥ = omega arith in z)
+entry_chunk (suc k) zero texts h = refl
+entry_chunk (suc k) (suc i) texts h =
+    let e : 8 * i + 8 ≡ 8 * suc i = omega arith in
+    entry_chunk k i (drop 8 texts) (omega arith) ∙ ap (take 8) (drop-drop (8 * i) 8 texts ∙ ap (λ (n : ℕ). drop n texts) (omega arith))
 
-  pub entry_array : (f s : List ℕ) → length s ≡ 8 → f ≡ filled (take 8 (take (length texts - 8 * i) (drop (8 * i) texts))) s → f ≡ entry_at texts i
-  unfolding filled entry_at
-  entry_array f s e ef =
-      let n : length (take 8 (drop (8 * i) texts)) ≡ 8 = part_length texts (8 * i) 8 room in
-      let z : drop 8 s ≡ [] = drop_of_length-le s (let k : length s ≤ 8 = omega arith in k) in
-      ef ∙ rw (entry_part, n, z, append-nil)
-
-  pub entry_copied : (w : ℤ) (f s : List ℕ) → Entry w (entry_at texts i) → f ≡ filled (take 8 (take (length texts - 8 * i) (drop (8 * i) texts))) s
-      → Begins (word_text w) f (get_or texts (8 * i + 7) 0) × (get_or texts (8 * i + 7) 0 ≤ 8)
-  unfolding Entry entry_at
-  entry_copied w f s b ef =
-      let g : get_or (take 8 (drop (8 * i) texts)) 7 0 ≡ get_or texts (8 * i + 7) 0 = part_get_or texts (8 * i) 8 7 0 (omega arith) in
-      rw (ef, entry_part, ← g) (
-        begins_filled (word_text w) (take 8 (drop (8 * i) texts)) s _ b,
-        omega (arith, fits (word_text w) (take 8 (drop (8 * i) texts)) _ b, length-take 8 (drop (8 * i) texts)),
-      )
+-- an entry, copied to the start of a slice
+pub entry_copied : (w : ℤ) (e f s : List ℕ) → length e ≡ 8 → Entry w e → f ≡ filled e s → Begins (word_text w) f (get_or e 7 0) × (get_or e 7 0 ≤ 8)
+unfolding Entry
+entry_copied w e f s l b ef = rw ef (begins_filled (word_text w) e s _ b, omega (arith, fits (word_text w) e _ b))
 
 -- ---- clauses of two literals
+-- word j of chunk i, where the words are taken by threes
+pub chunk_word : (k i j : ℕ) (words : List ℤ) → i < k → j < 3 → get_or (get_or (first_chunks 3 k words) i []) j (pos 0) ≡ get_or words (3 * i + j) (pos 0)
+chunk_word zero i j words h l = absurd (let z : ⊥ = omega arith in z)
+chunk_word (suc k) zero j words h l = get_or-take 3 words j (pos 0) l ∙ ap (λ (n : ℕ). get_or words n (pos 0)) (omega arith)
+chunk_word (suc k) (suc i) j words h l =
+    chunk_word k i j (drop 3 words) (omega arith) l ∙ get_or-drop 3 words (3 * i + j) (pos 0) ∙ ap (λ (n : ℕ). get_or words n (pos 0)) (omega arith)
+
 -- one byte behind a text
 pub begins_set : (text f : List ℕ) (n b : ℕ) → Begins text f n → n < length f → Begins (text ++ b ∷ []) (set f n b) (n + 1)
 begins_set text f n b o h = (rw (length-append, o.0), rw add-one (take-suc-set f n b h ∙ ap (λ (t : List ℕ). t ++ b ∷ []) o.1))
@@ -267,11 +254,15 @@ module _ (words : List ℤ) where
   unfolding word_text signed decimal digits
   zero_text = refl
 
-  pub pairs_text : Pairs words → (i : ℕ) → i ≤ length words / 3 → for i pair_at ≡ each word_text (take (3 * i) words)
-  pairs_text p zero h = refl
-  pairs_text p (suc i) h =
-      let e : 3 * suc i ≡ 3 * i + 1 + 1 + 1 = omega arith in
+  -- one word more, and one clause more
+  pub words_more : (i : ℕ) → i < length words → words_text (take (i + 1) words) ≡ words_text (take i words) ++ word_text (word i)
+  unfolding words_text
+  words_more i h = rw (take_one i h) (simp (each_append, append-nil))
+
+  pub pairs_more : Pairs words → (i : ℕ) → i < length words / 3 → words_text (take (3 * (i + 1)) words) ≡ words_text (take (3 * i) words) ++ pair_at i
+  pairs_more p i h =
+      let e : 3 * (i + 1) ≡ 3 * i + 1 + 1 + 1 = omega arith in
       let two : 3 * i + 1 + 1 ≡ 3 * i + 2 = omega arith in
       let last : word (3 * i + 1 + 1) ≡ pos 0 = rw two (p.ends i h) in
-      rw (e, take_one (3 * i + 1 + 1) (omega (arith, p.whole)), take_one (3 * i + 1) (omega (arith, p.whole)), take_one (3 * i) (omega (arith, p.whole)), last)
-      (simp (each_append, append-nil, zero_text) (ap (λ (t : List ℕ). t ++ pair_at i) (pairs_text p i (omega arith)) ∙ simp append_assoc))
+      rw (e, words_more (3 * i + 1 + 1) (omega (arith, p.whole)), words_more (3 * i + 1) (omega (arith, p.whole)), words_more (3 * i) (omega (arith, p.whole)), last, zero_text)
+      (simp append_assoc)

@@ -1,5 +1,6 @@
 -- A table of texts, from which the text of a word is copied: eight bytes for each word from -top to top, in rising order.
 use Rattle.std.specs.Prelude.{◌≡◌, List, [], ◌∷◌, ◌++◌, ℕ, suc, ◌+◌, ◌*◌, ◌-◌, ◌/◌, ◌≤◌, ◌<◌, T, leb, ℤ, pos, negsuc, neg_ℤ, nat_abs, length, get_or, take, drop}
+use Rattle.std.proofs.Props.{props}
 use Rattle.lists.specs.Loop.{all}
 use Rattle.dimacs.specs.Text.{word_text}
 
@@ -10,6 +11,10 @@ Begins text s r = (r ≡ length text) × (take r s ≡ text)
 -- the eight bytes of the word w: first its text, in the last one its length
 unfoldable pub Entry : ℤ → List ℕ → Type 0
 Entry w bytes = Begins (word_text w) bytes (get_or bytes 7 0)
+
+pub Entry-prop : (w : ℤ) (bytes : List ℕ) → IsProp (Entry w bytes)
+unfolding Entry
+Entry-prop w bytes = hlevel props
 
 -- entry i of a table
 unfoldable pub entry_at : List ℕ → ℕ → List ℕ
@@ -37,6 +42,9 @@ module _ (top : ℕ) where
   pub record Texts (texts : List ℕ) : Type 0 where
     pub sized : Sized texts
     pub entries : (w : ℤ) → nat_abs w ≤ top → Entry w (entry_at texts (entry_of top w))
+
+  pub Texts-prop : (texts : List ℕ) → IsProp (Texts texts)
+  Texts-prop texts = hlevel (props, Entry-prop)
 
   -- words that it has
   unfoldable pub Within : List ℤ → Type 0

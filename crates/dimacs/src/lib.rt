@@ -5,17 +5,18 @@ ghost use Rattle.std.specs.Prelude.{◌≡◌, ◌++◌, ◌+◌, ◌*◌, ◌/�
 ghost use Rattle.lists.specs.Slice.{filled, Wrote};
 ghost use Rattle.decimals.specs.Decimals.{digit, decimal};
 ghost use Rattle.dimacs.specs.Text.{ended, after, word_text, words_text, header_text, refusal_text};
-ghost use Rattle.dimacs.specs.Table.{Begins, Entry, Sized, Numbers, Negatives, Texts, entry_of, Within, Pairs, pair_text};
+ghost use Rattle.dimacs.specs.Table.{Begins, Entry, Sized, Numbers, Negatives, Texts, Texts-prop, entry_at, entry_of, Within, Pairs, pair_text};
 
 // The byte of a digit.
 fn digit_of(d: usize) -> u8
     requires { d < 10 }
     ensures { result ≡ digit d }
 {
-    48 + d as u8
+    b'0' + d as u8
 }
 
-// The digits of a number: those of a tenth of it, then its last one.
+// The digits of a number: those of a tenth of it, then its last one. (By the library's formatting it is no plainer: that writes to a
+// buffer of its own, and states other words for the digits.)
 fn put_digits(out: &mut [u8], x: usize) -> usize
     requires { length (decimal x) ≤ length out.old }
     ensures { Wrote (decimal x) out.old out.new result }
@@ -66,36 +67,13 @@ fn put_entry(out: &mut [u8], x: usize)
     out[7] = n as u8;
 }
 
-// Eight bytes, all read before the first is written, so that they are copied as one.
-fn copy_eight(out: &mut [u8], from: &[u8])
-    requires { (8 ≤ length out.old) × (8 ≤ length from.now) }
-    ensures { out.new ≡ filled (take 8 from.now) out.old }
-{
-    let a = from[0];
-    let b = from[1];
-    let c = from[2];
-    let d = from[3];
-    let e = from[4];
-    let f = from[5];
-    let g = from[6];
-    let h = from[7];
-    out[0] = a;
-    out[1] = b;
-    out[2] = c;
-    out[3] = d;
-    out[4] = e;
-    out[5] = f;
-    out[6] = g;
-    out[7] = h;
-}
-
 // The entry of x from that of x / 10: one digit more.
 fn put_longer(out: &mut [u8], tenth: &[u8; 8], x: usize)
     requires { Entry (pos (x / 10)) tenth.now × (10 ≤ x) × (x < 100000) × (8 ≤ length out.old) }
     ensures { Entry (pos x) (take 8 out.new) }
 {
-    copy_eight(out, tenth);
-    let n = tenth[7] as usize;
+    out[..8].copy_from_slice(tenth);
+    let n = usize::from(tenth[7]);
     out[n - 1] = digit_of(x % 10);
     out[n] = b' ';
     out[7] = (n + 1) as u8;
@@ -107,14 +85,20 @@ fn put_negated(out: &mut [u8], entry: &[u8; 8], x: usize)
     ensures { Entry (neg_ℤ (pos x)) (take 8 out.new) }
 {
     out[0] = b'-';
-    out[1] = entry[0];
-    out[2] = entry[1];
-    out[3] = entry[2];
-    out[4] = entry[3];
-    out[5] = entry[4];
-    out[6] = entry[5];
+    out[1..7].copy_from_slice(&entry[..6]);
     out[7] = entry[7] + 1;
 }
+
+// Entry i of a table. It is read by value: written from there it is one move of eight bytes, where a copy from slice to slice would first
+// ask whether they overlap.
+fn copied_entry(texts: &[u8], i: usize) -> [u8; 8]
+    requires { 8 * i + 8 ≤ length texts.now }
+    ensures { result ≡ entry_at texts.now i }
+{
+    texts.as_chunks().0[i]
+}
+
+// (These functions take the slice and its top: a struct round the two is no plainer, since each would first take the slice out again.)
 
 // The entry of x, in a table that has those of the numbers below x.
 fn put_positive(texts: &mut [u8], top: usize, x: usize)
@@ -124,9 +108,7 @@ fn put_positive(texts: &mut [u8], top: usize, x: usize)
     let at = 8 * (top + x);
     let to = at + 8;
     if 10 <= x {
-        let from = 8 * (top + x / 10);
-        let mut tenth = [0u8; 8];
-        copy_eight(&mut tenth, &texts[from..]);
+        let tenth = copied_entry(texts, top + x / 10);
         put_longer(&mut texts[at..to], &tenth, x);
         return;
     }
@@ -138,9 +120,7 @@ fn put_negative(texts: &mut [u8], top: usize, x: usize)
     requires { Sized top texts.old × (0 < x) × (x ≤ top) × Numbers top (top + 1) texts.old × Negatives top x texts.old }
     ensures { Numbers top (top + 1) texts.new × Negatives top (x + 1) texts.new }
 {
-    let from = 8 * (top + x);
-    let mut entry = [0u8; 8];
-    copy_eight(&mut entry, &texts[from..]);
+    let entry = copied_entry(texts, top + x);
     let at = 8 * (top - x);
     let to = at + 8;
     put_negated(&mut texts[at..to], &entry, x);
@@ -151,32 +131,20 @@ fn put_numbers(texts: &mut [u8], top: usize)
     requires { Sized top texts.old }
     ensures { Numbers top (top + 1) texts.new }
 {
-    let end = top + 1;
-    for x in 0..end {
+    for x in 0..top + 1 {
         put_positive(texts, top, x);
     }
 }
 
-// The table of the texts of the words from -top to top.
-pub fn put_texts(texts: &mut [u8], top: usize)
+// The texts of the words from -top to top.
+fn put_texts(texts: &mut [u8], top: usize)
     requires { Sized top texts.old }
     ensures { Texts top texts.new }
 {
     put_numbers(texts, top);
-    let end = top + 1;
-    for x in 1..end {
+    for x in 1..top + 1 {
         put_negative(texts, top, x);
     }
-}
-
-// The size of a word, the lowest one's too.
-fn size_of(w: i32) -> usize
-    ensures { (result ≡ nat_abs w) × (result ≤ 2147483648) }
-{
-    if w < 0 {
-        return (-(w as i64)) as usize;
-    }
-    w as usize
 }
 
 // The number of a word's entry.
@@ -184,59 +152,80 @@ fn entry_of(w: i32, top: usize) -> usize
     requires { (top < 100000) × (nat_abs w ≤ top) }
     ensures { result ≡ entry_of top w }
 {
-    let x = size_of(w);
-    if w < 0 {
-        return top - x;
+    (top as i64 + i64::from(w)) as usize
+}
+
+// A table of texts: those of the words from -top to top, eight bytes for each.
+#[derive(Clone, Copy)]
+pub struct WordTexts<'a> {
+    bytes: &'a [u8],
+    pub top: usize,
+    ghost all: { Texts top bytes.now } by { Texts-prop top bytes.now },
+}
+
+impl<'a> WordTexts<'a> {
+    // The table of the words from -top to top, in bytes that are lent for it.
+    pub fn new(bytes: &'a mut [u8], top: usize) -> WordTexts<'a>
+        requires { Sized top bytes.old }
+        ensures { result.top ≡ top }
+    {
+        put_texts(bytes, top);
+        WordTexts { bytes, top }
     }
-    top + x
-}
 
-// The text of a word. Bytes behind it, up to the eighth, are written over; so it is with the functions below.
-fn put_word(out: &mut [u8], texts: &[u8], top: usize, w: i32) -> usize
-    requires { Texts top texts.now × (nat_abs w ≤ top) × (8 ≤ length out.old) }
-    ensures { Begins (word_text w) out.new result × (result ≤ 8) }
-{
-    let at = 8 * entry_of(w, top);
-    copy_eight(out, &texts[at..]);
-    texts[at + 7] as usize
-}
-
-// The words of clauses, a line for each clause.
-pub fn put_words(out: &mut [u8], texts: &[u8], top: usize, words: &[i32]) -> usize
-    requires { Texts top texts.now × Within top words.now × (8 * length words.now ≤ length out.old) }
-    ensures { Begins (words_text words.now) out.new result × (result ≤ 8 * length words.now) }
-{
-    let end = words.len();
-    let mut at: usize = 0;
-    for i in 0..end {
-        at += put_word(&mut out[at..], texts, top, words[i]);
+    // The entry of a word.
+    fn entry(self, w: i32) -> [u8; 8]
+        requires { nat_abs w ≤ self.top }
+        ensures { Entry w result }
+    {
+        copied_entry(self.bytes, entry_of(w, self.top))
     }
-    at
-}
 
-// A clause of two literals.
-fn put_pair(out: &mut [u8], texts: &[u8], top: usize, x: i32, y: i32) -> usize
-    requires { Texts top texts.now × (nat_abs x ≤ top) × (nat_abs y ≤ top) × (24 ≤ length out.old) }
-    ensures { Begins (pair_text x y) out.new result × (result ≤ 24) }
-{
-    let m = put_word(out, texts, top, x);
-    let n = m + put_word(&mut out[m..], texts, top, y);
-    out[n] = b'0';
-    out[n + 1] = b'\n';
-    n + 2
-}
-
-// The words of clauses of two literals each: what `put_words` writes, without a look at each 0.
-pub fn put_pairs(out: &mut [u8], texts: &[u8], top: usize, words: &[i32]) -> usize
-    requires { Texts top texts.now × Within top words.now × Pairs words.now × (8 * length words.now ≤ length out.old) }
-    ensures { Begins (words_text words.now) out.new result × (result ≤ 8 * length words.now) }
-{
-    let end = words.len() / 3;
-    let mut at: usize = 0;
-    for i in 0..end {
-        at += put_pair(&mut out[at..], texts, top, words[3 * i], words[3 * i + 1]);
+    // The text of a word. Bytes behind it, up to the eighth, are written over; so it is with the functions below.
+    fn put_word(self, out: &mut [u8], w: i32) -> usize
+        requires { (nat_abs w ≤ self.top) × (8 ≤ length out.old) }
+        ensures { Begins (word_text w) out.new result × (result ≤ 8) }
+    {
+        let entry = self.entry(w);
+        out[..8].copy_from_slice(&entry);
+        usize::from(entry[7])
     }
-    at
+
+    // The words of clauses, a line for each clause.
+    pub fn put_words(self, out: &mut [u8], words: &[i32]) -> usize
+        requires { Within self.top words.now × (8 * length words.now ≤ length out.old) }
+        ensures { Begins (words_text words.now) out.new result × (result ≤ 8 * length words.now) }
+    {
+        let mut at: usize = 0;
+        for w in words {
+            at += self.put_word(&mut out[at..], *w);
+        }
+        at
+    }
+
+    // A clause of two literals.
+    fn put_pair(self, out: &mut [u8], x: i32, y: i32) -> usize
+        requires { (nat_abs x ≤ self.top) × (nat_abs y ≤ self.top) × (24 ≤ length out.old) }
+        ensures { Begins (pair_text x y) out.new result × (result ≤ 24) }
+    {
+        let m = self.put_word(out, x);
+        let n = m + self.put_word(&mut out[m..], y);
+        out[n] = b'0';
+        out[n + 1] = b'\n';
+        n + 2
+    }
+
+    // The words of clauses of two literals each: what `put_words` writes, without a look at each 0.
+    pub fn put_pairs(self, out: &mut [u8], words: &[i32]) -> usize
+        requires { Within self.top words.now × Pairs words.now × (8 * length words.now ≤ length out.old) }
+        ensures { Begins (words_text words.now) out.new result × (result ≤ 8 * length words.now) }
+    {
+        let mut at: usize = 0;
+        for [x, y, _] in words.as_chunks::<3>().0 {
+            at += self.put_pair(&mut out[at..], *x, *y);
+        }
+        at
+    }
 }
 
 // A line: a label, two numbers with a space between them, and the line's end.
@@ -245,7 +234,7 @@ fn put_line(out: &mut [u8], label: &[u8], x: usize, y: usize) -> usize
     ensures { Wrote (label.now ++ (ended x 32 ++ ended y 10)) out.old out.new result × (result ≤ length label.now + 42) }
 {
     let n = label.len();
-    out[0..n].copy_from_slice(label);
+    out[..n].copy_from_slice(label);
     let to = n + put_ended(&mut out[n..], x, b' ');
     to + put_ended(&mut out[to..], y, b'\n')
 }

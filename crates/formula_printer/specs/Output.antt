@@ -6,6 +6,8 @@ use Rattle.instance.specs.Instance.{instance}
 use Rattle.formula.specs.Formula.{formula}
 use Rattle.dimacs.specs.Text.{formula_text, refusal_text}
 use Rattle.instance.specs.Questions.{instance_answer}
+use Rattle.formula_printer.specs.declared.Status.{Status}
+use Rattle.formula_printer.specs.declared.Status.TheVariants.{Done, Refused, Failed}
 
 -- of an instance and a horizon, under movement rule 1: the formula's text, or the one line of a refusal
 unfoldable pub answer_text : List ℕ → ℕ → List ℕ
@@ -16,6 +18,12 @@ answer_text b m =
 -- The exit status of an instance and a horizon where all of the text was written: 0 for a formula, 1 for a refusal.
 unfoldable pub answer_status : List ℕ → ℕ → ℕ
 answer_status b m = by_number (instance_answer b m 1).number 0 1
+
+-- the number of a status
+abbrev pub status_number : Status → ℕ
+status_number Done = 0
+status_number Refused = 1
+status_number Failed = 2
 
 -- it is answered, or 2 where a write failed
 abbrev pub Ends : ℕ → ℕ → Type 0

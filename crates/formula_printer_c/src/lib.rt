@@ -8,5 +8,5 @@ ghost use Rattle.formula_printer.specs.Output.{Ends, input_status};
 pub extern "C" fn runglaet_formula_of(input: &[u8]) -> u32
     ensures { Ends (input_status input.now) result }
 {
-    formula_printer::print(input)
+    u32::from(formula_printer::print(input))
 }

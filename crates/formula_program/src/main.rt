@@ -2,10 +2,11 @@
 // a read or a write fails, and else with 0; tools/formula_program gives it an exit status for a refusal.
 #![tactic(auto)]
 
+use formula_printer::Status;
 use std::io;
 
 fn main(rt: HostRuntime) -> io::Result<()> {
-    if formula_printer::run(&mut rt.stdin())? == formula_printer::FAILED {
+    if formula_printer::run(&mut rt.stdin())? == Status::Failed {
         return Err(io::Error::other("the output cannot be written"));
     }
     Ok(())

@@ -2,34 +2,44 @@
 // first, and then the instance. Each prints a line: the number, and the place of a refusal.
 #![tactic(auto)]
 
-fn report(b: &[u8], horizon: usize, rule: usize) {
-    let r = instance_check::check_instance(b, horizon, rule);
-    let number = r.answer.number;
-    let second = r.answer.second;
-    io::print_decimal(1, number as u64);
-    io::write_all(1, b" ");
-    io::print_decimal(1, second as u64);
-    io::write_all(1, b"\n");
+ghost use Rattle.std.specs.Prelude.{◌<◌, length, IfSome};
+
+use std::io;
+use std::io::Read;
+
+#[derive(Clone, Copy)]
+struct Case<'a> {
+    horizon: usize,
+    rule: usize,
+    instance: &'a [u8],
 }
 
-fn run(cases: &[u8]) {
-    let mut at: usize = 0;
-    while at + 18 <= cases.len() {
-        let horizon = numbers::eight_bytes(cases, at);
-        let rule = numbers::eight_bytes(cases, at + 8);
-        let len = numbers::two_bytes(cases, at + 16);
-        let from = at + 18;
-        if cases.len() - from < len {
-            return;
+// The first case, and the bytes behind it. None where there is no whole case.
+fn split_case(cases: &[u8]) -> Option<(Case<'_>, &[u8])>
+    ensures { IfSome result (λ p. length p.1.now < length cases.now) }
+{
+    let (horizon, rest) = cases.split_first_chunk()?;
+    let (rule, rest) = rest.split_first_chunk()?;
+    let (len, rest) = rest.split_first_chunk()?;
+    let (instance, rest) = rest.split_at_checked(usize::from(u16::from_le_bytes(*len)))?;
+    let case = Case {
+        horizon: usize::from_le_bytes(*horizon),
+        rule: usize::from_le_bytes(*rule),
+        instance,
+    };
+    Some((case, rest))
+}
+
+fn main(rt: HostRuntime) -> io::Result<()> {
+    let mut input = Vec::new(rt.alloc());
+    rt.stdin().take(65536).read_to_end(&mut input)?;
+    let mut rest = input.as_slice();
+    while let Some((case, behind)) = split_case(rest) {
+        match instance_check::check_instance(case.instance, case.horizon, case.rule) {
+            Ok(_) => println!(rt; "0 0")?,
+            Err(refusal) => println!(rt; "{} {}", refusal.reason.number(), refusal.place)?,
         }
-        let end = from + len;
-        report(&cases[from..end], horizon, rule);
-        at = end;
+        rest = behind;
     }
-}
-
-fn main() {
-    let mut input = [0u8; 65536];
-    let n = io::read_full(0, &mut input);
-    run(&input[0..n]);
+    Ok(())
 }

@@ -15,19 +15,19 @@ pub fn two_bytes(s: &[u8], at: usize) -> usize
     requires { at + 2 ≤ length s.now }
     ensures { (result ≡ two_bytes s.now at) × (result < 65536) }
 {
-    wide(s[at]) + 256 * wide(s[at + 1])
+    usize::from(u16::from_le_bytes(*s[at..].first_chunk().unwrap()))
 }
 
 pub fn four_bytes(s: &[u8], at: usize) -> usize
     requires { at + 4 ≤ length s.now }
     ensures { (result ≡ four_bytes s.now at) × (result < 4294967296) }
 {
-    two_bytes(s, at) + 65536 * two_bytes(s, at + 2)
+    u32::from_le_bytes(*s[at..].first_chunk().unwrap()) as usize
 }
 
 pub fn eight_bytes(s: &[u8], at: usize) -> usize
     requires { at + 8 ≤ length s.now }
     ensures { result ≡ eight_bytes s.now at }
 {
-    four_bytes(s, at) + 4294967296 * four_bytes(s, at + 4)
+    usize::from_le_bytes(*s[at..].first_chunk().unwrap())
 }

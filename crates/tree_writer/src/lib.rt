@@ -9,7 +9,7 @@ ghost use Rattle.formula.specs.Formula.{line};
 ghost use Rattle.counting.specs.Over.{variables_over, clauses_over, node_clauses, own_clauses};
 ghost use Rattle.tree_writer.specs.Rows.{joining, row};
 
-use counting::Node;
+use counting::{Node, Subtree};
 use variables::Variable;
 
 // The words written, and the last variable so far.
@@ -36,34 +36,29 @@ fn put_join(f: &mut [i32], x: i32, y: i32, z: i32, i: usize, j: usize) -> usize
     requires { length (each line (joining x y z i j)) ≤ length f.old }
     ensures { Wrote (each line (joining x y z i j)) f.old f.new result }
 {
-    if i == 0 {
-        if j == 0 {
-            return 0;
-        }
-        return clauses::put_pair(f, y, z);
+    match (i, j) {
+        (0, 0) => 0,
+        (0, _) => clauses::put_pair(f, y, z),
+        (_, 0) => clauses::put_pair(f, x, z),
+        _ => put_three(f, x, y, z),
     }
-    if j == 0 {
-        return clauses::put_pair(f, x, z);
-    }
-    put_three(f, x, y, z)
 }
 
 // A node's clauses of i on the left.
-fn write_row(f: &mut [i32], c: usize, p: usize, q: usize, o: usize, b: usize, i: usize) -> usize
-    requires c_bound { (c ≤ 128) × (p ≤ 40000) × (q ≤ 40000) × (o ≤ 40000) × (b ≤ 129) × (i ≤ 129) }
-    requires i_in_bounds { length (each line (row c p q o b i)) ≤ length f.old }
-    ensures { Wrote (each line (row c p q o b i)) f.old f.new result }
+fn write_row(f: &mut [i32], d: Node, i: usize) -> usize
+    requires bounds { (d.p ≤ 40000) × (d.q ≤ 40000) × (d.o ≤ 40000) × (d.b ≤ 129) × (i ≤ 129) }
+    requires i_in_bounds { length (each line (row d.ceiling.c d.p d.q d.o d.b i)) ≤ length f.old }
+    ensures { Wrote (each line (row d.ceiling.c d.p d.q d.o d.b i)) f.old f.new result }
 {
-    let x = variables::negation_of(Variable(p + i));
-    let most = c + 1;
-    let end = b + 1;
+    let x = variables::negation_of(Variable(d.p + i));
+    let end = d.b + 1;
     let mut at: usize = 0;
     for j in 0..end {
         at += put_join(
             &mut f[at..],
             x,
-            variables::negation_of(Variable(q + j)),
-            variables::literal_of(Variable(o + counting::smaller(i + j, most))),
+            variables::negation_of(Variable(d.q + j)),
+            variables::literal_of(Variable(d.o + d.ceiling.outputs(i + j))),
             i,
             j,
         );
@@ -73,45 +68,44 @@ fn write_row(f: &mut [i32], c: usize, p: usize, q: usize, o: usize, b: usize, i:
 
 // A node's clauses.
 fn write_node(f: &mut [i32], d: Node) -> usize
-    requires c_bound { (d.c ≤ 128) × (d.p ≤ 40000) × (d.q ≤ 40000) × (d.o ≤ 40000) × (d.a ≤ 129) × (d.b ≤ 129) }
+    requires bounds { (d.p ≤ 40000) × (d.q ≤ 40000) × (d.o ≤ 40000) × (d.a ≤ 129) × (d.b ≤ 129) }
     requires d_in_bounds { length (each line (node_clauses d)) ≤ length f.old }
     ensures { Wrote (each line (node_clauses d)) f.old f.new result }
 {
     let end = d.a + 1;
     let mut at: usize = 0;
     for i in 0..end {
-        at += write_row(&mut f[at..], d.c, d.p, d.q, d.o, d.b, i);
+        at += write_row(&mut f[at..], d, i);
     }
     at
 }
 
-// The clauses of the node over l inputs after x, where the left subtree's variables end at u, and the right's at v.
-fn write_own(f: &mut [i32], c: usize, l: usize, x: usize, u: usize, v: usize) -> usize
-    requires c_bound { (c ≤ 128) × (2 ≤ l) × (x + l ≤ 40000) × (u ≤ 40000) × (v ≤ 40000) }
-    requires c_bound_2 { (2 ≤ l / 2 → min (l / 2) (c + 1) ≤ u) × (2 ≤ l - l / 2 → min (l - l / 2) (c + 1) ≤ v) }
-    requires v_in_bounds { length (each line (own_clauses c l x u v)) ≤ length f.old }
-    ensures { Wrote (each line (own_clauses c l x u v)) f.old f.new result }
+// The clauses of a tree's topmost node, where the left subtree's variables end at u, and the right's at v.
+fn write_own(f: &mut [i32], tree: Subtree, u: usize, v: usize) -> usize
+    requires bounds { (2 ≤ tree.l) × (u ≤ 40000) × (v ≤ 40000) }
+    requires ends { (2 ≤ tree.l / 2 → min (tree.l / 2) (tree.ceiling.c + 1) ≤ u) × (2 ≤ tree.l - tree.l / 2 → min (tree.l - tree.l / 2) (tree.ceiling.c + 1) ≤ v) }
+    requires v_in_bounds { length (each line (own_clauses tree.ceiling.c tree.l tree.x u v)) ≤ length f.old }
+    ensures { Wrote (each line (own_clauses tree.ceiling.c tree.l tree.x u v)) f.old f.new result }
 {
-    write_node(f, counting::node_over(c, l, x, u, v))
+    write_node(f, tree.node(u, v))
 }
 
-// The tree over the l variables after x, its own variables after y.
-pub fn write_tree(f: &mut [i32], c: usize, l: usize, x: usize, y: usize) -> Grown
-    requires c_bound { (c ≤ 128) × (1 ≤ l) × (x + l ≤ 40000) × (y + variables_over c l ≤ 40000) }
-    requires y_in_bounds { length (each line (clauses_over c l x y)) ≤ length f.old }
-    ensures { (result.words ≡ length (each line (clauses_over c l x y))) × (result.next ≡ y + variables_over c l) × (f.new ≡ filled (each line (clauses_over c l x y)) f.old) }
+// A tree, its own variables after y.
+pub fn write_tree(f: &mut [i32], tree: Subtree, y: usize) -> Grown
+    requires y_most { y + variables_over tree.ceiling.c tree.l ≤ 40000 }
+    requires y_in_bounds { length (each line (clauses_over tree.ceiling.c tree.l tree.x y)) ≤ length f.old }
+    ensures { (result.words ≡ length (each line (clauses_over tree.ceiling.c tree.l tree.x y))) × (result.next ≡ y + variables_over tree.ceiling.c tree.l) × (f.new ≡ filled (each line (clauses_over tree.ceiling.c tree.l tree.x y)) f.old) }
 {
-    if l < 2 {
+    if tree.l < 2 {
         return Grown { words: 0, next: y };
     }
-    let half = l / 2;
-    let left = write_tree(f, c, half, x, y);
+    let left = write_tree(f, tree.left(), y);
     let middle = left.words;
-    let right = write_tree(&mut f[middle..], c, l - half, x + half, left.next);
+    let right = write_tree(&mut f[middle..], tree.right(), left.next);
     let end = middle + right.words;
-    let own = write_own(&mut f[end..], c, l, x, left.next, right.next);
+    let own = write_own(&mut f[end..], tree, left.next, right.next);
     Grown {
         words: end + own,
-        next: right.next + counting::smaller(l, c + 1),
+        next: right.next + tree.ceiling.outputs(tree.l),
     }
 }

@@ -1,10 +1,10 @@
--- `added_entries::marks_of` meets its contract: one mark a turn. The loop keeps the time and the agent of the next. Assumes nothing.
-use Prim.Native.Nat.{◌-◌}
-use Rattle.added_entries.proofs.Laws.{Turn, Marking}
+-- `added_entries::marks_of` meets its contract: one mark a turn. Assumes nothing.
+use Prim.Native.Nat.{◌+◌, ◌*◌}
+use Rattle.added_entries.proofs.Laws.{Marking}
 use Rattle.added_entries.proofs.marks_of.Given as goal
 
-abbrev pub invariant-loop-i : goal.invariant-loop-i
-invariant-loop-i l = Marking l.rest l.k l.l l.i l.marks × Turn l.k l.i l.t l.a
+abbrev pub invariant-loop-t : goal.invariant-loop-t
+invariant-loop-t l = Marking l.rest l.m l.k (l.t * l.k) l.marks
 
-abbrev pub decreases-loop-i : goal.decreases-loop-i
-decreases-loop-i l = l.l - l.i
+abbrev pub invariant-loop-a : goal.invariant-loop-a
+invariant-loop-a l = Marking l.rest l.m l.k (l.t * l.k + l.a) l.marks

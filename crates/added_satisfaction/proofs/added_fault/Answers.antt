@@ -1,58 +1,57 @@
 -- `added_satisfaction::added_fault` meets its contract: the parts before have a true literal in every clause. Assumes nothing.
-use Prim.Native.Nat.{ℕ, ◌≤◌}
 use native.Mathlib.Omega.{arith}
-use mathlib.Core.List.{List}
-use lib.IntN.{ℤ}
-use Rattle.instance.specs.declared.Sizes.{Sizes}
-use Rattle.satisfaction.specs.Rows.{Fault}
-use Rattle.ceiling.specs.Ceiling.{added_clauses, added_count}
-use Rattle.ceiling.proofs.Counts.{added_count_lem}
-use Rattle.added_satisfaction.proofs.Trees.{fault_most}
-use Rattle.added_satisfaction.proofs.Added.{assigned, room, added_none, in_moves, in_chain, in_counted}
+use borrow.Author.Rules.{rules}
+use Rattle.formula.proofs.Limits.{agent_steps}
+use Rattle.ceiling.specs.Ceiling.{added_clauses}
+use Rattle.added_satisfaction.specs.Search.{Fails}
+use Rattle.added_satisfaction.proofs.Truth.{right_entries}
+use Rattle.added_satisfaction.proofs.Added.{inputs_some, moves_size, moves_most, chain_size, chain_most, counted_most, room, few, added_none, moves_left, chain_left, counted_fails, counted_passes}
 use Rattle.added_satisfaction.proofs.added_fault.Goals as goal
 
--- what is found is within the number of the clauses
-within : (s : Sizes) (c : ℕ) (es : List ℤ) (r : ℕ) → Fault es (added_clauses s c) r → Fault es (added_clauses s c) r × (r ≤ added_count s c)
-within s c es r f = (f, fault_most es _ (added_count s c) r (added_count_lem s c) f)
-
 pub returns-then-s-eq0 : goal.returns-then-s-eq0
-returns-then-s-eq0 c =
-    within c.args.s c.args.c c.args.entries.now 0 (added_none c.args.s c.args.c c.args.entries.now c.if-s-eq0.true)
+returns-then-s-eq0 c = added_none c.args.s.sizes c.args.ceiling.c c.args.entries.now c.if-s-eq0.true
+
+pub invariant_of-of : goal.invariant_of-of
+invariant_of-of c = record { right = right_entries c.args.entries.now c.requires.valuation; few = few c.args.s.sizes c.args.ceiling.c c.args.entries.now c.args.s.limits c.requires.valuation }
 
 -- each added variable has an entry
-pub moves_fault-moves-requires : goal.moves_fault-moves-requires
-moves_fault-moves-requires c =
-    let w = assigned c.args.s c.args.c c.args.entries.now c.requires.limits c.requires.valuation in
-    let e = room c.args.s c.args.c c.args.entries.now c.requires.valuation in
-    record { limits = c.requires.limits; assigned = (w, omega arith); p_len = c.requires.p_len }
+pub moves_fault-requires-clause-entries_len : goal.moves_fault-requires-clause-entries_len
+moves_fault-requires-clause-entries_len c = omega (arith, room c.args.s.sizes c.args.ceiling.c c.args.entries.now c.requires.valuation)
 
-pub returns-then-moves : goal.returns-then-moves
-returns-then-moves c =
-    let mv = c.moves_fault-moves in
-    within c.args.s c.args.c c.args.entries.now _ (in_moves c.args.s c.args.c c.args.entries.now mv.result.size mv.result.fault mv.ensures.s_len.0 mv.ensures.fault c.if-moves.true)
+pub chain_fault-requires-clause-entries_len : goal.chain_fault-requires-clause-entries_len
+chain_fault-requires-clause-entries_len c = omega (arith, room c.args.s.sizes c.args.ceiling.c c.args.entries.now c.requires.valuation)
 
-pub chain_fault-chain-requires : goal.chain_fault-chain-requires
-chain_fault-chain-requires c =
-    let w = assigned c.args.s c.args.c c.args.entries.now c.requires.limits c.requires.valuation in
-    let e = room c.args.s c.args.c c.args.entries.now c.requires.valuation in
-    record { limits = (c.requires.limits, omega arith); assigned = (w, omega arith) }
+pub counted_fault-requires-clause-entries_len : goal.counted_fault-requires-clause-entries_len
+counted_fault-requires-clause-entries_len c = omega (arith, room c.args.s.sizes c.args.ceiling.c c.args.entries.now c.requires.valuation)
 
-pub returns-then-chain : goal.returns-then-chain
-returns-then-chain c =
-    let mv = c.moves_fault-moves in
-    let wt = c.chain_fault-chain in
-    within c.args.s c.args.c c.args.entries.now _ (in_chain c.args.s c.args.c c.args.entries.now mv.result.size mv.result.fault mv.ensures.s_len.0 mv.ensures.fault c.if-moves.false
-    wt.result.size wt.result.fault wt.ensures.s_len.0 wt.ensures.fault c.if-chain.true)
+pub returns-in_err-moves : goal.returns-in_err-moves
+returns-in_err-moves c =
+    let f : Fails c.args.entries.now (added_clauses c.args.s.sizes c.args.ceiling.c) c.in_err-moves.field-0.0 = moves_left c.args.s.sizes c.args.ceiling.c c.args.entries.now c.in_err-moves.ensures in
+    search rules
 
-pub counted_fault-requires : goal.counted_fault-requires
-counted_fault-requires c =
-    let w = assigned c.args.s c.args.c c.args.entries.now c.requires.limits c.requires.valuation in
-    let e = room c.args.s c.args.c c.args.entries.now c.requires.valuation in
-    record { limits = (c.requires.limits, omega (arith, c.if-s-eq0.false), c.requires.c_bound); assigned = (w, omega arith) }
+pub overflow_add-before : goal.overflow_add-before
+overflow_add-before c =
+    omega (arith, c.in_ok-moves.ensures.count, c.in-Ok.ensures.count, moves_size c.args.s.sizes, moves_most c.args.s.sizes c.args.s.limits, chain_size c.args.s.sizes, chain_most c.args.s.sizes c.args.s.limits)
 
-pub returns : goal.returns
-returns c =
-    let mv = c.moves_fault-moves in
-    let wt = c.chain_fault-chain in
-    within c.args.s c.args.c c.args.entries.now _ (in_counted c.args.s c.args.c c.args.entries.now mv.result.size mv.result.fault mv.ensures.s_len.0 mv.ensures.fault c.if-moves.false
-    wt.result.size wt.result.fault wt.ensures.s_len.0 wt.ensures.fault c.if-chain.false c.counted_fault.result c.counted_fault.ensures.0)
+pub overflow_add-result : goal.overflow_add-result
+overflow_add-result c =
+    omega (arith, c.in_ok-moves.ensures.count, c.in-Err.ensures.within, moves_size c.args.s.sizes, moves_most c.args.s.sizes c.args.s.limits, chain_size c.args.s.sizes, chain_most c.args.s.sizes c.args.s.limits)
+
+pub returns-in-Err : goal.returns-in-Err
+returns-in-Err c = chain_left c.args.s.sizes c.args.ceiling.c c.args.entries.now c.in_ok-moves.ensures c.in-Err.ensures
+
+pub overflow_add-result-in-Ok-counted_fault : goal.overflow_add-result-in-Ok-counted_fault
+overflow_add-result-in-Ok-counted_fault c =
+    let some = inputs_some c.args.s.sizes c.args.s.limits (omega (arith, c.if-s-eq0.false)) in
+    omega (arith, c.in_ok-moves.ensures.count, c.in-Ok.ensures.count, c.in-Ok-counted_fault.ensures.count, moves_size c.args.s.sizes, moves_most c.args.s.sizes c.args.s.limits, chain_size c.args.s.sizes, chain_most c.args.s.sizes c.args.s.limits, counted_most c.args.s.sizes c.args.ceiling.c c.args.entries.now c.args.ceiling.c_most some (agent_steps c.args.s.sizes c.args.s.limits))
+
+pub overflow_add-result-in-Err-counted_fault : goal.overflow_add-result-in-Err-counted_fault
+overflow_add-result-in-Err-counted_fault c =
+    let some = inputs_some c.args.s.sizes c.args.s.limits (omega (arith, c.if-s-eq0.false)) in
+    omega (arith, c.in_ok-moves.ensures.count, c.in-Ok.ensures.count, c.in-Err-counted_fault.ensures.within, moves_size c.args.s.sizes, moves_most c.args.s.sizes c.args.s.limits, chain_size c.args.s.sizes, chain_most c.args.s.sizes c.args.s.limits, counted_most c.args.s.sizes c.args.ceiling.c c.args.entries.now c.args.ceiling.c_most some (agent_steps c.args.s.sizes c.args.s.limits))
+
+pub returns-in-Ok-counted_fault : goal.returns-in-Ok-counted_fault
+returns-in-Ok-counted_fault c = counted_passes c.args.s.sizes c.args.ceiling.c c.args.entries.now c.in_ok-moves.ensures c.in-Ok.ensures c.in-Ok-counted_fault.ensures
+
+pub returns-in-Err-counted_fault : goal.returns-in-Err-counted_fault
+returns-in-Err-counted_fault c = counted_fails c.args.s.sizes c.args.ceiling.c c.args.entries.now c.in_ok-moves.ensures c.in-Ok.ensures c.in-Err-counted_fault.ensures

@@ -1,6 +1,6 @@
 -- `added_satisfaction::moves_fault` meets its contract: the agents of the bytes before keep their vertices, or their B are true. Assumes nothing.
 use mathlib.Core.Bool.{◌||◌}
-use Prim.Native.Nat.{ℕ, ◌+◌, ◌-◌, ◌≤◌, ◌<◌}
+use Prim.Native.Nat.{ℕ, ◌+◌, ◌<◌}
 use lib.ListN.{get_or}
 use lib.Dec.{T, eqb}
 use Rattle.valuation.specs.Valuation.{true?}
@@ -9,7 +9,4 @@ use Rattle.added_satisfaction.proofs.moves_fault.Given as goal
 
 abbrev pub invariant-loop-i : goal.invariant-loop-i
 invariant-loop-i l =
-    (l.i ≤ l.count) × ((j : ℕ) → j < l.i → T (eqb (get_or l.p j 0) (get_or l.p (j + l.k) 0) || true? l.entries (on (l.first + j))))
-
-abbrev pub decreases-loop-i : goal.decreases-loop-i
-decreases-loop-i l = l.count - l.i
+    (j : ℕ) → j < l.i → T (eqb (get_or l.p j 0) (get_or l.p (j + l.k) 0) || true? l.of.entries.now (on (l.first + j)))

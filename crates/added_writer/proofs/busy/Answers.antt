@@ -5,27 +5,12 @@ use Rattle.lists.proofs.Blocks.{place_lt}
 use Rattle.formula.proofs.Limits.{agent_steps}
 use Rattle.added_writer.proofs.busy.Goals as goal
 
-pub overflow_mul-result : goal.overflow_mul-result
-overflow_mul-result c =
-    let few : c.args.t.0 * c.args.s.k + c.args.a.0 < 512 = omega (arith, place_lt c.args.s.m c.args.s.k c.args.t.0 c.args.a.0 c.requires.t_lt_m.0 c.requires.t_lt_m.1, agent_steps c.args.s c.requires.limits) in
-    omega (arith, few)
-
-pub overflow_add-result : goal.overflow_add-result
-overflow_add-result c =
-    let few : c.args.t.0 * c.args.s.k + c.args.a.0 < 512 = omega (arith, place_lt c.args.s.m c.args.s.k c.args.t.0 c.args.a.0 c.requires.t_lt_m.0 c.requires.t_lt_m.1, agent_steps c.args.s c.requires.limits) in
-    omega (arith, few, c.variable_count.ensures.1)
-
-pub overflow_add-result-2 : goal.overflow_add-result-2
-overflow_add-result-2 c =
-    let few : c.args.t.0 * c.args.s.k + c.args.a.0 < 512 = omega (arith, place_lt c.args.s.m c.args.s.k c.args.t.0 c.args.a.0 c.requires.t_lt_m.0 c.requires.t_lt_m.1, agent_steps c.args.s c.requires.limits) in
-    omega (arith, few, c.variable_count.ensures.1)
-
 pub overflow_add-result-3 : goal.overflow_add-result-3
 overflow_add-result-3 c =
-    let few : c.args.t.0 * c.args.s.k + c.args.a.0 < 512 = omega (arith, place_lt c.args.s.m c.args.s.k c.args.t.0 c.args.a.0 c.requires.t_lt_m.0 c.requires.t_lt_m.1, agent_steps c.args.s c.requires.limits) in
+    let few : c.args.t.0 * c.args.s.sizes.k + c.args.a.0 < 512 = omega (arith, place_lt c.args.s.sizes.m c.args.s.sizes.k c.args.t.0 c.args.a.0 c.requires.0 c.requires.1, agent_steps c.args.s.sizes c.args.s.limits) in
     omega (arith, few, c.variable_count.ensures.1)
 
 pub returns : goal.returns
 returns c =
-    let few : c.args.t.0 * c.args.s.k + c.args.a.0 < 512 = omega (arith, place_lt c.args.s.m c.args.s.k c.args.t.0 c.args.a.0 c.requires.t_lt_m.0 c.requires.t_lt_m.1, agent_steps c.args.s c.requires.limits) in
+    let few : c.args.t.0 * c.args.s.sizes.k + c.args.a.0 < 512 = omega (arith, place_lt c.args.s.sizes.m c.args.s.sizes.k c.args.t.0 c.args.a.0 c.requires.0 c.requires.1, agent_steps c.args.s.sizes c.args.s.limits) in
     (omega (arith, c.variable_count.ensures.0), omega (arith, few, c.variable_count.ensures.1))

@@ -15,73 +15,63 @@ use Rattle.tree_writer.proofs.Laws.{none_written, all_written}
 use Rattle.added_writer.proofs.Laws.{counters_over}
 use Rattle.added_writer.proofs.write_counters.Goals as goal
 
-pub overflow_mul-l : goal.overflow_mul-l
-overflow_mul-l c =
-    let few : (1 ≤ c.args.s.m * c.args.s.k) × (c.args.s.m * c.args.s.k ≤ 512) = (mul-le-mul {n₁ = 1} {m₁ = 1} c.requires.c_bound.1 c.requires.limits.k_least, agent_steps c.args.s c.requires.limits) in
-    omega (arith, few)
-
-pub overflow_add-first : goal.overflow_add-first
-overflow_add-first c =
-    let few : (1 ≤ c.args.s.m * c.args.s.k) × (c.args.s.m * c.args.s.k ≤ 512) = (mul-le-mul {n₁ = 1} {m₁ = 1} c.requires.c_bound.1 c.requires.limits.k_least, agent_steps c.args.s c.requires.limits) in
-    omega (arith, few, c.variable_count-first.ensures.1)
-
 pub write_tree-tree-requires : goal.write_tree-tree-requires
 write_tree-tree-requires c =
-    let parts : List (List Clause) = counters c.args.s c.args.c ∷ limit c.args.s c.args.c ∷ [] in
+    let parts : List (List Clause) = counters c.args.s.sizes c.args.ceiling.c ∷ limit c.args.s.sizes c.args.ceiling.c ∷ [] in
     let before0 = none_written parts refl c.requires.c_in_bounds in
-    let few : (1 ≤ c.args.s.m * c.args.s.k) × (c.args.s.m * c.args.s.k ≤ 512) = (mul-le-mul {n₁ = 1} {m₁ = 1} c.requires.c_bound.1 c.requires.limits.k_least, agent_steps c.args.s c.requires.limits) in
+    let few : (1 ≤ c.args.s.sizes.m * c.args.s.sizes.k) × (c.args.s.sizes.m * c.args.s.sizes.k ≤ 512) = (mul-le-mul {n₁ = 1} {m₁ = 1} c.requires.m_nonzero c.args.s.limits.k_least, agent_steps c.args.s.sizes c.args.s.limits) in
     let (l, q) = few in
-    let v = tree_fits c.args.c (c.args.s.m * c.args.s.k) q in
-    rw (counters_over c.args.s c.args.c c.variable_count-first.ensures.0)
-    record { c_bound = (c.requires.c_bound.0, l, omega (arith, c.variable_count-first.ensures.1), omega (arith, c.variable_count-first.ensures.1)); y_in_bounds = (let r = filling_room before0 (omega arith) in omega arith) }
+    let v = tree_fits c.args.ceiling.c (c.args.s.sizes.m * c.args.s.sizes.k) q in
+    rw (counters_over c.args.s.sizes c.args.ceiling.c c.variable_count-first.ensures.0)
+    record { y_most = omega (arith, c.variable_count-first.ensures.1); y_in_bounds = (let r = filling_room before0 (omega arith) in omega arith) }
 
 pub offset_bounds-f-at : goal.offset_bounds-f-at
 offset_bounds-f-at c =
-    let parts : List (List Clause) = counters c.args.s c.args.c ∷ limit c.args.s c.args.c ∷ [] in
+    let parts : List (List Clause) = counters c.args.s.sizes c.args.ceiling.c ∷ limit c.args.s.sizes c.args.ceiling.c ∷ [] in
     let before0 = none_written parts refl c.requires.c_in_bounds in
-    let before1 = let o = rw (counters_over c.args.s c.args.c c.variable_count-first.ensures.0) at c.write_tree-tree.ensures in
+    let before1 = let o = rw (counters_over c.args.s.sizes c.args.ceiling.c c.variable_count-first.ensures.0) at c.write_tree-tree.ensures in
     filling_on before0 (omega arith) (o.0, o.2) in
     let w = before1 in search rules
 
 pub slice_bounds-write_limit-count : goal.slice_bounds-write_limit-count
 slice_bounds-write_limit-count c =
-    let parts : List (List Clause) = counters c.args.s c.args.c ∷ limit c.args.s c.args.c ∷ [] in
+    let parts : List (List Clause) = counters c.args.s.sizes c.args.ceiling.c ∷ limit c.args.s.sizes c.args.ceiling.c ∷ [] in
     let before0 = none_written parts refl c.requires.c_in_bounds in
-    let before1 = let o = rw (counters_over c.args.s c.args.c c.variable_count-first.ensures.0) at c.write_tree-tree.ensures in
+    let before1 = let o = rw (counters_over c.args.s.sizes c.args.ceiling.c c.variable_count-first.ensures.0) at c.write_tree-tree.ensures in
     filling_on before0 (omega arith) (o.0, o.2) in
     let w = before1 in search rules
 
 pub slice_bounds-write_limit-start : goal.slice_bounds-write_limit-start
 slice_bounds-write_limit-start c =
-    let parts : List (List Clause) = counters c.args.s c.args.c ∷ limit c.args.s c.args.c ∷ [] in
+    let parts : List (List Clause) = counters c.args.s.sizes c.args.ceiling.c ∷ limit c.args.s.sizes c.args.ceiling.c ∷ [] in
     let before0 = none_written parts refl c.requires.c_in_bounds in
-    let before1 = let o = rw (counters_over c.args.s c.args.c c.variable_count-first.ensures.0) at c.write_tree-tree.ensures in
+    let before1 = let o = rw (counters_over c.args.s.sizes c.args.ceiling.c c.variable_count-first.ensures.0) at c.write_tree-tree.ensures in
     filling_on before0 (omega arith) (o.0, o.2) in
     let w = before1 in search rules
 
 pub write_limit-requires : goal.write_limit-requires
 write_limit-requires c =
-    let parts : List (List Clause) = counters c.args.s c.args.c ∷ limit c.args.s c.args.c ∷ [] in
+    let parts : List (List Clause) = counters c.args.s.sizes c.args.ceiling.c ∷ limit c.args.s.sizes c.args.ceiling.c ∷ [] in
     let before0 = none_written parts refl c.requires.c_in_bounds in
-    let before1 = let o = rw (counters_over c.args.s c.args.c c.variable_count-first.ensures.0) at c.write_tree-tree.ensures in
+    let before1 = let o = rw (counters_over c.args.s.sizes c.args.ceiling.c c.variable_count-first.ensures.0) at c.write_tree-tree.ensures in
     filling_on before0 (omega arith) (o.0, o.2) in
     let r = filling_room before1 (omega arith) in
     simp (length-take, length-drop)
-    record { limits = c.requires.limits; c_bound = (c.requires.c_bound.0, omega (arith, c.write_tree-tree.ensures.1, c.variable_count-first.ensures.0)); c_in_bounds = omega arith }
+    record { next_value = omega (arith, c.write_tree-tree.ensures.1, c.variable_count-first.ensures.0); c_in_bounds = omega arith }
 
 pub returns : goal.returns
 returns c =
-    let parts : List (List Clause) = counters c.args.s c.args.c ∷ limit c.args.s c.args.c ∷ [] in
+    let parts : List (List Clause) = counters c.args.s.sizes c.args.ceiling.c ∷ limit c.args.s.sizes c.args.ceiling.c ∷ [] in
     let before0 = none_written parts refl c.requires.c_in_bounds in
-    let before1 = let o = rw (counters_over c.args.s c.args.c c.variable_count-first.ensures.0) at c.write_tree-tree.ensures in
+    let before1 = let o = rw (counters_over c.args.s.sizes c.args.ceiling.c c.variable_count-first.ensures.0) at c.write_tree-tree.ensures in
     filling_on before0 (omega arith) (o.0, o.2) in
     all_written parts refl (filling_next before1 (omega arith) c.write_limit.ensures)
 
 pub overflow_add-result : goal.overflow_add-result
 overflow_add-result c =
-    let parts : List (List Clause) = counters c.args.s c.args.c ∷ limit c.args.s c.args.c ∷ [] in
+    let parts : List (List Clause) = counters c.args.s.sizes c.args.ceiling.c ∷ limit c.args.s.sizes c.args.ceiling.c ∷ [] in
     let before0 = none_written parts refl c.requires.c_in_bounds in
-    let before1 = let o = rw (counters_over c.args.s c.args.c c.variable_count-first.ensures.0) at c.write_tree-tree.ensures in
+    let before1 = let o = rw (counters_over c.args.s.sizes c.args.ceiling.c c.variable_count-first.ensures.0) at c.write_tree-tree.ensures in
     filling_on before0 (omega arith) (o.0, o.2) in
     let q = (filling_next before1 (omega arith) c.write_limit.ensures).fits in
     omega arith

@@ -16,6 +16,7 @@ use Rattle.formula.proofs.Limits.{clauses_most}
 use Rattle.satisfaction.specs.Rows.{Fault, Read}
 use Rattle.satisfaction.proofs.Families.{whole}
 use Rattle.ceiling.specs.Ceiling.{ceiling_variables, under_ceiling}
+use Rattle.ceiling.proofs.Counts.{added_count_lem}
 use Rattle.ceiling_size.proofs.Laws.{added_most}
 use Rattle.ceiling_decoder.specs.Shown.{Shown}
 use Rattle.ceiling_decoder.proofs.Laws.{stops_base, passes_base, behind_base, places_read}
@@ -68,13 +69,29 @@ added_fault-requires c =
     }
 
 pub overflow_add-result : goal.overflow_add-result
-overflow_add-result c = omega (arith, c.clause_count-count.ensures, clauses_most _ c.requires.ready.limits, c.added_fault.ensures.1, added_most c.args.s c.requires.ready.limits c.args.c c.requires.c_bound)
+overflow_add-result c =
+    let f = c.in-Ok.ensures.count in
+    omega (arith, c.clause_count-count.ensures, clauses_most _ c.requires.ready.limits, added_count_lem c.args.s c.args.c, added_most c.args.s c.requires.ready.limits c.args.c c.requires.c_bound)
 
-pub returns : goal.returns
-returns c =
+pub returns-in-Ok : goal.returns-in-Ok
+returns-in-Ok c =
     let lent_first : c.variable_count-n.result - 0 ≡ variable_count c.args.s = let e = c.variable_count-n.ensures.0 in omega arith in
     let found : (I : Instance) → Shows I c.args.s c.args.starts.now c.args.goals.now c.args.near.now → Edges I → Fault (take (variable_count c.args.s) c.args.entries.now) (clauses I) c.clause_fault-base.result = λ I g h. whole I c.args.s c.args.starts.now c.args.goals.now c.args.near.now g h (take (variable_count c.args.s) c.args.entries.now) c.clause_fault-base.result (subst (λ (x : ℕ). Fault (take x c.args.entries.now) (for 7 (family (held_in c.args.s c.args.starts.now c.args.goals.now c.args.near.now))) c.clause_fault-base.result) lent_first c.clause_fault-base.ensures) in
     let counted : (I : Instance) → Shows I c.args.s c.args.starts.now c.args.goals.now c.args.near.now → c.clause_count-count.result ≡ length (clauses I) = λ I g. c.clause_count-count.ensures ∙ ap clause_count g.graph.sizes ∙ sym (clause_count_lem I (shown_counted I c.args.s c.args.starts.now c.args.goals.now c.args.near.now g c.requires.ready)) in
     λ I g e h.
-    subst (λ (x : ℕ). Fault c.args.entries.now (under_ceiling c.args.c I).clauses (x + c.added_fault.result)) (sym (counted I g))
-    (behind_base I c.args.s g.graph.sizes e h c.args.c c.args.entries.now c.requires.valuation.0 c.clause_fault-base.result (found I g h) (omega (arith, counted I g, c.if-base-count.false)) c.added_fault.result c.added_fault.ensures.0)
+    subst (λ (x : ℕ). Fault c.args.entries.now (under_ceiling c.args.c I).clauses (x + c.in-Ok.all)) (sym (counted I g))
+    (behind_base I c.args.s g.graph.sizes e h c.args.c c.args.entries.now c.requires.valuation.0 c.clause_fault-base.result (found I g h) (omega (arith, counted I g, c.if-base-count.false)) c.in-Ok.all c.in-Ok.ensures.all)
+
+pub overflow_add-result-in-Err : goal.overflow_add-result-in-Err
+overflow_add-result-in-Err c =
+    let f = c.in-Err.ensures.within in
+    omega (arith, c.clause_count-count.ensures, clauses_most _ c.requires.ready.limits, added_count_lem c.args.s c.args.c, added_most c.args.s c.requires.ready.limits c.args.c c.requires.c_bound)
+
+pub returns-in-Err : goal.returns-in-Err
+returns-in-Err c =
+    let lent_first : c.variable_count-n.result - 0 ≡ variable_count c.args.s = let e = c.variable_count-n.ensures.0 in omega arith in
+    let found : (I : Instance) → Shows I c.args.s c.args.starts.now c.args.goals.now c.args.near.now → Edges I → Fault (take (variable_count c.args.s) c.args.entries.now) (clauses I) c.clause_fault-base.result = λ I g h. whole I c.args.s c.args.starts.now c.args.goals.now c.args.near.now g h (take (variable_count c.args.s) c.args.entries.now) c.clause_fault-base.result (subst (λ (x : ℕ). Fault (take x c.args.entries.now) (for 7 (family (held_in c.args.s c.args.starts.now c.args.goals.now c.args.near.now))) c.clause_fault-base.result) lent_first c.clause_fault-base.ensures) in
+    let counted : (I : Instance) → Shows I c.args.s c.args.starts.now c.args.goals.now c.args.near.now → c.clause_count-count.result ≡ length (clauses I) = λ I g. c.clause_count-count.ensures ∙ ap clause_count g.graph.sizes ∙ sym (clause_count_lem I (shown_counted I c.args.s c.args.starts.now c.args.goals.now c.args.near.now g c.requires.ready)) in
+    λ I g e h.
+    subst (λ (x : ℕ). Fault c.args.entries.now (under_ceiling c.args.c I).clauses (x + c.in-Err.place)) (sym (counted I g))
+    (behind_base I c.args.s g.graph.sizes e h c.args.c c.args.entries.now c.requires.valuation.0 c.clause_fault-base.result (found I g h) (omega (arith, counted I g, c.if-base-count.false)) c.in-Err.place c.in-Err.ensures.first)

@@ -1,7 +1,7 @@
 -- `dimacs::put_line` meets its contract: each part is written behind the one before it. Assumes nothing.
 use mathlib.Core.Path.{◌≡◌, refl, sym, ◌∙◌, ap}
 use mathlib.Core.List.{List, ◌++◌, append_assoc}
-use Prim.Native.Nat.{ℕ, ◌+◌, ◌-◌}
+use Prim.Native.Nat.{ℕ, ◌+◌}
 use native.Mathlib.Omega.{arith}
 use lib.ListN.{length, length-take, length-drop, length-append}
 use Rattle.lists.specs.Slice.{filled}
@@ -41,7 +41,7 @@ returns c =
     let x : List ℕ = ended c.args.x 32 in
     let y : List ℕ = ended c.args.y 10 in
     let n : length label + c.put_ended.result ≡ length (label ++ x) = omega (arith, c.put_ended.ensures.0.0, length-append label x) in
-    let e = filled_part (put_mid 0 (length label - 0) s c.copy_from_slice.new.self) s label x c.put_ended.new.out (length label) (copied label s _ _ (omega arith) c.copy_from_slice.ensures.after) refl (omega arith) c.put_ended.ensures.0.1 in (
+    let e = filled_part (put_mid 0 (length label) s c.copy_from_slice.new.self) s label x c.put_ended.new.out (length label) (copied label s _ _ (omega arith) c.copy_from_slice.ensures.after) refl (omega arith) c.put_ended.ensures.0.1 in (
       (
         omega (arith, c.put_ended.ensures.0.0, c.put_ended-2.ensures.0.0, length-append label (x ++ y), length-append x y),
         filled_part _ s (label ++ x) y c.put_ended-2.new.out (length label + c.put_ended.result) e (sym n) (omega (arith, c.put_ended.ensures.1)) c.put_ended-2.ensures.0.1 ∙ ap (λ (t : List ℕ). filled t s) (append_assoc label x y),

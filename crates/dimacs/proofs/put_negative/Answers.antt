@@ -1,20 +1,14 @@
 -- `dimacs::put_negative` meets its contract: the entry of -x is made from that of x; the others stay. Assumes nothing.
-use mathlib.Core.Path.{◌≡◌, refl}
-use Prim.Native.Nat.{◌+◌}
 use native.Mathlib.Omega.{arith}
 use lib.ListN.{length-take, length-drop}
-use Rattle.dimacs.specs.Table.{entry_at, Numbers}
-use Rattle.dimacs.proofs.Table.{entry_array, negatives_next}
+use Rattle.dimacs.specs.Table.{Numbers}
+use Rattle.dimacs.proofs.Table.{negatives_next}
 use Rattle.dimacs.proofs.put_negative.Goals as goal
 
 pub put_negated-requires : goal.put_negated-requires
 unfolding Numbers
 put_negated-requires c =
-    let top = c.args.top in
-    let x = c.args.x in
-    let texts = c.args.texts.now in
-    let e : c.copy_eight.new.out ≡ entry_at texts (top + x) = entry_array texts (top + x) (omega (arith, c.requires.0, c.requires.2)) _ _ refl c.copy_eight.ensures in
-    (rw e (c.requires.3 x (omega (arith, c.requires.2))), c.requires.1, omega (arith, c.requires.0, c.requires.2), simp (length-take, length-drop) (omega (arith, c.requires.0, c.requires.2)))
+    (rw c.copied_entry-entry.ensures (c.requires.3 c.args.x (omega (arith, c.requires.2))), c.requires.1, omega (arith, c.requires.0, c.requires.2), simp (length-take, length-drop) (omega (arith, c.requires.0, c.requires.2)))
 
 pub returns : goal.returns
 returns c = negatives_next c.args.top c.args.texts.now c.put_negated.new.out c.args.x c.requires.0 c.requires.2 c.requires.1 c.put_negated.auto.out c.requires.3 c.requires.4 c.put_negated.ensures

@@ -3,4 +3,4 @@ use Rattle.tree_writer.proofs.+write_tree.Given as goal
 
 -- the length of the list
 abbrev pub decreases-write_tree : goal.decreases-write_tree
-decreases-write_tree l = l.l
+decreases-write_tree l = l.tree.l

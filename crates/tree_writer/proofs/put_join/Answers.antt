@@ -7,23 +7,23 @@ use Rattle.lists.proofs.Slices.{filled_nil}
 use Rattle.tree_writer.proofs.Laws.{join_none, join_right, join_left, join_both}
 use Rattle.tree_writer.proofs.put_join.Goals as goal
 
-pub returns-then-j-eq0 : goal.returns-then-j-eq0
-returns-then-j-eq0 c = rw (join_none c.args.x c.args.y c.args.z c.args.i c.args.j c.if-i-eq0.true c.if-j-eq0.true) (refl, sym (filled_nil _))
-
 pub put_pair-requires : goal.put_pair-requires
-put_pair-requires c = let h = rw (join_right c.args.x c.args.y c.args.z c.args.i c.args.j c.if-i-eq0.true (omega arith)) at c.requires in search rules
+put_pair-requires c = let h = rw (join_right c.args.x c.args.y c.args.z c.args.i c.args.j c.in-0-default.is-0 (omega arith)) at c.requires in search rules
 
-pub returns-then-i-eq0 : goal.returns-then-i-eq0
-returns-then-i-eq0 c = rw (join_right c.args.x c.args.y c.args.z c.args.i c.args.j c.if-i-eq0.true (omega arith)) (rw (to_z-of_z c.ranges.y, to_z-of_z c.ranges.z) at c.put_pair.ensures)
-
-pub put_pair-requires-then-j-eq0-2 : goal.put_pair-requires-then-j-eq0-2
-put_pair-requires-then-j-eq0-2 c = let h = rw (join_left c.args.x c.args.y c.args.z c.args.i c.args.j (omega arith) c.if-j-eq0-2.true) at c.requires in search rules
-
-pub returns-then-j-eq0-2 : goal.returns-then-j-eq0-2
-returns-then-j-eq0-2 c = rw (join_left c.args.x c.args.y c.args.z c.args.i c.args.j (omega arith) c.if-j-eq0-2.true) (rw (to_z-of_z c.ranges.x, to_z-of_z c.ranges.z) at c.put_pair-then-j-eq0-2.ensures)
+pub put_pair-requires-in_default-eq0 : goal.put_pair-requires-in_default-eq0
+put_pair-requires-in_default-eq0 c = let h = rw (join_left c.args.x c.args.y c.args.z c.args.i c.args.j (omega arith) c.in_default-eq0.is-1) at c.requires in search rules
 
 pub put_three-requires : goal.put_three-requires
 put_three-requires c = let h = rw (join_both c.args.x c.args.y c.args.z c.args.i c.args.j (omega arith) (omega arith)) at c.requires in search rules
 
-pub returns : goal.returns
-returns c = rw (join_both c.args.x c.args.y c.args.z c.args.i c.args.j (omega arith) (omega arith)) (rw (to_z-of_z c.ranges.x, to_z-of_z c.ranges.y, to_z-of_z c.ranges.z) at c.put_three.ensures)
+pub returns-in-0-eq0 : goal.returns-in-0-eq0
+returns-in-0-eq0 c = rw (join_none c.args.x c.args.y c.args.z c.args.i c.args.j c.in-0-eq0.is-0 c.in-0-eq0.is-1) (refl, sym (filled_nil _))
+
+pub returns-in-0-default : goal.returns-in-0-default
+returns-in-0-default c = rw (join_right c.args.x c.args.y c.args.z c.args.i c.args.j c.in-0-default.is-0 (omega arith)) (rw (to_z-of_z c.ranges.y, to_z-of_z c.ranges.z) at c.put_pair.ensures)
+
+pub returns-in_default-eq0 : goal.returns-in_default-eq0
+returns-in_default-eq0 c = rw (join_left c.args.x c.args.y c.args.z c.args.i c.args.j (omega arith) c.in_default-eq0.is-1) (rw (to_z-of_z c.ranges.x, to_z-of_z c.ranges.z) at c.put_pair-in_default-eq0.ensures)
+
+pub returns-in_default : goal.returns-in_default
+returns-in_default c = rw (join_both c.args.x c.args.y c.args.z c.args.i c.args.j (omega arith) (omega arith)) (rw (to_z-of_z c.ranges.x, to_z-of_z c.ranges.y, to_z-of_z c.ranges.z) at c.put_three.ensures)

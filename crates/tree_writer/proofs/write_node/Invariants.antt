@@ -10,7 +10,7 @@ use Rattle.tree_writer.proofs.write_node.Given as goal
 
 -- the clauses of i on the left
 abbrev pub row_of : Node → ℕ → List Clause
-row_of d i = row d.c d.p d.q d.o d.b i
+row_of d i = row d.ceiling.c d.p d.q d.o d.b i
 
 abbrev pub invariant-loop-i : goal.invariant-loop-i
 invariant-loop-i l = Filling (λ k. each line (row_of l.d k)) (suc l.d.a) l.initial.f l.i l.at l.f

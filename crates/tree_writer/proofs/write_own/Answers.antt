@@ -8,10 +8,11 @@ use Rattle.tree_writer.proofs.write_own.Goals as goal
 pub write_node-requires : goal.write_node-requires
 unfolding node_over
 write_node-requires c =
-    let args = c.args in
-    let p = before_most args.c (args.l / 2) args.x args.u (omega arith) (omega arith) in
-    let q = before_most args.c (args.l - args.l / 2) (args.x + args.l / 2) args.v (omega arith) (omega arith) in
-    rw c.node_over.ensures record { c_bound = (omega arith, p, q, omega arith, omega arith, omega arith); d_in_bounds = c.requires.v_in_bounds }
+    let tree = c.args.tree in
+    let p = before_most tree.ceiling.c (tree.l / 2) tree.x c.args.u (omega arith) (omega arith) in
+    let q = before_most tree.ceiling.c (tree.l - tree.l / 2) (tree.x + tree.l / 2) c.args.v (omega arith) (omega arith) in
+    rw c.node.ensures record { bounds = (p, q, omega arith, omega arith, omega arith); d_in_bounds = c.requires.v_in_bounds }
 
 pub returns : goal.returns
-returns c = rw c.node_over.ensures at c.write_node.ensures
+unfolding node_over
+returns c = rw c.node.ensures at c.write_node.ensures

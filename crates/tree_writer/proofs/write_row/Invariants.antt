@@ -7,7 +7,7 @@ use Rattle.tree_writer.specs.Rows.{cell}
 use Rattle.tree_writer.proofs.write_row.Given as goal
 
 abbrev pub invariant-loop-j : goal.invariant-loop-j
-invariant-loop-j l = Filling (λ k. each line (cell l.c l.p l.q l.o l.i k)) (suc l.b) l.initial.f l.j l.at l.f
+invariant-loop-j l = Filling (λ k. each line (cell l.d.ceiling.c l.d.p l.d.q l.d.o l.i k)) (suc l.d.b) l.initial.f l.j l.at l.f
 
 abbrev pub decreases-loop-j : goal.decreases-loop-j
 decreases-loop-j l = l.end - l.j

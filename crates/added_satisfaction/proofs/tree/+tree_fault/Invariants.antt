@@ -3,4 +3,4 @@ use Rattle.added_satisfaction.proofs.tree.+tree_fault.Given as goal
 
 -- the length of the list
 abbrev pub decreases-tree_fault : goal.decreases-tree_fault
-decreases-tree_fault l = l.l
+decreases-tree_fault l = l.tree.l
