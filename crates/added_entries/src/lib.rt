@@ -3,7 +3,6 @@
 
 ghost use Rattle.std.specs.Prelude.{◌≡◌, Bool, false, ℕ, ◌++◌, ◌+◌, ◌*◌, ◌≤◌, ◌<◌, min, ltb, length, take, replicate};
 ghost use Rattle.lists.specs.Slice.{filled, Wrote};
-ghost use Rattle.instance.specs.Limits.{Limits};
 ghost use Rattle.formula.specs.Variables.{highest};
 ghost use Rattle.plan.specs.Plan.{plan_bytes};
 ghost use Rattle.ceiling.specs.Tree.{entry_of};
@@ -13,7 +12,7 @@ ghost use Rattle.counting.specs.Over.{variables_over};
 ghost use Rattle.added_entries.specs.Rest.{rest_times, marks_of, entries_of, entries_over, count_over};
 
 use counting::{Ceiling, Subtree};
-use instance::Sizes;
+use instance::Shape;
 use variables::Variable;
 
 // The entries of a tree's own variables that were written, and how many of its inputs are true.
@@ -24,23 +23,22 @@ struct Counted {
 }
 
 // The agents' times until rest, 0 beyond them.
-fn rest_times(s: Sizes, p: &[u8]) -> [u8; 16]
-    requires limits { Limits s }
-    requires p_len { length p.now ≡ plan_bytes s }
-    ensures { result ≡ filled (rest_times s p.now) (replicate 16 0) }
+fn rest_times(s: Shape, p: &[u8]) -> [u8; 16]
+    requires { length p.now ≡ plan_bytes s.sizes }
+    ensures { result ≡ filled (rest_times s.sizes p.now) (replicate 16 0) }
 {
-    let k = s.k;
-    let rows = s.m + 1;
+    let k = s.sizes.k;
+    let rows = s.sizes.m + 1;
     let mut rest = [0u8; 16];
     for a in 0..k {
-        rest[a] = plan_check::rest_time(s, p, rows, a) as u8;
+        rest[a] = plan_check::rest_time(s.sizes, p, rows, a) as u8;
     }
     rest
 }
 
 // Of each time and agent, time by time, whether the agent is not yet at rest.
 fn marks_of(rest: &[u8; 16], m: usize, k: usize) -> [bool; 512]
-    requires { (m ≤ 32) × (k ≤ 16) }
+    requires { (k ≤ 16) × (m * k ≤ 512) }
     ensures { result ≡ filled (marks_of rest.now k (m * k)) (replicate 512 false) }
 {
     let mut marks = [false; 512];
@@ -126,25 +124,19 @@ fn write_tree(z: &mut [i32], marks: &[bool; 512], tree: Subtree, y: usize) -> Co
 }
 
 // What is added: B, then the tree's own variables. At m 0 that is nothing.
-pub fn write_added(z: &mut [i32], s: Sizes, c: usize, p: &[u8])
-    requires limits { Limits s }
-    requires c_bound { c ≤ 128 }
-    requires p_len { (length p.now ≡ plan_bytes s) × (added_variables s c ≤ length z.old) }
-    ensures { z.new ≡ filled (busy_entries s p.now ++ counter_entries s p.now c) z.old }
+pub fn write_added(z: &mut [i32], s: Shape, ceiling: Ceiling, p: &[u8])
+    requires { (length p.now ≡ plan_bytes s.sizes) × (added_variables s.sizes ceiling.c ≤ length z.old) }
+    ensures { z.new ≡ filled (busy_entries s.sizes p.now ++ counter_entries s.sizes p.now ceiling.c) z.old }
 {
-    let k = s.k;
-    let l = s.m * k;
+    let k = s.sizes.k;
+    let l = s.sizes.m * k;
     if l == 0 {
         return;
     }
     let n = counts::variable_count(s);
     let rest = rest_times(s, p);
-    let marks = marks_of(&rest, s.m, k);
+    let marks = marks_of(&rest, s.sizes.m, k);
     write_entries(z, l, n, |i| marks[i]);
-    let tree = Subtree {
-        ceiling: Ceiling { c },
-        l,
-        x: 0,
-    };
+    let tree = Subtree { ceiling, l, x: 0 };
     write_tree(&mut z[l..], &marks, tree, n + l);
 }

@@ -7,7 +7,7 @@ use Rattle.plan.specs.Plan.{plan_row, rest_time}
 use Rattle.added_entries.proofs.rest_times.Given as goal
 
 abbrev pub invariant-loop-a : goal.invariant-loop-a
-invariant-loop-a l = Filling (λ b. rest_time l.s.m (plan_row l.s l.p) b ∷ []) l.s.k (replicate 16 0) l.a l.a l.rest
+invariant-loop-a l = Filling (λ b. rest_time l.s.sizes.m (plan_row l.s.sizes l.p) b ∷ []) l.s.sizes.k (replicate 16 0) l.a l.a l.rest
 
 abbrev pub decreases-loop-a : goal.decreases-loop-a
 decreases-loop-a l = l.k - l.a

@@ -18,44 +18,41 @@ use Rattle.ceiling_encoder.proofs.write_all.Goals as goal
 pub write_valuation-requires : goal.write_valuation-requires
 unfolding ceiling_variables
 write_valuation-requires c =
-    let room : variable_count c.args.s + added_variables c.args.s c.args.c ≤ length c.args.z.now = c.requires.p_len.1 in
-    record { limits = c.requires.limits; p_len = (c.requires.p_len.0, omega (arith, room)) }
-
-pub variable_count-n-requires : goal.variable_count-n-requires
-variable_count-n-requires c = c.requires.limits
+    let room : variable_count c.args.s.sizes + added_variables c.args.s.sizes c.args.ceiling.c ≤ length c.args.z.now = c.requires.1 in
+    (c.requires.0, omega (arith, room))
 
 pub slice_bounds-write_added-count : goal.slice_bounds-write_added-count
 unfolding ceiling_variables
 slice_bounds-write_added-count c =
-    let room : variable_count c.args.s + added_variables c.args.s c.args.c ≤ length c.args.z.now = c.requires.p_len.1 in
-    let long : length c.write_valuation.new.z ≡ length c.args.z.now = ap length c.write_valuation.ensures ∙ filled_length (plan_valuation c.args.s c.args.p.now) c.args.z.now (omega (arith, written_size c.args.s c.args.p.now, room)) in
+    let room : variable_count c.args.s.sizes + added_variables c.args.s.sizes c.args.ceiling.c ≤ length c.args.z.now = c.requires.1 in
+    let long : length c.write_valuation.new.z ≡ length c.args.z.now = ap length c.write_valuation.ensures ∙ filled_length (plan_valuation c.args.s.sizes c.args.p.now) c.args.z.now (omega (arith, written_size c.args.s.sizes c.args.p.now, room)) in
     omega (arith, long, c.variable_count-n.ensures.0, room)
 
 pub slice_bounds-write_added-start : goal.slice_bounds-write_added-start
 unfolding ceiling_variables
 slice_bounds-write_added-start c =
-    let room : variable_count c.args.s + added_variables c.args.s c.args.c ≤ length c.args.z.now = c.requires.p_len.1 in
-    let long : length c.write_valuation.new.z ≡ length c.args.z.now = ap length c.write_valuation.ensures ∙ filled_length (plan_valuation c.args.s c.args.p.now) c.args.z.now (omega (arith, written_size c.args.s c.args.p.now, room)) in
+    let room : variable_count c.args.s.sizes + added_variables c.args.s.sizes c.args.ceiling.c ≤ length c.args.z.now = c.requires.1 in
+    let long : length c.write_valuation.new.z ≡ length c.args.z.now = ap length c.write_valuation.ensures ∙ filled_length (plan_valuation c.args.s.sizes c.args.p.now) c.args.z.now (omega (arith, written_size c.args.s.sizes c.args.p.now, room)) in
     omega (arith, long, c.variable_count-n.ensures.0, room)
 
 pub write_added-requires : goal.write_added-requires
 unfolding ceiling_variables
 write_added-requires c =
-    let room : variable_count c.args.s + added_variables c.args.s c.args.c ≤ length c.args.z.now = c.requires.p_len.1 in
-    let long : length c.write_valuation.new.z ≡ length c.args.z.now = ap length c.write_valuation.ensures ∙ filled_length (plan_valuation c.args.s c.args.p.now) c.args.z.now (omega (arith, written_size c.args.s c.args.p.now, room)) in
-    simp (length-take, length-drop) record { limits = c.requires.limits; c_bound = c.requires.c_bound; p_len = (c.requires.p_len.0, omega (arith, long, c.variable_count-n.ensures.0, room)) }
+    let room : variable_count c.args.s.sizes + added_variables c.args.s.sizes c.args.ceiling.c ≤ length c.args.z.now = c.requires.1 in
+    let long : length c.write_valuation.new.z ≡ length c.args.z.now = ap length c.write_valuation.ensures ∙ filled_length (plan_valuation c.args.s.sizes c.args.p.now) c.args.z.now (omega (arith, written_size c.args.s.sizes c.args.p.now, room)) in
+    simp (length-take, length-drop) (c.requires.0, omega (arith, long, c.variable_count-n.ensures.0, room))
 
 pub returns : goal.returns
 unfolding ceiling_valuation ceiling_variables
 returns c =
-    let room : variable_count c.args.s + added_variables c.args.s c.args.c ≤ length c.args.z.now = c.requires.p_len.1 in
+    let room : variable_count c.args.s.sizes + added_variables c.args.s.sizes c.args.ceiling.c ≤ length c.args.z.now = c.requires.1 in
     let p = c.args.p.now in
-    let s = c.args.s in
-    filled_part c.write_valuation.new.z c.args.z.now (plan_valuation s p) (busy_entries s p ++ counter_entries s p c.args.c) c.write_added.new.z c.variable_count-n.result c.write_valuation.ensures (written_size s p ∙ sym c.variable_count-n.ensures.0) (omega (arith, c.variable_count-n.ensures.0, room)) c.write_added.ensures
-    ∙ ap (λ (l : List ℤ). filled l c.args.z.now) (sym (append_assoc (plan_valuation s p) (busy_entries s p) (counter_entries s p c.args.c)))
+    let s = c.args.s.sizes in
+    filled_part c.write_valuation.new.z c.args.z.now (plan_valuation s p) (busy_entries s p ++ counter_entries s p c.args.ceiling.c) c.write_added.new.z c.variable_count-n.result c.write_valuation.ensures (written_size s p ∙ sym c.variable_count-n.ensures.0) (omega (arith, c.variable_count-n.ensures.0, room)) c.write_added.ensures
+    ∙ ap (λ (l : List ℤ). filled l c.args.z.now) (sym (append_assoc (plan_valuation s p) (busy_entries s p) (counter_entries s p c.args.ceiling.c)))
 
 pub shape_of-z : goal.shape_of-z
 unfolding ceiling_variables
 shape_of-z c =
-    let room : variable_count c.args.s + added_variables c.args.s c.args.c ≤ length c.args.z.now = c.requires.p_len.1 in
-    ap length (returns c) ∙ filled_length _ c.args.z.now (omega (arith, (ceiling_valuation_lem c.args.s c.args.p.now c.args.c).size, room))
+    let room : variable_count c.args.s.sizes + added_variables c.args.s.sizes c.args.ceiling.c ≤ length c.args.z.now = c.requires.1 in
+    ap length (returns c) ∙ filled_length _ c.args.z.now (omega (arith, (ceiling_valuation_lem c.args.s.sizes c.args.p.now c.args.ceiling.c).size, room))
