@@ -111,7 +111,7 @@ fn passes(
     }
 }
 
-// The first agent that fails it. By index: a condition is asked of an agent, in both rows.
+// The first agent that fails it.
 fn fault(s: Sizes, near: &[u64; 64], which: Condition, here: &[u8], next: &[u8]) -> Option<usize>
     requires rows { (length here.now ≡ s.k) × (length next.now ≡ s.k) }
     requires inside { Inside here.now × Inside next.now }
