@@ -109,7 +109,7 @@ fn put_end_of(f: &mut [i32], s: Shape, t: Step, row: &[u8; 16], a: usize) -> usi
     ensures { Wrote (line (X s.sizes t.0 a (get_or row.now a 0) ∷ [])) f.old f.new result }
 {
     let v = row[a];
-    clauses::put_unit(f, clauses::positive(s, t, Agent(a), Vertex(usize::from(v))))
+    clauses::put_clause(f, [clauses::positive(s, t, Agent(a), Vertex(usize::from(v)))])
 }
 
 // Family D: clause p of time t and agent a.
@@ -119,11 +119,11 @@ fn put_d(f: &mut [i32], s: Shape, t: Step, a: Agent, p: usize) -> usize
     ensures { Wrote (line_at (block_d s.sizes t.0 a.0) p) f.old f.new result }
 {
     let pair = pair_of(s.sizes.n, p);
-    clauses::put_pair(
-        f,
+    let literals = [
         clauses::negative(s, t, a, Vertex(pair.low)),
         clauses::negative(s, t, a, Vertex(pair.high)),
-    )
+    ];
+    clauses::put_clause(f, literals)
 }
 
 // Family E: clause p of time t and vertex v.
@@ -133,11 +133,11 @@ fn put_e(f: &mut [i32], s: Shape, t: Step, v: Vertex, p: usize) -> usize
     ensures { Wrote (line_at (block_e s.sizes t.0 v.0) p) f.old f.new result }
 {
     let pair = pair_of(s.sizes.k, p);
-    clauses::put_pair(
-        f,
+    let literals = [
         clauses::negative(s, t, Agent(pair.low), v),
         clauses::negative(s, t, Agent(pair.high), v),
-    )
+    ];
+    clauses::put_clause(f, literals)
 }
 
 // The agent at a place among those other than a.
@@ -160,11 +160,8 @@ fn put_following(f: &mut [i32], s: Shape, t: Step, a: Agent, p: usize) -> usize
     let b = Agent(other(a.0, p / s.sizes.n));
     let v = Vertex(p % s.sizes.n);
     let next = Step(t.0 + 1);
-    clauses::put_pair(
-        f,
-        clauses::negative(s, t, b, v),
-        clauses::negative(s, next, a, v),
-    )
+    let literals = [clauses::negative(s, t, b, v), clauses::negative(s, next, a, v)];
+    clauses::put_clause(f, literals)
 }
 
 // Family G under rule 2: agents a and b do not exchange the ends of an edge.
@@ -175,13 +172,13 @@ fn put_exchange(f: &mut [i32], s: Shape, t: Step, edge: Edge, a: Agent, b: Agent
     let low = Vertex(edge.low);
     let high = Vertex(edge.high);
     let next = Step(t.0 + 1);
-    clauses::put_four(
-        f,
+    let literals = [
         clauses::negative(s, t, a, low),
         clauses::negative(s, next, a, high),
         clauses::negative(s, t, b, high),
         clauses::negative(s, next, b, low),
-    )
+    ];
+    clauses::put_clause(f, literals)
 }
 
 // Family G under rule 2: the clause at a place, by time, edge and two agents.

@@ -15,7 +15,7 @@ use tally::Tally;
 pub extern "C" fn runglaet_formula_size(instance: &[u8], horizon: u64, rule: u64) -> Size
     ensures { result ≡ size_answer formula instance.now horizon rule }
 {
-    formula_size::formula_size(instance, horizon as usize, rule as usize)
+    Size::from(formula_size::formula_size(instance, horizon as usize, rule as usize))
 }
 
 #[unsafe(no_mangle)]
@@ -28,7 +28,7 @@ pub extern "C" fn runglaet_write_formula(
     ensures value { result ≡ write_answer formula instance.now horizon rule (length words.old) }
     ensures words_after { words.new ≡ write_slice formula instance.now horizon rule words.old }
 {
-    formula_writer::write_formula(instance, horizon as usize, rule as usize, words)
+    Answer::from(formula_writer::write_formula(instance, horizon as usize, rule as usize, words))
 }
 
 #[unsafe(no_mangle)]
@@ -42,13 +42,13 @@ pub extern "C" fn runglaet_clause(
     ensures value { result ≡ clause_answer instance.now horizon rule clause_number (length words.old) }
     ensures words_after { words.new ≡ clause_slice instance.now horizon rule clause_number words.old }
 {
-    one_clause::clause(
+    Answer::from(one_clause::clause(
         instance,
         horizon as usize,
         rule as usize,
         clause_number as usize,
         words,
-    )
+    ))
 }
 
 #[unsafe(no_mangle)]
@@ -60,7 +60,7 @@ pub extern "C" fn runglaet_check_plan(
 ) -> Answer
     ensures { result ≡ check_answer instance.now horizon rule plan.now }
 {
-    plan_check::check_plan(instance, horizon as usize, rule as usize, plan)
+    Answer::from(plan_check::check_plan(instance, horizon as usize, rule as usize, plan))
 }
 
 // The record that is lent goes to the call by value, and what comes back takes its place.
@@ -75,9 +75,8 @@ pub extern "C" fn runglaet_tally_plan(
     ensures { (result ≡ tally_answer instance.now horizon rule plan.now tally.old) × (tally.new ≡ tally_record instance.now horizon rule plan.now tally.old) }
 {
     let tallied = plan_tally::tally_plan(*tally, instance, horizon as usize, rule as usize, plan);
-    let next = tallied.tally;
-    *tally = next;
-    tallied.answer
+    *tally = tallied.tally;
+    Answer::from(tallied.answer)
 }
 
 #[unsafe(no_mangle)]
@@ -91,7 +90,7 @@ pub extern "C" fn runglaet_decode(
     ensures value { result ≡ decode_answer instance.now horizon rule entries.now (length plan.old) }
     ensures plan_after { plan.new ≡ decode_slice instance.now horizon rule entries.now plan.old }
 {
-    decoder::decode(instance, horizon as usize, rule as usize, entries, plan)
+    Answer::from(decoder::decode(instance, horizon as usize, rule as usize, entries, plan))
 }
 
 #[unsafe(no_mangle)]
@@ -105,7 +104,7 @@ pub extern "C" fn runglaet_encode(
     ensures value { result ≡ encode_answer instance.now horizon rule plan.now (length entries.old) }
     ensures entries_after { entries.new ≡ encode_slice instance.now horizon rule plan.now entries.old }
 {
-    encoder::encode(instance, horizon as usize, rule as usize, plan, entries)
+    Answer::from(encoder::encode(instance, horizon as usize, rule as usize, plan, entries))
 }
 
 #[unsafe(no_mangle)]
@@ -119,21 +118,21 @@ pub extern "C" fn runglaet_read_valuation(
     ensures value { result ≡ read_answer instance.now horizon rule text.now (length entries.old) }
     ensures entries_after { entries.new ≡ read_slice instance.now horizon rule text.now entries.old }
 {
-    reader::read_valuation(instance, horizon as usize, rule as usize, text, entries)
+    Answer::from(reader::read_valuation(instance, horizon as usize, rule as usize, text, entries))
 }
 
 #[unsafe(no_mangle)]
 pub extern "C" fn runglaet_floor(instance: &[u8]) -> Answer
     ensures { result ≡ floor_answer instance.now }
 {
-    floor::floor_of(instance)
+    Answer::from(floor::floor_of(instance))
 }
 
 #[unsafe(no_mangle)]
 pub extern "C" fn runglaet_pruned_size(instance: &[u8], horizon: u64, rule: u64) -> Size
     ensures { result ≡ size_answer pruned instance.now horizon rule }
 {
-    formula_size::pruned_size(instance, horizon as usize, rule as usize)
+    Size::from(formula_size::pruned_size(instance, horizon as usize, rule as usize))
 }
 
 #[unsafe(no_mangle)]
@@ -146,7 +145,7 @@ pub extern "C" fn runglaet_write_pruned(
     ensures value { result ≡ write_answer pruned instance.now horizon rule (length words.old) }
     ensures words_after { words.new ≡ write_slice pruned instance.now horizon rule words.old }
 {
-    pruned_writer::write_pruned(instance, horizon as usize, rule as usize, words)
+    Answer::from(pruned_writer::write_pruned(instance, horizon as usize, rule as usize, words))
 }
 
 #[unsafe(no_mangle)]
@@ -158,7 +157,12 @@ pub extern "C" fn runglaet_ceiling_size(
 ) -> Size
     ensures { result ≡ ceiling_size_answer instance.now horizon rule ceiling }
 {
-    ceiling_size::ceiling_size(instance, horizon as usize, rule as usize, ceiling as usize)
+    Size::from(ceiling_size::ceiling_size(
+        instance,
+        horizon as usize,
+        rule as usize,
+        ceiling as usize,
+    ))
 }
 
 #[unsafe(no_mangle)]
@@ -172,13 +176,13 @@ pub extern "C" fn runglaet_write_ceiling(
     ensures value { result ≡ ceiling_write_answer instance.now horizon rule ceiling (length words.old) }
     ensures words_after { words.new ≡ ceiling_write_slice instance.now horizon rule ceiling words.old }
 {
-    ceiling_writer::write_ceiling(
+    Answer::from(ceiling_writer::write_ceiling(
         instance,
         horizon as usize,
         rule as usize,
         ceiling as usize,
         words,
-    )
+    ))
 }
 
 #[unsafe(no_mangle)]
@@ -193,14 +197,14 @@ pub extern "C" fn runglaet_decode_ceiling(
     ensures value { result ≡ ceiling_decode_answer instance.now horizon rule ceiling entries.now (length plan.old) }
     ensures plan_after { plan.new ≡ ceiling_decode_slice instance.now horizon rule ceiling entries.now plan.old }
 {
-    ceiling_decoder::decode_ceiling(
+    Answer::from(ceiling_decoder::decode_ceiling(
         instance,
         horizon as usize,
         rule as usize,
         ceiling as usize,
         entries,
         plan,
-    )
+    ))
 }
 
 #[unsafe(no_mangle)]
@@ -215,14 +219,14 @@ pub extern "C" fn runglaet_encode_ceiling(
     ensures value { result ≡ ceiling_encode_answer instance.now horizon rule ceiling plan.now (length entries.old) }
     ensures entries_after { entries.new ≡ ceiling_encode_slice instance.now horizon rule ceiling plan.now entries.old }
 {
-    ceiling_encoder::encode_ceiling(
+    Answer::from(ceiling_encoder::encode_ceiling(
         instance,
         horizon as usize,
         rule as usize,
         ceiling as usize,
         plan,
         entries,
-    )
+    ))
 }
 
 #[unsafe(no_mangle)]
@@ -237,12 +241,12 @@ pub extern "C" fn runglaet_read_ceiling(
     ensures value { result ≡ ceiling_read_answer instance.now horizon rule ceiling text.now (length entries.old) }
     ensures entries_after { entries.new ≡ ceiling_read_slice instance.now horizon rule ceiling text.now entries.old }
 {
-    ceiling_reader::read_ceiling(
+    Answer::from(ceiling_reader::read_ceiling(
         instance,
         horizon as usize,
         rule as usize,
         ceiling as usize,
         text,
         entries,
-    )
+    ))
 }

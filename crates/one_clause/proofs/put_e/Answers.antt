@@ -1,12 +1,13 @@
 -- `one_clause::put_e` meets its contract. Clause p of a block is the pair with that number. Assumes nothing.
+use native.Mathlib.Omega.{arith}
 use mir.Facts.{to_z-of_z}
 use borrow.Author.Rules.{sfits_of}
 use Rattle.formula.specs.Variables.{¬X}
 use Rattle.one_clause.proofs.Clauses.{room_put, wrote_put, pair_clause}
 use Rattle.one_clause.proofs.put_e.Goals as goal
 
-pub put_pair-requires : goal.put_pair-requires
-put_pair-requires c = room_put (pair_clause c.args.s.sizes.k (λ a. ¬X c.args.s.sizes c.args.t.0 a c.args.v.0) c.pair_of-pair.ensures) c.requires.p_in_bounds
+pub put_clause-requires : goal.put_clause-requires
+put_clause-requires c = (omega arith, room_put (pair_clause c.args.s.sizes.k (λ a. ¬X c.args.s.sizes c.args.t.0 a c.args.v.0) c.pair_of-pair.ensures) c.requires.p_in_bounds)
 
 pub returns : goal.returns
 returns c =
@@ -14,4 +15,4 @@ returns c =
     (pair_clause c.args.s.sizes.k (λ a. ¬X c.args.s.sizes c.args.t.0 a c.args.v.0) c.pair_of-pair.ensures)
     _
     _
-    (rw (to_z-of_z (sfits_of c.negative.type_inv), c.negative.ensures, to_z-of_z (sfits_of c.negative-2.type_inv), c.negative-2.ensures) at c.put_pair.ensures)
+    (rw (to_z-of_z (sfits_of c.negative.type_inv), c.negative.ensures, to_z-of_z (sfits_of c.negative-2.type_inv), c.negative-2.ensures) at c.put_clause.ensures)
