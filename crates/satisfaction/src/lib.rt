@@ -309,7 +309,14 @@ fn fault_f(problem: &Problem, p: &[u8], t: usize) -> Option<usize>
 fn row_size(problem: &Problem, family: Family) -> usize
     ensures { ((t : ℕ) → length (row (held (checked_of problem.now)) (place_of family) t) ≡ result) × (result ≤ 483840) }
 {
-    let Sizes { n, k, e, rule, g, .. } = problem.shape.sizes;
+    let Sizes {
+        n,
+        k,
+        e,
+        rule,
+        g,
+        ..
+    } = problem.shape.sizes;
     match family {
         Family::A | Family::C => k,
         Family::B => g,

@@ -1,6 +1,5 @@
 -- `satisfaction::row_fault` meets its contract: family by family; what E, F and G need comes from the families before. Assumes nothing.
 use Prim.Native.Nat.{suc, ◌<◌}
-use mathlib.Core.Path.{sym, ◌∙◌}
 use native.Mathlib.Omega.{arith}
 use Rattle.instance.specs.Problem.{checked_of}
 use Rattle.formula.specs.Blocks.{times, blocks_at, block, held}
