@@ -4,7 +4,7 @@ use mathlib.Core.Logic.Iff
 use mathlib.Core.List.{List, [], ◌∷◌, ◌++◌}
 use mathlib.Core.Bool.{Bool, true, false, cond}
 use Prim.Native.Nat.{ℕ, zero, suc, ◌+◌, ◌-◌, ◌*◌, ◌/◌, ◌%◌, ◌≤◌, ◌<◌, min}
-use native.Mathlib.Nat.{mod-lt, mul-le-mul}
+use native.Mathlib.Nat.{mod-lt}
 use native.Mathlib.Numerals.{add-one}
 use native.Mathlib.Omega.{arith}
 use borrow.Rule.Slice.PartMut.{put_mid}
@@ -135,12 +135,9 @@ module _ (rest : List ℕ) (m k : ℕ) where
   abbrev pub Marking : ℕ → List Bool → Type 0
   Marking i f = Filling (λ j. mark rest k j ∷ []) (m * k) (replicate 512 false) i i f
 
-  pub inputs_most : m ≤ 32 → k ≤ 16 → m * k ≤ 512
-  inputs_most h q = mul-le-mul {n₂ = 32} {m₂ = 16} h q
-
-  pub marking_from : m ≤ 32 → k ≤ 16 → Marking 0 (replicate 512 false)
-  marking_from h q =
-      filling_from 0 (omega arith) refl (omega (arith, inputs_most h q, for1_length (m * k) (mark rest k), length-replicate {A = Bool} 512 false))
+  pub marking_from : m * k ≤ 512 → Marking 0 (replicate 512 false)
+  marking_from h =
+      filling_from 0 (omega arith) refl (omega (arith, h, for1_length (m * k) (mark rest k), length-replicate {A = Bool} 512 false))
 
   pub marking_next : {t a : ℕ} {f : List Bool} {x : Bool} → Marking (t * k + a) f → t < m → a < k → x ≡ ltb t (get_or rest a 0)
       → Marking (t * k + (a + 1)) (set f (t * k + a) x)

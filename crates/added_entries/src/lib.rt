@@ -38,7 +38,7 @@ fn rest_times(s: Shape, p: &[u8]) -> [u8; 16]
 
 // Of each time and agent, time by time, whether the agent is not yet at rest.
 fn marks_of(rest: &[u8; 16], m: usize, k: usize) -> [bool; 512]
-    requires { (m ≤ 32) × (k ≤ 16) }
+    requires { (k ≤ 16) × (m * k ≤ 512) }
     ensures { result ≡ filled (marks_of rest.now k (m * k)) (replicate 512 false) }
 {
     let mut marks = [false; 512];

@@ -7,7 +7,6 @@ mod tree;
 
 ghost use Rattle.std.specs.Prelude.{◌≡◌, ◌||◌, [], ◌∷◌, ◌++◌, ◌+◌, ◌*◌, ◌≤◌, ◌<◌, min, length, get_or, ltb, eqb};
 ghost use Rattle.lists.specs.Loop.{when};
-ghost use Rattle.instance.specs.Limits.{Limits};
 ghost use Rattle.formula.specs.Variables.{variable_count};
 ghost use Rattle.plan.specs.Plan.{plan_bytes, plan_row};
 ghost use Rattle.valuation.specs.Valuation.{true?};
@@ -20,7 +19,7 @@ ghost use Rattle.added_satisfaction.specs.Search.{Searched};
 
 use assignment::Assignment;
 use counting::{Ceiling, Subtree};
-use instance::Sizes;
+use instance::Shape;
 use tree::tree_fault;
 
 // Does the agent of byte i of the plan keep its vertex in the step, or is the variable true?
@@ -33,15 +32,14 @@ fn keeps_or(of: Assignment, p: &[u8], k: usize, i: usize, z: usize) -> bool
 }
 
 // The moves: the first agent and step with the vertex left and B false, and of its moves that of the vertex.
-fn moves_fault(s: Sizes, of: Assignment, p: &[u8]) -> Result<usize, usize>
-    requires limits { Limits s }
-    requires entries_len { variable_count s + s.m * s.k ≤ length of.entries.now }
-    requires p_len { (length p.now ≡ plan_bytes s) × Places s (true? of.entries.now) (plan_row s p.now) }
-    ensures { Searched of.entry.entries.now (moves s) result }
+fn moves_fault(s: Shape, of: Assignment, p: &[u8]) -> Result<usize, usize>
+    requires entries_len { variable_count s.sizes + s.sizes.m * s.sizes.k ≤ length of.entries.now }
+    requires p_len { (length p.now ≡ plan_bytes s.sizes) × Places s.sizes (true? of.entries.now) (plan_row s.sizes p.now) }
+    ensures { Searched of.entry.entries.now (moves s.sizes) result }
 {
-    let n = s.n;
-    let k = s.k;
-    let count = s.m * k;
+    let n = s.sizes.n;
+    let k = s.sizes.k;
+    let count = s.sizes.m * k;
     let first = counts::variable_count(s) + 1;
     for i in 0..count {
         if !keeps_or(of, p, k, i, first + i) {
@@ -52,13 +50,13 @@ fn moves_fault(s: Sizes, of: Assignment, p: &[u8]) -> Result<usize, usize>
 }
 
 // The chain: the first B that is false where the agent's next is true.
-fn chain_fault(s: Sizes, of: Assignment) -> Result<usize, usize>
-    requires limits { Limits s × (1 ≤ s.m) }
-    requires entries_len { variable_count s + s.m * s.k ≤ length of.entries.now }
-    ensures { Searched of.entry.entries.now (chain s) result }
+fn chain_fault(s: Shape, of: Assignment) -> Result<usize, usize>
+    requires m_nonzero { 1 ≤ s.sizes.m }
+    requires entries_len { variable_count s.sizes + s.sizes.m * s.sizes.k ≤ length of.entries.now }
+    ensures { Searched of.entry.entries.now (chain s.sizes) result }
 {
-    let k = s.k;
-    let size = (s.m - 1) * k;
+    let k = s.sizes.k;
+    let size = (s.sizes.m - 1) * k;
     let first = counts::variable_count(s) + 1;
     for i in 0..size {
         if !of.implies(first + i + k, first + i) {
@@ -84,14 +82,14 @@ fn limit_fault(of: Assignment, tree: Subtree, next: usize) -> Result<usize, usiz
 }
 
 // The clauses of the counting tree, and the limit.
-fn counted_fault(s: Sizes, c: usize, of: Assignment) -> Result<usize, usize>
-    requires limits { Limits s × (1 ≤ s.m) × (c ≤ 128) }
-    requires entries_len { variable_count s + s.m * s.k + variables_over c (s.m * s.k) ≤ length of.entries.now }
-    ensures { Searched of.entry.entries.now (counters s c ++ limit s c) result }
+fn counted_fault(s: Shape, ceiling: Ceiling, of: Assignment) -> Result<usize, usize>
+    requires m_nonzero { 1 ≤ s.sizes.m }
+    requires entries_len { variable_count s.sizes + s.sizes.m * s.sizes.k + variables_over ceiling.c (s.sizes.m * s.sizes.k) ≤ length of.entries.now }
+    ensures { Searched of.entry.entries.now (counters s.sizes ceiling.c ++ limit s.sizes ceiling.c) result }
 {
     let tree = Subtree {
-        ceiling: Ceiling { c },
-        l: s.m * s.k,
+        ceiling,
+        l: s.sizes.m * s.sizes.k,
         x: counts::variable_count(s),
     };
     let passed = tree_fault(of, tree, tree.x + tree.l)?;
@@ -102,14 +100,12 @@ fn counted_fault(s: Sizes, c: usize, of: Assignment) -> Result<usize, usize>
 }
 
 // The number of the added clauses, or the place of the first without a true literal.
-pub fn added_fault(s: Sizes, c: usize, entries: &[i32], p: &[u8]) -> Result<usize, usize>
-    requires limits { Limits s }
-    requires c_bound { c ≤ 128 }
-    requires valuation { Valuation (ceiling_variables s c) entries.now }
-    requires p_len { (length p.now ≡ plan_bytes s) × Places s (true? entries.now) (plan_row s p.now) }
-    ensures { Searched entries.now (added_clauses s c) result }
+pub fn added_fault(s: Shape, ceiling: Ceiling, entries: &[i32], p: &[u8]) -> Result<usize, usize>
+    requires valuation { Valuation (ceiling_variables s.sizes ceiling.c) entries.now }
+    requires p_len { (length p.now ≡ plan_bytes s.sizes) × Places s.sizes (true? entries.now) (plan_row s.sizes p.now) }
+    ensures { Searched entries.now (added_clauses s.sizes ceiling.c) result }
 {
-    if s.m == 0 {
+    if s.sizes.m == 0 {
         return Ok(0);
     }
     let of = Assignment { entries };
@@ -118,7 +114,7 @@ pub fn added_fault(s: Sizes, c: usize, entries: &[i32], p: &[u8]) -> Result<usiz
         Ok(chain) => moves + chain,
         Err(place) => return Err(moves + place),
     };
-    match counted_fault(s, c, of) {
+    match counted_fault(s, ceiling, of) {
         Ok(size) => Ok(before + size),
         Err(place) => Err(before + place),
     }

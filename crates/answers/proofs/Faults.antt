@@ -1,20 +1,14 @@
 -- How a loop over the items of a question comes to the first that fails, and what that says of all of them.
-use mathlib.Core.Path.{◌≡◌, refl, sym, ◌∙◌, ap, subst}
-use mathlib.Core.List.{List}
+use mathlib.Core.Path.{◌≡◌, refl, sym, ◌∙◌, subst}
 use mathlib.Core.Logic.{by_cases}
 use mathlib.Core.Bool.{Bool, true, false, not, cond}
-use Prim.Native.Nat.{ℕ, zero, suc, ◌≤◌, ◌<◌}
+use Prim.Native.Nat.{ℕ, zero, suc, ◌<◌}
 use native.Mathlib.Nat.{not-suc-le-zero}
 use native.Mathlib.Decide.{dec_lt}
 use native.Mathlib.Omega.{arith}
 use borrow.Author.Tests.{eq-eqb, ne_eqb}
-use lib.ListN.{length, get_or}
 use lib.Dec.{T, eqb}
-use Rattle.std.specs.Prelude.{Option, None, Some, is_none, position}
-use Rattle.std.specs.List.{position_or_len, zip}
-use Rattle.std.proofs.lemmas.Slice.Zip.{length-zip, get_or-zip}
-use Rattle.std.proofs.lemmas.Bool.{lt-ltb, le-ltb}
-use Rattle.std.proofs.lemmas.List.Sums.{prefix_len-le-length, fails_before_first, passes_at_first}
+use Rattle.std.specs.Prelude.{Option, None, Some, is_none}
 use Rattle.lists.specs.Loop.{some, every, first}
 use Rattle.lists.proofs.Tests.{below_zero, below_suc, not_iff, some_iff, every_iff}
 use Rattle.answers.specs.Fault.{FirstFault, FirstFailing}
@@ -106,30 +100,3 @@ failing_ext r e = failing_map r (λ i. fault_ext e)
 pub failing_every : (n : ℕ) (test : ℕ → Bool) (r : Option ℕ) → FirstFailing n test r → is_none r ≡ every n test
 failing_every n test None f = sym (eq-eqb n n refl) ∙ fault_every n test n f
 failing_every n test (Some i) (l, f) = sym (ne_eqb i n (omega arith)) ∙ fault_every n test i f
-
--- the first item of a list that passes p, as the library finds it, is the first that fails the opposite
-module _ {X : Type 0} (p : X → Bool) (xs : List X) (d : X) where
-  abbrev at : ℕ
-  at = position_or_len p xs
-
-  fault_position : FirstFault (length xs) (λ i. not (p (get_or xs i d))) at
-  fault_position =
-      record {
-        within = prefix_len-le-length (λ x. not (p x)) xs;
-        before = λ i l. rw (fails_before_first p xs i d l) tt;
-        here = λ l. rw (passes_at_first p xs d l) (λ t. t);
-      }
-
-  pub failing_position : (r : Option ℕ) → r ≡ position p xs → FirstFailing (length xs) (λ i. not (p (get_or xs i d))) r
-  failing_position r e =
-      by_cases (dec_lt at (length xs))
-      (λ l. rw (e, lt-ltb at (length xs) l) (l, fault_position))
-      (λ l. rw (e, le-ltb at (length xs) (omega arith)) (fault_none (omega (arith, fault_position.within)) fault_position.before))
-
--- the same of two lists side by side
-pub failing_zip : {X Y : Type 0} (p : X × Y → Bool) (xs : List X) (ys : List Y) (d : X) (e : Y) → length xs ≤ length ys
-    → (r : Option ℕ) → r ≡ position p (zip xs ys) → FirstFailing (length xs) (λ i. not (p (get_or xs i d, get_or ys i e))) r
-failing_zip p xs ys d e l r h =
-    let n : length (zip xs ys) ≡ length xs = length-zip xs ys ∙ omega arith in
-    failing_ext r (λ i o. ap (λ z. not (p z)) (get_or-zip xs ys i (d, e) o (omega arith)))
-    (subst (λ (k : ℕ). FirstFailing k (λ i. not (p (get_or (zip xs ys) i (d, e)))) r) n (failing_position p (zip xs ys) (d, e) r h))

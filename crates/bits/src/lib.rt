@@ -27,7 +27,7 @@ fn lowest_bits(n: usize) -> u64
     ensures { result + 1 ≡ 2 ^ n }
 {
     if n == 64 {
-        return 18446744073709551615;
+        return u64::MAX;
     }
     (1u64 << n as u64) - 1
 }

@@ -70,7 +70,7 @@ pub fn row_for(table: &[[u8; 64]], vertices: &[u8; 16], a: usize) -> [u8; 64]
     requires { (a < 16) × (get_or vertices.now a 0 < length table.now) }
     ensures { result ≡ get_or table.now (get_or vertices.now a 0) [] }
 {
-    let v = numbers::wide(vertices[a]);
+    let v = usize::from(vertices[a]);
     table[v]
 }
 

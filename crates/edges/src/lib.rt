@@ -25,13 +25,7 @@ fn bits_below(word: u64, v: usize) -> usize
     requires { v ≤ 64 }
     ensures { (result ≡ length (for v λ w. when (set? word w) (w ∷ []))) × (result ≤ v) }
 {
-    let mut count: usize = 0;
-    for w in 0..v {
-        if bits::has_bit(word, w) {
-            count += 1;
-        }
-    }
-    count
+    (0..v).filter(|w| bits::has_bit(word, *w)).count()
 }
 
 // The bit at a place among those below bit n that are set.
@@ -39,16 +33,10 @@ fn bit_at(word: u64, n: usize, place: usize) -> usize
     requires { (n ≤ 64) × (place < length (for n λ w. when (set? word w) (w ∷ []))) }
     ensures { (result < n) × T (set? word result) × (length (for result λ w. when (set? word w) (w ∷ [])) ≡ place) }
 {
-    let mut before: usize = 0;
-    for w in 0..n {
-        if bits::has_bit(word, w) {
-            if before == place {
-                return w;
-            }
-            before += 1;
-        }
-    }
-    n
+    let Some(w) = (0..n).filter(|w| bits::has_bit(word, *w)).nth(place) else {
+        unreachable!()
+    };
+    w
 }
 
 // How many edges come before the one with the ends u and v.
@@ -79,5 +67,5 @@ pub fn edge_at(near: &[u64; 64], n: usize, j: usize) -> Edge
         }
         rest -= count;
     }
-    Edge { low: n, high: n }
+    unreachable!()
 }

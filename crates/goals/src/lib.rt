@@ -16,13 +16,7 @@ pub fn count(goals: &[u8; 16], k: usize) -> usize
     requires { k ≤ 16 }
     ensures { (result ≡ goal_count k (λ a. get_or goals.now a 0)) × (result ≤ k) }
 {
-    let mut count: usize = 0;
-    for a in 0..k {
-        if !is_free(goals[a]) {
-            count += 1;
-        }
-    }
-    count
+    (0..k).filter(|a| !is_free(goals[*a])).count()
 }
 
 // The agent at a place among those of the first k that have a goal.
@@ -30,14 +24,8 @@ pub fn agent_at(goals: &[u8; 16], k: usize, place: usize) -> usize
     requires { (k ≤ 16) × (place < goal_count k (λ a. get_or goals.now a 0)) }
     ensures { (result < k) × HasGoal (get_or goals.now result 0) × (goal_count result (λ a. get_or goals.now a 0) ≡ place) }
 {
-    let mut before: usize = 0;
-    for a in 0..k {
-        if !is_free(goals[a]) {
-            if before == place {
-                return a;
-            }
-            before += 1;
-        }
-    }
-    k
+    let Some(a) = (0..k).filter(|a| !is_free(goals[*a])).nth(place) else {
+        unreachable!()
+    };
+    a
 }

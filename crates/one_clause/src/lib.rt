@@ -109,7 +109,10 @@ fn put_end_of(f: &mut [i32], s: Shape, t: Step, row: &[u8; 16], a: usize) -> usi
     ensures { Wrote (line (X s.sizes t.0 a (get_or row.now a 0) ∷ [])) f.old f.new result }
 {
     let v = row[a];
-    clauses::put_unit(f, clauses::positive(s, t, Agent(a), Vertex(usize::from(v))))
+    clauses::put_clause(
+        f,
+        [clauses::positive(s, t, Agent(a), Vertex(usize::from(v)))],
+    )
 }
 
 // Families D and E: clause p of those that two different numbers below n are not both true, by the literal of each.
@@ -120,7 +123,7 @@ fn put_two<L: Fn(usize) -> i32>(f: &mut [i32], n: usize, p: usize, literal: L) -
     ensures { (¬x : ℕ → Literal) → ((v : ℕ) (r : ℤ) → v < n → L.post literal v r → r ≡ ¬x v) → Wrote (line_at (no_two n ¬x) p) f.old f.new result }
 {
     let pair = pair_of(n, p);
-    clauses::put_pair(f, literal(pair.low), literal(pair.high))
+    clauses::put_clause(f, [literal(pair.low), literal(pair.high)])
 }
 
 // The agent at a place among those other than a.
@@ -143,11 +146,11 @@ fn put_following(f: &mut [i32], s: Shape, t: Step, a: Agent, p: usize) -> usize
     let b = Agent(other(a.0, p / s.sizes.n));
     let v = Vertex(p % s.sizes.n);
     let next = Step(t.0 + 1);
-    clauses::put_pair(
-        f,
+    let literals = [
         clauses::negative(s, t, b, v),
         clauses::negative(s, next, a, v),
-    )
+    ];
+    clauses::put_clause(f, literals)
 }
 
 // Family G under rule 2: agents a and b do not exchange the ends of an edge.
@@ -158,13 +161,13 @@ fn put_exchange(f: &mut [i32], s: Shape, t: Step, edge: Edge, a: Agent, b: Agent
     let low = Vertex(edge.low);
     let high = Vertex(edge.high);
     let next = Step(t.0 + 1);
-    clauses::put_four(
-        f,
+    let literals = [
         clauses::negative(s, t, a, low),
         clauses::negative(s, next, a, high),
         clauses::negative(s, t, b, high),
         clauses::negative(s, next, b, low),
-    )
+    ];
+    clauses::put_clause(f, literals)
 }
 
 // Family G under rule 2: the clause at a place, by time, edge and two agents.

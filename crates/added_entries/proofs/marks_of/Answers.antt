@@ -7,7 +7,7 @@ use Rattle.added_entries.proofs.Laws.{marking_from, marking_next}
 use Rattle.added_entries.proofs.marks_of.Goals as goal
 
 pub loop-t-init : goal.loop-t-init
-loop-t-init c = rw (zero-mul c.args.k) (marking_from c.args.rest.now c.args.m c.args.k c.requires.0 c.requires.1)
+loop-t-init c = rw (zero-mul c.args.k) (marking_from c.args.rest.now c.args.m c.args.k c.requires.1)
 
 pub loop-a-preserved : goal.loop-a-preserved
 loop-a-preserved c =

@@ -18,6 +18,11 @@ pub returns-then-l-eq0 : goal.returns-then-l-eq0
 returns-then-l-eq0 c =
     sym (ap (λ (out : List ℤ). filled out c.args.z.now) (none_added c.args.s.sizes c.args.p.now c.args.ceiling.c c.if-l-eq0.true) ∙ filled_nil _)
 
+pub marks_of-marks-requires : goal.marks_of-marks-requires
+marks_of-marks-requires c =
+    let known : Added c.args.s c.args.c = added c.args.s c.requires.limits c.args.c in
+    (c.requires.limits.k_most, known.inputs)
+
 pub write_entries-requires-clause-n_bound : goal.write_entries-requires-clause-n_bound
 write_entries-requires-clause-n_bound c =
     let known : Added c.args.s.sizes c.args.ceiling.c = added c.args.s.sizes c.args.s.limits c.args.ceiling.c in

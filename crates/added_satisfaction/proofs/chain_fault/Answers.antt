@@ -8,9 +8,9 @@ pub returns-then-not-implies : goal.returns-then-not-implies
 returns-then-not-implies c =
     let l = c.loop-i in
     let e = c.variable_count-first.ensures.0 in
-    chain_fails c.args.s c.args.of.entries.now l.i c.loop-i-test.true (rw e at l.invariant) (fails (rw e at c.implies.ensures) c.if-not-implies.true)
+    chain_fails c.args.s.sizes c.args.of.entries.now l.i c.loop-i-test.true (rw e at l.invariant) (fails (rw e at c.implies.ensures) c.if-not-implies.true)
 
 pub returns : goal.returns
 returns c =
     let l = c.loop-i in
-    chain_passes c.args.s c.args.of.entries.now l.i (omega arith) (rw c.variable_count-first.ensures.0 at l.invariant)
+    chain_passes c.args.s.sizes c.args.of.entries.now l.i (omega arith) (rw c.variable_count-first.ensures.0 at l.invariant)

@@ -10,25 +10,25 @@ use Rattle.added_satisfaction.proofs.counted_fault.Goals as goal
 
 pub returns-in_err-passed : goal.returns-in_err-passed
 returns-in_err-passed c =
-    let f : Fails c.args.of.entries.now (counters c.args.s c.args.c ++ limit c.args.s c.args.c) c.in_err-passed.field-0.0 = counters_fails c.args.s c.args.c c.args.of.entries.now (rw c.variable_count.ensures.0 at c.in_err-passed.ensures) in
+    let f : Fails c.args.of.entries.now (counters c.args.s.sizes c.args.ceiling.c ++ limit c.args.s.sizes c.args.ceiling.c) c.in_err-passed.field-0.0 = counters_fails c.args.s.sizes c.args.ceiling.c c.args.of.entries.now (rw c.variable_count.ensures.0 at c.in_err-passed.ensures) in
     search rules
 
 pub returns-in-Ok : goal.returns-in-Ok
 returns-in-Ok c =
     let v = c.variable_count.ensures.0 in
     let passed = rw v at c.in_ok-passed.ensures in
-    limit_passes c.args.s c.args.c c.args.of.entries.now passed.0 (inputs_some c.args.s c.requires.limits.0 c.requires.limits.1) _ passed.1 (rw v at c.in-Ok.ensures)
+    limit_passes c.args.s.sizes c.args.ceiling.c c.args.of.entries.now passed.0 (inputs_some c.args.s.sizes c.args.s.limits c.requires.m_nonzero) _ passed.1 (rw v at c.in-Ok.ensures)
 
 pub returns-in-Err : goal.returns-in-Err
 returns-in-Err c =
     let v = c.variable_count.ensures.0 in
     let passed = rw v at c.in_ok-passed.ensures in
-    limit_fails c.args.s c.args.c c.args.of.entries.now passed.0 (inputs_some c.args.s c.requires.limits.0 c.requires.limits.1) _ passed.1 (rw v at c.in-Err.ensures)
+    limit_fails c.args.s.sizes c.args.ceiling.c c.args.of.entries.now passed.0 (inputs_some c.args.s.sizes c.args.s.limits c.requires.m_nonzero) _ passed.1 (rw v at c.in-Err.ensures)
 
 pub overflow_add-result : goal.overflow_add-result
 overflow_add-result c =
-    let some = inputs_some c.args.s c.requires.limits.0 c.requires.limits.1 in
+    let some = inputs_some c.args.s.sizes c.args.s.limits c.requires.m_nonzero in
     let v = c.variable_count.ensures.0 in
     let passed = rw v at c.in_ok-passed.ensures in
-    let all = limit_passes c.args.s c.args.c c.args.of.entries.now passed.0 some _ passed.1 (rw v at c.in-Ok.ensures) in
-    omega (arith, all.count, counted_most c.args.s c.args.c c.args.of.entries.now c.requires.limits.2 some (agent_steps c.args.s c.requires.limits.0))
+    let all = limit_passes c.args.s.sizes c.args.ceiling.c c.args.of.entries.now passed.0 some _ passed.1 (rw v at c.in-Ok.ensures) in
+    omega (arith, all.count, counted_most c.args.s.sizes c.args.ceiling.c c.args.of.entries.now c.args.ceiling.c_most some (agent_steps c.args.s.sizes c.args.s.limits))

@@ -9,10 +9,10 @@ returns-then-not-keeps_or c =
     let l = c.loop-i in
     let e = c.variable_count-first.ensures.0 in
     rw c.from.ensures
-    (moves_fails c.args.s c.args.of.entries.now c.args.p.now c.requires.p_len.1 l.i c.loop-i-test.true (rw e at l.invariant)
+    (moves_fails c.args.s.sizes c.args.of.entries.now c.args.p.now c.requires.p_len.1 l.i c.loop-i-test.true (rw e at l.invariant)
     (fails (rw e at c.keeps_or.ensures) c.if-not-keeps_or.true))
 
 pub returns : goal.returns
 returns c =
     let l = c.loop-i in
-    moves_passes c.args.s c.args.of.entries.now c.args.p.now c.requires.p_len.1 l.i (omega arith) (rw c.variable_count-first.ensures.0 at l.invariant)
+    moves_passes c.args.s.sizes c.args.of.entries.now c.args.p.now c.requires.p_len.1 l.i (omega arith) (rw c.variable_count-first.ensures.0 at l.invariant)

@@ -7,31 +7,6 @@ use Rattle.answers.proofs.Faults.{failing_map}
 use Rattle.conditions.specs.Conditions.{place_of}
 use Rattle.conditions.proofs.step_fault.Goals as goal
 
-pub overflow_mul-row : goal.overflow_mul-row
-overflow_mul-row c =
-    let known : Rows c.args.s c.args.p.now c.args.t = rows _ _ _ c.requires.p_len.0 c.requires.p_len.1 in
-    omega (arith, known)
-
-pub overflow_add-next : goal.overflow_add-next
-overflow_add-next c =
-    let known : Rows c.args.s c.args.p.now c.args.t = rows _ _ _ c.requires.p_len.0 c.requires.p_len.1 in
-    omega (arith, known)
-
-pub overflow_add-end : goal.overflow_add-end
-overflow_add-end c =
-    let known : Rows c.args.s c.args.p.now c.args.t = rows _ _ _ c.requires.p_len.0 c.requires.p_len.1 in
-    omega (arith, known)
-
-pub slice_bounds-fault-end : goal.slice_bounds-fault-end
-slice_bounds-fault-end c =
-    let known : Rows c.args.s c.args.p.now c.args.t = rows _ _ _ c.requires.p_len.0 c.requires.p_len.1 in
-    omega (arith, known)
-
-pub slice_bounds-fault-end-2 : goal.slice_bounds-fault-end-2
-slice_bounds-fault-end-2 c =
-    let known : Rows c.args.s c.args.p.now c.args.t = rows _ _ _ c.requires.p_len.0 c.requires.p_len.1 in
-    omega (arith, known)
-
 pub fault-requires : goal.fault-requires
 fault-requires c =
     let known : Rows c.args.s c.args.p.now c.args.t = rows _ _ _ c.requires.p_len.0 c.requires.p_len.1 in

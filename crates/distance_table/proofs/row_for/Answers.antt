@@ -6,4 +6,4 @@ use lib.ListN.{get_or}
 use Rattle.distance_table.proofs.row_for.Goals as goal
 
 pub returns : goal.returns
-returns c = ap (λ (v : ℕ). get_or c.args.table.now v []) c.wide-v.ensures.0
+returns c = ap (λ (v : ℕ). get_or c.args.table.now v []) c.from-v.ensures

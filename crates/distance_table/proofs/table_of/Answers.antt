@@ -7,9 +7,6 @@ use Rattle.distance_table.proofs.table_of.Goals as goal
 pub loop-v-init : goal.loop-v-init
 loop-v-init c = rows_none refl
 
-pub bounds-table-v : goal.bounds-table-v
-bounds-table-v c = omega arith
-
 pub loop-v-preserved : goal.loop-v-preserved
 loop-v-preserved c = rows_next c.requires.0 c.loop-v.invariant c.loop-v-test.true c.row_of.result c.row_of.ensures.1
 

@@ -1,10 +1,6 @@
 -- `distance_table::table_of` meets its contract. The invariant: the rows so far are filled. Assumes nothing.
-use Prim.Native.Nat.{◌-◌}
 use Rattle.distance_table.proofs.Laws.{Rows}
 use Rattle.distance_table.proofs.table_of.Given as goal
 
 abbrev pub invariant-loop-v : goal.invariant-loop-v
 invariant-loop-v l = Rows l.n l.near l.v l.table
-
-abbrev pub decreases-loop-v : goal.decreases-loop-v
-decreases-loop-v l = l.n - l.v

@@ -1,24 +1,24 @@
--- `edges::bit_at` meets its contract. The loop keeps how many bits so far are set, and they are not more than the place. Assumes nothing.
-use mathlib.Core.Logic.{⊎_elim}
+-- `edges::bit_at` meets its contract: the library's filter gives the bits that are set, in their order. Assumes nothing.
+use mathlib.Core.Path.{sym}
 use native.Mathlib.Omega.{arith}
-use Rattle.lists.proofs.Passing.{seeking_from, seeking_found, seeking_yes, seeking_no, seeking_done}
+use borrow.Author.Tests.{tests}
+use Rattle.std.proofs.Common.{rules}
+use Rattle.std.proofs.lemmas.Iterator.{YieldsList-from_range}
+use Rattle.std.proofs.lemmas.Iterator.Consumers.{YieldsList-from_filter, nth_from_yields_List}
+use Rattle.lists.proofs.Passing.{among_at, among_none}
 use Rattle.bits.specs.Bits.{set?}
 use Rattle.edges.proofs.bit_at.Goals as goal
 
-pub loop-w-init : goal.loop-w-init
-loop-w-init c = seeking_from _
-
-pub returns-then-before-place : goal.returns-then-before-place
-returns-then-before-place c = seeking_found (set? c.args.word) c.loop-w.invariant c.loop-w-test.true c.has_bit.ensures c.if-has_bit.true c.if-before-place.true
-
-pub loop-w-preserved : goal.loop-w-preserved
-loop-w-preserved c =
+pub unreachable-requires : goal.unreachable-requires
+unreachable-requires c =
     let test = set? c.args.word in
-    let t = c.loop-w-test.true in
-    ⊎_elim
-    (λ w. rw w.before-is (seeking_yes test c.loop-w.invariant t c.has_bit.ensures w.if-has_bit.true w.if-before-place.false))
-    (λ w. rw w.before-is (seeking_no test c.loop-w.invariant t c.has_bit.ensures w.if-has_bit.false))
-    c.if-has_bit.branch-raw
+    let n = c.args.n in
+    let e = nth_from_yields_List c.nth.result c.nth.new.self c.args.place c.nth.ensures.ran (YieldsList-from_filter _ test (YieldsList-from_range 0 n n c.filter.ensures.source (omega arith)) c.filter.ensures.closure (λ x r q k. search (rules, tests))) in
+    among_none test n c.args.place (rw c.in_default.is at (sym e)) c.requires.1
 
 pub returns : goal.returns
-returns c = absurd (seeking_done (set? c.args.word) c.loop-w.invariant (omega arith) c.requires.1)
+returns c =
+    let test = set? c.args.word in
+    let n = c.args.n in
+    let e = nth_from_yields_List c.nth.result c.nth.new.self c.args.place c.nth.ensures.ran (YieldsList-from_filter _ test (YieldsList-from_range 0 n n c.filter.ensures.source (omega arith)) c.filter.ensures.closure (λ x r q k. search (rules, tests))) in
+    among_at test n c.args.place c.in-Some.w (rw c.in-Some.is at (sym e))

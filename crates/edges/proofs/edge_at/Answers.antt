@@ -22,8 +22,8 @@ returns-then-rest-count c =
 pub loop-low-preserved : goal.loop-low-preserved
 loop-low-preserved c = (omega arith, rw add-one (omega (arith, c.loop-low.invariant.1, c.count_from-count.ensures.0, c.if-rest-count.false)))
 
-pub returns : goal.returns
+pub unreachable-requires : goal.unreachable-requires
 unfolding edges_before
-returns c =
+unreachable-requires c =
     let e : c.loop-low.low ≡ c.args.n = omega arith in
     absurd (let f : ⊥ = omega (arith, c.requires.2, c.loop-low.invariant.1, ap (lower_edges c.args.near.now c.args.n) e) in f)

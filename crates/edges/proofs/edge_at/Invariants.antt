@@ -1,11 +1,8 @@
 -- `edges::edge_at` meets its contract. The loop keeps how many edges stand between those with a lower low end and the place. Assumes nothing.
 use mathlib.Core.Path.{◌≡◌}
-use Prim.Native.Nat.{◌+◌, ◌-◌, ◌≤◌}
+use Prim.Native.Nat.{◌+◌, ◌≤◌}
 use Rattle.edges.proofs.Laws.{lower_edges}
 use Rattle.edges.proofs.edge_at.Given as goal
 
 abbrev pub invariant-loop-low : goal.invariant-loop-low
 invariant-loop-low l = (l.low ≤ l.n) × (l.j ≡ lower_edges l.near l.n l.low + l.rest)
-
-abbrev pub decreases-loop-low : goal.decreases-loop-low
-decreases-loop-low l = l.n - l.low

@@ -1,37 +1,30 @@
--- `goals::agent_at` meets its contract. The loop keeps how many agents so far have a goal, and they are not more than the place.
--- Assumes nothing.
-use mathlib.Core.Path.{ap}
-use mathlib.Core.Logic.{⊎_elim}
-use mathlib.Core.Bool.{not}
+-- `goals::agent_at` meets its contract: the library's filter gives the agents that have a goal, in their order. Assumes nothing.
+use mathlib.Core.Path.{sym}
 use Prim.Native.Nat.{ℕ}
 use native.Mathlib.Omega.{arith}
+use borrow.Author.Tests.{tests}
 use lib.ListN.{get_or}
-use Rattle.lists.proofs.Passing.{seeking_from, seeking_found, seeking_yes, seeking_no, seeking_done}
+use Rattle.std.proofs.Common.{rules}
+use Rattle.std.proofs.lemmas.Iterator.{YieldsList-from_range}
+use Rattle.std.proofs.lemmas.Iterator.Consumers.{YieldsList-from_filter, nth_from_yields_List}
+use Rattle.lists.proofs.Passing.{among_at, among_none}
 use Rattle.instance.specs.Instance.{goal_count}
 use Rattle.instance.proofs.Goals.{has, has_goal}
 use Rattle.goals.proofs.agent_at.Goals as goal
 
-pub loop-a-init : goal.loop-a-init
-loop-a-init c = seeking_from _
-
-pub returns-then-before-place : goal.returns-then-before-place
+pub unreachable-requires : goal.unreachable-requires
 unfolding goal_count
-returns-then-before-place c =
-    let goal : ℕ → ℕ = λ i. get_or c.args.goals.now i 0 in
-    let (l, t, e) = seeking_found (has goal) c.loop-a.invariant c.loop-a-test.true (ap not c.is_free.ensures) c.if-not-is_free.true-raw c.if-before-place.true in
-    (l, has_goal (goal c.loop-a.a) t, e)
-
-pub loop-a-preserved : goal.loop-a-preserved
-loop-a-preserved c =
-    let goal : ℕ → ℕ = λ i. get_or c.args.goals.now i 0 in
-    let l = c.loop-a in
-    let t = c.loop-a-test.true in
-    let e = ap not c.is_free.ensures in
-    ⊎_elim
-    (λ w. rw w.before-is (seeking_yes (has goal) l.invariant t e w.if-not-is_free.true-raw w.if-before-place.false))
-    (λ w. rw w.before-is (seeking_no (has goal) l.invariant t e w.if-not-is_free.false-raw))
-    c.if-not-is_free.branch-raw
+unreachable-requires c =
+    let test = has λ (i : ℕ). get_or c.args.goals.now i 0 in
+    let k = c.args.k in
+    let e = nth_from_yields_List c.nth.result c.nth.new.self c.args.place c.nth.ensures.ran (YieldsList-from_filter _ test (YieldsList-from_range 0 k k c.filter.ensures.source (omega arith)) c.filter.ensures.closure (λ x r q k. search (rules, tests))) in
+    among_none test k c.args.place (rw c.in_default.is at (sym e)) c.requires.1
 
 pub returns : goal.returns
 unfolding goal_count
-returns c = absurd (seeking_done (has λ i. get_or c.args.goals.now i 0) c.loop-a.invariant (omega arith) c.requires.1)
+returns c =
+    let test = has λ (i : ℕ). get_or c.args.goals.now i 0 in
+    let k = c.args.k in
+    let e = nth_from_yields_List c.nth.result c.nth.new.self c.args.place c.nth.ensures.ran (YieldsList-from_filter _ test (YieldsList-from_range 0 k k c.filter.ensures.source (omega arith)) c.filter.ensures.closure (λ x r q k. search (rules, tests))) in
+    let (l, t, h) = among_at test k c.args.place c.in-Some.a (rw c.in-Some.is at (sym e)) in
+    (l, has_goal (get_or c.args.goals.now c.in-Some.a 0) t, h)

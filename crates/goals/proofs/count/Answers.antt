@@ -1,30 +1,22 @@
--- `goals::count` meets its contract. The loop keeps the count of the agents so far. Assumes nothing.
-use mathlib.Core.Path.{◌≡◌, refl, ◌∙◌, ap}
-use mathlib.Core.Logic.{⊎_elim}
-use mathlib.Core.Bool.{not}
+-- `goals::count` meets its contract: the library's filter, counted. Assumes nothing.
+use mathlib.Core.Path.{◌∙◌}
 use Prim.Native.Nat.{ℕ}
 use native.Mathlib.Omega.{arith}
+use borrow.Author.Tests.{tests}
 use lib.ListN.{get_or}
-use Rattle.lists.proofs.Passing.{passing_yes, passing_no}
+use Rattle.std.proofs.Common.{rules}
+use Rattle.std.proofs.lemmas.Iterator.{YieldsList-from_range}
+use Rattle.std.proofs.lemmas.Iterator.Consumers.{YieldsList-from_filter, count_from_yields_List}
+use Rattle.lists.proofs.Passing.{among_count}
+use Rattle.lists.proofs.Sums.{when_count, count_most}
 use Rattle.instance.specs.Instance.{goal_count}
 use Rattle.instance.proofs.Goals.{has}
 use Rattle.goals.proofs.count.Goals as goal
 
-pub loop-a-init : goal.loop-a-init
-unfolding goal_count
-loop-a-init c = (omega arith, refl, omega arith)
-
-pub loop-a-preserved : goal.loop-a-preserved
-unfolding goal_count
-loop-a-preserved c =
-    let goal : ℕ → ℕ = λ i. get_or c.args.goals.now i 0 in
-    let l = c.loop-a in
-    ⊎_elim
-    (λ w. (omega arith, rw w.count-is (omega (arith, passing_yes (has goal) l.a (ap not c.is_free.ensures) w.if-not-is_free.true-raw, l.invariant.1)), rw w.count-is (omega (arith, l.invariant.2))))
-    (λ w. (omega arith, rw w.count-is (omega (arith, passing_no (has goal) l.a (ap not c.is_free.ensures) w.if-not-is_free.false-raw, l.invariant.1)), rw w.count-is (omega (arith, l.invariant.2))))
-    c.if-not-is_free.branch-raw
-
 pub returns : goal.returns
+unfolding goal_count
 returns c =
-    let e : c.loop-a.a ≡ c.args.k = omega arith in
-    (c.loop-a.invariant.1 ∙ ap (λ (j : ℕ). goal_count j (λ i. get_or c.args.goals.now i 0)) e, omega arith)
+    let test = has λ (i : ℕ). get_or c.args.goals.now i 0 in
+    let k = c.args.k in
+    let e = count_from_yields_List c.filter.result c.count.result c.count.ensures.ran (YieldsList-from_filter _ test (YieldsList-from_range 0 k k c.filter.ensures.source (omega arith)) c.filter.ensures.closure (λ x r q k. search (rules, tests))) ∙ among_count test k in
+    (e, omega (arith, e, when_count k test (λ w. w), count_most k test))

@@ -5,11 +5,11 @@ use borrow.Author.Rules.{sfits_of}
 use Rattle.one_clause.proofs.Clauses.{room_put, wrote_put, pair_clause}
 use Rattle.one_clause.proofs.put_two.Goals as goal
 
-pub put_pair-requires : goal.put_pair-requires
-put_pair-requires g c = let (¬x, r) = c.requires.room in room_put (pair_clause c.args.n ¬x c.pair_of-pair.ensures) r
+pub put_clause-requires : goal.put_clause-requires
+put_clause-requires g c = let (¬x, r) = c.requires.room in (omega arith, room_put (pair_clause c.args.n ¬x c.pair_of-pair.ensures) r)
 
 pub returns : goal.returns
 returns g c ¬x h =
     let q = c.pair_of-pair.ensures in
     wrote_put (pair_clause c.args.n ¬x q) _ _
-    (rw (to_z-of_z (sfits_of c.literal.type_inv), h _ _ (omega arith) c.literal.ensures, to_z-of_z (sfits_of c.literal-2.type_inv), h _ _ q.below c.literal-2.ensures) at c.put_pair.ensures)
+    (rw (to_z-of_z (sfits_of c.literal.type_inv), h _ _ (omega arith) c.literal.ensures, to_z-of_z (sfits_of c.literal-2.type_inv), h _ _ q.below c.literal-2.ensures) at c.put_clause.ensures)
