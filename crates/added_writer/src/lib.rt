@@ -34,12 +34,12 @@ fn write_block(f: &mut [i32], s: Shape, t: Step, a: Agent) -> usize
     let next = Step(t.0 + 1);
     let z = variables::literal_of(busy(s, t, a));
     clauses::write_each(f, s.sizes.n, |f, v| {
-        tree_writer::put_three(
-            f,
+        let literals = [
             clauses::negative(s, t, a, Vertex(v)),
             clauses::positive(s, next, a, Vertex(v)),
             z,
-        )
+        ];
+        clauses::put_clause(f, literals)
     })
 }
 
@@ -69,11 +69,11 @@ fn write_chain(f: &mut [i32], s: Shape) -> usize
     let Sizes { k, m, .. } = s.sizes;
     let first = counts::variable_count(s) + 1;
     clauses::write_each(f, (m - 1) * k, |f, i| {
-        clauses::put_pair(
-            f,
+        let literals = [
             variables::negation_of(Variable(first + i + k)),
             variables::literal_of(Variable(first + i)),
-        )
+        ];
+        clauses::put_clause(f, literals)
     })
 }
 
@@ -94,7 +94,7 @@ fn write_limit(f: &mut [i32], s: Shape, ceiling: Ceiling, next: usize) -> usize
         x: counts::variable_count(s),
     };
     let before = tree.before_outputs(next);
-    clauses::put_unit(f, variables::negation_of(Variable(before + c + 1)))
+    clauses::put_clause(f, [variables::negation_of(Variable(before + c + 1))])
 }
 
 // The tree that counts the B, and the limit.

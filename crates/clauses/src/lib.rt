@@ -40,38 +40,14 @@ pub fn negative(s: Shape, t: Step, a: Agent, v: Vertex) -> i32
     variables::negation_of(variables::variable_of(s, t, a, v))
 }
 
-// A clause of one literal: families A and B.
-pub fn put_unit(f: &mut [i32], x: i32) -> usize
-    requires { 2 ≤ length f.old }
-    ensures { Wrote (line (x ∷ [])) f.old f.new result }
+// A clause of so many literals.
+pub fn put_clause<const N: usize>(f: &mut [i32], literals: [i32; N]) -> usize
+    requires { N < length f.old }
+    ensures { Wrote (line literals.entry) f.old f.new result }
 {
-    f[0] = x;
-    f[1] = 0;
-    2
-}
-
-// A clause of two literals: families D, E and, under rule 1, G.
-pub fn put_pair(f: &mut [i32], x: i32, y: i32) -> usize
-    requires { 3 ≤ length f.old }
-    ensures { Wrote (line (x ∷ y ∷ [])) f.old f.new result }
-{
-    f[0] = x;
-    f[1] = y;
-    f[2] = 0;
-    3
-}
-
-// A clause of four literals: family G under rule 2.
-pub fn put_four(f: &mut [i32], w: i32, x: i32, y: i32, z: i32) -> usize
-    requires { 5 ≤ length f.old }
-    ensures { Wrote (line (w ∷ x ∷ y ∷ z ∷ [])) f.old f.new result }
-{
-    f[0] = w;
-    f[1] = x;
-    f[2] = y;
-    f[3] = z;
-    f[4] = 0;
-    5
+    f[..N].copy_from_slice(&literals);
+    f[N] = 0;
+    N + 1
 }
 
 // A clause of family C: agent a is at some vertex at time t.

@@ -26,21 +26,13 @@ pub struct Run {
     pub count: usize,
 }
 
-// A byte as a vertex.
-fn vertex(x: u8) -> Vertex
-    ensures { result.0 ≡ x }
-{
-    Vertex(x as usize)
-}
-
 // A, and B where there is a goal, of agent a: it is at time t where its byte of a row says.
 fn write_unit(f: &mut [i32], s: Shape, t: Step, row: &[u8; 16], a: Agent) -> usize
     requires { (t.0 ≤ s.sizes.m) × (a.0 < s.sizes.k) × (get_or row.now a.0 0 < s.sizes.n) × (2 ≤ length f.old) }
     ensures { Wrote (line (X s.sizes t.0 a.0 (get_or row.now a.0 0) ∷ [])) f.old f.new result }
 {
-    let i = a.0;
-    let v = vertex(row[i]);
-    clauses::put_unit(f, clauses::positive(s, t, a, v))
+    let v = Vertex(usize::from(row[a.0]));
+    clauses::put_clause(f, [clauses::positive(s, t, a, v)])
 }
 
 // B, of agent a: at time m it is at its goal, if it has one.
@@ -49,8 +41,7 @@ fn write_goal(f: &mut [i32], s: Shape, goals: &[u8; 16], a: Agent) -> usize
     requires a_in_bounds { length (each line (block_b s.sizes (λ i. get_or goals.now i 0) a.0)) ≤ length f.old }
     ensures { Wrote (each line (block_b s.sizes (λ i. get_or goals.now i 0) a.0)) f.old f.new result }
 {
-    let i = a.0;
-    if goals::is_free(goals[i]) {
+    if goals::is_free(goals[a.0]) {
         return 0;
     }
     write_unit(f, s, Step(s.sizes.m), goals, a)
@@ -72,7 +63,7 @@ fn write_above(f: &mut [i32], run: Run, i: usize) -> usize
 {
     let next = i + 1;
     let x = not_in(run, i);
-    clauses::write_each(f, run.count - next, |f, j| clauses::put_pair(f, x, not_in(run, next + j)))
+    clauses::write_each(f, run.count - next, |f, j| clauses::put_clause(f, [x, not_in(run, next + j)]))
 }
 
 // No two of a run hold.
@@ -135,8 +126,11 @@ fn write_apart(f: &mut [i32], s: Shape, t: Step, a: Agent, b: Agent) -> usize
     }
     let next = Step(t.0 + 1);
     clauses::write_each(f, s.sizes.n, |f, v| {
-        let x = clauses::negative(s, t, b, Vertex(v));
-        clauses::put_pair(f, x, clauses::negative(s, next, a, Vertex(v)))
+        let literals = [
+            clauses::negative(s, t, b, Vertex(v)),
+            clauses::negative(s, next, a, Vertex(v)),
+        ];
+        clauses::put_clause(f, literals)
     })
 }
 
@@ -164,13 +158,13 @@ fn put_partner(
     ensures { Wrote (line (x ∷ y ∷ ¬X s.sizes t.0 b v.0 ∷ ¬X s.sizes (suc t.0) b u.0 ∷ [])) f.old f.new result }
 {
     let next = Step(t.0 + 1);
-    clauses::put_four(
-        f,
+    let literals = [
         x,
         y,
         clauses::negative(s, t, Agent(b), v),
         clauses::negative(s, next, Agent(b), u),
-    )
+    ];
+    clauses::put_clause(f, literals)
 }
 
 // Of G under rule 2, time t and agent a: with no other agent it exchanges u and v. Those below it and those above it have loops of their

@@ -33,7 +33,7 @@ fn write_vertex(f: &mut [i32], s: Shape, t: Step, a: Agent, v: Vertex, x: u8, y:
     ensures { Wrote (each line (when (too_far s.sizes.m t.0 x y) ((¬X s.sizes t.0 a.0 v.0 ∷ []) ∷ []))) f.old f.new result }
 {
     if too_far(s.sizes.m, t.0, x, y) {
-        return clauses::put_unit(f, clauses::negative(s, t, a, v));
+        return clauses::put_clause(f, [clauses::negative(s, t, a, v)]);
     }
     0
 }

@@ -1,20 +1,23 @@
 -- A join by its cases; clauses in parts that are written one behind another, as those of a tree are.
-use mathlib.Core.Path.{◌≡◌, sym, subst}
+use mathlib.Core.Path.{◌≡◌, refl, sym, subst}
 use mathlib.Core.List.{List, [], ◌∷◌}
-use Prim.Native.Nat.{ℕ, ◌+◌, ◌-◌, ◌/◌, ◌≤◌, ◌<◌}
+use Prim.Native.Nat.{ℕ, ◌+◌, ◌-◌, ◌/◌, ◌≤◌, ◌<◌, min}
 use native.Mathlib.Nat.{zero-add, le_refl}
+use native.Mathlib.Numerals.{add-one}
 use native.Mathlib.Omega.{arith}
 use borrow.Author.Tests.{lt-ltb}
-use lib.IntN.{ℤ}
+use lib.IntN.{ℤ, pos, neg_ℤ}
 use borrow.Rule.Slice.PartMut.{put_mid}
 use lib.ListN.{length, get_or, take, drop}
 use Rattle.lists.specs.Loop.{for, each}
 use Rattle.lists.specs.Slice.{filled, Wrote}
 use Rattle.lists.proofs.Slices.{Filling, each_filling, each_filled, filling_on, filling_next}
 use Rattle.formula.specs.Formula.{Clause, line}
-use Rattle.counting.specs.Over.{variables_over, clauses_over, own_clauses}
+use Rattle.counting.specs.Over.{variables_over, clauses_over, node_clauses, own_clauses}
 use Rattle.counting.proofs.Laws.{two_clauses}
-use Rattle.tree_writer.specs.Rows.{joining}
+use Rattle.tree_writer.specs.Rows.{joining, cell, row}
+use Rattle.ceiling.specs.Tree.{join, joins}
+use Rattle.counting.specs.declared.Node.{Node}
 
 -- ---- the cases of a join
 module _ (x y z : ℤ) where
@@ -86,3 +89,13 @@ module _ (c l x y : ℕ) (two : 2 ≤ l) (s : List ℤ) (room : length (each lin
         pub own_done : let b = put_mid r (length f - r) f g in
             Parts (tree_parts c l x y) s 3 (r + q + k) (put_mid (r + q) (length b - (r + q)) b o)
         own_done = filling_next right_done (omega arith) (own_written c l x y _ _ left.1 right.1 own)
+
+-- a row is its cells; with the literals as the code counts them
+pub row_cells : (c p q o b i : ℕ) → row c p q o b i ≡ for (b + 1) λ j. joining (neg_ℤ (pos (p + i))) (neg_ℤ (pos (q + j))) (pos (o + min (i + j) (c + 1))) i j
+unfolding row cell
+row_cells c p q o b i = rw (add-one b, add-one c) refl
+
+-- a node is its rows
+pub node_rows : (d : Node) → node_clauses d ≡ for (d.a + 1) (row d.ceiling.c d.p d.q d.o d.b)
+unfolding joins join row cell joining
+node_rows d = rw add-one refl

@@ -19,18 +19,6 @@ pub struct Grown {
     pub next: usize,
 }
 
-// A clause of three literals.
-pub fn put_three(f: &mut [i32], x: i32, y: i32, z: i32) -> usize
-    requires { 4 ≤ length f.old }
-    ensures { Wrote (line (x ∷ y ∷ z ∷ [])) f.old f.new result }
-{
-    f[0] = x;
-    f[1] = y;
-    f[2] = z;
-    f[3] = 0;
-    4
-}
-
 // The clause of i on the left and j on the right, if not both are 0.
 fn put_join(f: &mut [i32], x: i32, y: i32, z: i32, i: usize, j: usize) -> usize
     requires { length (each line (joining x y z i j)) ≤ length f.old }
@@ -38,9 +26,9 @@ fn put_join(f: &mut [i32], x: i32, y: i32, z: i32, i: usize, j: usize) -> usize
 {
     match (i, j) {
         (0, 0) => 0,
-        (0, _) => clauses::put_pair(f, y, z),
-        (_, 0) => clauses::put_pair(f, x, z),
-        _ => put_three(f, x, y, z),
+        (0, _) => clauses::put_clause(f, [y, z]),
+        (_, 0) => clauses::put_clause(f, [x, z]),
+        _ => clauses::put_clause(f, [x, y, z]),
     }
 }
 
@@ -51,19 +39,11 @@ fn write_row(f: &mut [i32], d: Node, i: usize) -> usize
     ensures { Wrote (each line (row d.ceiling.c d.p d.q d.o d.b i)) f.old f.new result }
 {
     let x = variables::negation_of(Variable(d.p + i));
-    let end = d.b + 1;
-    let mut at: usize = 0;
-    for j in 0..end {
-        at += put_join(
-            &mut f[at..],
-            x,
-            variables::negation_of(Variable(d.q + j)),
-            variables::literal_of(Variable(d.o + d.ceiling.outputs(i + j))),
-            i,
-            j,
-        );
-    }
-    at
+    clauses::write_each(f, d.b + 1, |f, j| {
+        let y = variables::negation_of(Variable(d.q + j));
+        let z = variables::literal_of(Variable(d.o + d.ceiling.outputs(i + j)));
+        put_join(f, x, y, z, i, j)
+    })
 }
 
 // A node's clauses.
@@ -72,12 +52,7 @@ fn write_node(f: &mut [i32], d: Node) -> usize
     requires d_in_bounds { length (each line (node_clauses d)) ≤ length f.old }
     ensures { Wrote (each line (node_clauses d)) f.old f.new result }
 {
-    let end = d.a + 1;
-    let mut at: usize = 0;
-    for i in 0..end {
-        at += write_row(&mut f[at..], d, i);
-    }
-    at
+    clauses::write_each(f, d.a + 1, |f, i| write_row(f, d, i))
 }
 
 // The clauses of a tree's topmost node, where the left subtree's variables end at u, and the right's at v.

@@ -37,10 +37,10 @@ negation_of-requires c =
     (before_most c.args.ceiling.c (c.args.s.sizes.m * c.args.s.sizes.k) c.variable_count.result c.args.next (omega (arith, c.variable_count.ensures.1)) (omega (arith, c.requires.next_value, c.variable_count.ensures, tree_fits c.args.ceiling.c (c.args.s.sizes.m * c.args.s.sizes.k) q))) in
     omega (arith, few, c.args.ceiling.c_most)
 
-pub put_unit-requires : goal.put_unit-requires
-put_unit-requires c = rw (limit_one c.args.s.sizes c.args.ceiling.c c.if-l-c.false) at c.requires.c_in_bounds
+pub put_clause-requires : goal.put_clause-requires
+put_clause-requires c = let room = rw (limit_one c.args.s.sizes c.args.ceiling.c c.if-l-c.false) at c.requires.c_in_bounds in (omega arith, room)
 
 pub returns : goal.returns
 returns c =
     rw (limit_one c.args.s.sizes c.args.ceiling.c c.if-l-c.false)
-    (rw (to_z-of_z (sfits_of c.negation_of.type_inv), c.negation_of.ensures, c.before_outputs-before.ensures, c.variable_count.ensures.0, c.requires.next_value) at c.put_unit.ensures)
+    (rw (to_z-of_z (sfits_of c.negation_of.type_inv), c.negation_of.ensures, c.before_outputs-before.ensures, c.variable_count.ensures.0, c.requires.next_value) at c.put_clause.ensures)

@@ -4,4 +4,4 @@ use borrow.Author.Rules.{sfits_of}
 use Rattle.families.proofs.write_unit.Goals as goal
 
 pub returns : goal.returns
-returns c = rw (to_z-of_z (sfits_of c.positive.type_inv), c.positive.ensures, c.vertex-v.ensures) at c.put_unit.ensures
+returns c = rw (to_z-of_z (sfits_of c.positive.type_inv), c.positive.ensures, c.from.ensures) at c.put_clause.ensures

@@ -5,4 +5,4 @@ use Rattle.one_clause.proofs.put_end_of.Goals as goal
 
 pub returns : goal.returns
 returns c =
-    (c.put_unit.ensures.0, rw (to_z-of_z (sfits_of c.positive.type_inv), c.positive.ensures, c.from.ensures) at c.put_unit.ensures.1)
+    (c.put_clause.ensures.0, rw (to_z-of_z (sfits_of c.positive.type_inv), c.positive.ensures, c.from.ensures) at c.put_clause.ensures.1)
