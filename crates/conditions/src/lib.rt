@@ -109,7 +109,7 @@ impl<'a> Rows<'a> {
         }
     }
 
-    // The first agent that fails it.
+    // The first agent that fails it. By index: a condition is asked of an agent, in both rows.
     fn fault(&self, which: Condition) -> Option<usize>
         ensures { FirstFailing self.now.sizes.k (condition self.now.sizes (joined self.now.near.now) (place_of which) (row self.now.here.now) (row self.now.next.now)) result }
     {
