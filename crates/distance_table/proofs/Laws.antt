@@ -1,7 +1,7 @@
 -- The loops of the search: the bits of a frontier one after another, then round after round.
 use mathlib.Core.Path.{◌≡◌, refl, sym, ◌∙◌, ap, ap₂}
 use mathlib.Core.Logic.{by_cases}
-use mathlib.Core.List.{List, []}
+use mathlib.Core.List.{List, [], ◌++◌}
 use mathlib.Core.Bool.{Bool, true, false, not, ◌&&◌, ◌||◌, cond}
 use Prim.Native.Nat.{ℕ, zero, suc, ◌+◌, ◌-◌, ◌^◌, ◌≤◌, ◌<◌}
 use native.Mathlib.Numerals.{add-one}
@@ -11,8 +11,8 @@ use borrow.Author.Tests.{lt-ltb, le-ltb}
 use lib.Bits.{bit_and, bit_or}
 use lib.Count.{count_trailing_zeros}
 use lib.Dec.{ltb, eqb}
-use lib.ListN.{length, get_or, set, length-set, replicate}
-use lib.Seq.{get_or-set_same, get_or-set_other}
+use lib.ListN.{take, length, get_or, get_or-append, set, length-set, replicate}
+use lib.Seq.{length-take-le, get_or-set_same, get_or-set_other}
 use Rattle.lists.specs.Loop.{some}
 use Rattle.lists.proofs.Tests.{and_true, and_false, some_ext, some_skip, below_suc, below_zero}
 use Rattle.bits.specs.Bits.{bit, set?}
@@ -191,15 +191,15 @@ module _ (near : List ℕ) (n v : ℕ) (few : n ≤ 64) (start : v < n) (words :
 -- ---- the rows of the vertices below v are filled
 pub record Rows (n : ℕ) (near : List ℕ) (v : ℕ) (table : List (List ℕ)) : Type 0 where
   pub inside : v ≤ n
-  pub tall : length table ≡ 64
+  pub tall : length table ≡ n
   pub rows : (u : ℕ) → u < v → RowOf n near u (get_or table u [])
 
-pub rows_none : {n : ℕ} {near : List ℕ} {table : List (List ℕ)} → length table ≡ 64 → Rows n near 0 table
-rows_none l = record { inside = omega arith; tall = l; rows = below_zero _ }
+pub rows_none : {n : ℕ} {near : List ℕ} (table : List (List ℕ)) → n ≤ length table → Rows n near 0 (take n table)
+rows_none {n} table l = record { inside = omega arith; tall = length-take-le n table l; rows = below_zero _ }
 
-pub rows_next : {n : ℕ} {near : List ℕ} {v : ℕ} {table : List (List ℕ)} → n ≤ 64 → Rows n near v table → v < n → (row : List ℕ) → RowOf n near v row
+pub rows_next : {n : ℕ} {near : List ℕ} {v : ℕ} {table : List (List ℕ)} → Rows n near v table → v < n → (row : List ℕ) → RowOf n near v row
     → Rows n near (v + 1) (set table v row)
-rows_next {n} {near} {v} {table} few w l row r =
+rows_next {n} {near} {v} {table} w l row r =
     rw add-one
     (record {
       inside = omega arith;
@@ -209,5 +209,5 @@ rows_next {n} {near} {v} {table} few w l row r =
           (rw (get_or-set_same table v row [] (omega (arith, w.tall))) r);
     })
 
-pub rows_all : {n : ℕ} {near : List ℕ} {v : ℕ} {table : List (List ℕ)} → Rows n near v table → n ≤ v → TableOf n near table
-rows_all w l u h = w.rows u (omega arith)
+pub rows_all : {n : ℕ} {near : List ℕ} {v : ℕ} {table : List (List ℕ)} → Rows n near v table → n ≤ v → (rest : List (List ℕ)) → TableOf n near (table ++ rest)
+rows_all {n} {near} {v} {table} w l rest u h = rw (get_or-append table rest [] u (omega (arith, w.tall))) (w.rows u (omega arith))

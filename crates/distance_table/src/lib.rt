@@ -59,8 +59,8 @@ pub fn table_of(near: &[u64; 64], n: usize) -> [[u8; 64]; 64]
 {
     let blank = [255u8; 64];
     let mut table = [blank; 64];
-    for v in 0..n {
-        table[v] = row_of(near, n, v);
+    for (v, row) in table[..n].iter_mut().enumerate() {
+        *row = row_of(near, n, v);
     }
     table
 }

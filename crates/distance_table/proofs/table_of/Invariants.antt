@@ -3,4 +3,4 @@ use Rattle.distance_table.proofs.Laws.{Rows}
 use Rattle.distance_table.proofs.table_of.Given as goal
 
 abbrev pub invariant-loop-v : goal.invariant-loop-v
-invariant-loop-v l = Rows l.n l.near l.v l.table
+invariant-loop-v l = Rows l.n l.near l.v l.row-items
