@@ -125,8 +125,8 @@ fn mark_fan(near: &mut [u64], low: usize, high: usize, n: usize)
     requires { (low < high) × (high ≤ n) × (n ≤ 64) × (length near.old ≡ 64) }
     ensures { (length near.new ≡ 64) × ((v w : ℕ) → v < 64 → joined near.new v w ≡ joined near.old v w || fan low high n v w) }
 {
-    for w in high..n {
-        near[w] = bits::with_bit(near[w], low);
+    for word in &mut near[high..n] {
+        *word = bits::with_bit(*word, low);
     }
     near[low] = near[low] | bits::bits_from(high, n);
 }
