@@ -32,6 +32,7 @@ fn keeps_or(of: Assignment, p: &[u8], k: usize, i: usize, z: usize) -> bool
 }
 
 // The moves: the first agent and step with the vertex left and B false, and of its moves that of the vertex.
+// By index: a byte is of its place, of the one a row on and of a variable.
 fn moves_fault(s: Shape, of: Assignment, p: &[u8]) -> Result<usize, usize>
     requires entries_len { variable_count s.sizes + s.sizes.m * s.sizes.k ≤ length of.entries.now }
     requires p_len { (length p.now ≡ plan_bytes s.sizes) × Places s.sizes (true? of.entries.now) (plan_row s.sizes p.now) }

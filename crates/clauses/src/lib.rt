@@ -57,8 +57,8 @@ pub fn put_somewhere(f: &mut [i32], s: Shape, t: Step, a: Agent) -> usize
     ensures { Wrote (line (somewhere s.sizes t.0 a.0)) f.old f.new result }
 {
     let n = s.sizes.n;
-    for v in 0..n {
-        f[v] = positive(s, t, a, Vertex(v));
+    for (v, x) in f[..n].iter_mut().enumerate() {
+        *x = positive(s, t, a, Vertex(v));
     }
     f[n] = 0;
     n + 1

@@ -47,85 +47,82 @@ fn occupied(here: &[u8]) -> u64
     word
 }
 
-// Condition 1 of agent a: it keeps its vertex or crosses an edge, that is to a vertex whose bit is set?
-fn condition_1(near: &[u64; 64], here: &[u8], next: &[u8], a: usize) -> bool
-    requires a_in_bounds { (a < length here.now) × (a < length next.now) }
-    requires a_bound { (get_or here.now a 0 < 64) × (get_or next.now a 0 < 64) }
-    ensures { result ≡ condition1 (joined near.now) (row here.now) (row next.now) a }
-{
-    let v = usize::from(here[a]);
-    let w = usize::from(next[a]);
-    if v == w {
-        return true;
-    }
-    bits::has_bit(near[v], w)
+// A row and the next row of the k agents. Every byte has a word, and a bit in each.
+#[derive(Clone, Copy)]
+struct Rows<'a> {
+    sizes: Sizes,
+    near: &'a [u64; 64],
+    here: &'a [u8],
+    next: &'a [u8],
+    ghost long: { (length here.now ≡ sizes.k) × (length next.now ≡ sizes.k) },
+    ghost inside: { Inside here.now × Inside next.now },
 }
 
-// Condition 2 of agent a: it keeps its vertex, or goes to one on which no agent stood; or, under rule 2, no agent goes from there to its
-// vertex?
-fn condition_2(s: Sizes, stood: u64, here: &[u8], next: &[u8], a: usize) -> bool
-    requires rows { (length here.now ≡ s.k) × (length next.now ≡ s.k) × (a < s.k) }
-    requires standing { Standing (row here.now) s.k stood × (get_or next.now a 0 < 64) }
-    ensures { result ≡ condition2 s (row here.now) (row next.now) a }
-{
-    let v = here[a];
-    let w = next[a];
-    if v != w {
-        if s.rule == 2 {
-            return first_going(here, next, w, v).is_none();
+impl<'a> Rows<'a> {
+    // Condition 1 of agent a: it keeps its vertex or crosses an edge, that is to a vertex whose bit is set?
+    fn crosses(&self, a: usize) -> bool
+        requires { a < self.now.sizes.k }
+        ensures { result ≡ condition1 (joined self.now.near.now) (row self.now.here.now) (row self.now.next.now) a }
+    {
+        let v = usize::from(self.here[a]);
+        let w = usize::from(self.next[a]);
+        if v == w {
+            return true;
         }
-        return !bits::has_bit(stood, usize::from(w));
+        bits::has_bit(self.near[v], w)
     }
-    true
-}
 
-// Condition 3 of agent a: it shares its vertex in the next row with no lower agent?
-fn condition_3(taken: u64, next: &[u8], a: usize) -> bool
-    requires a_in_bounds { (a < length next.now) × (get_or next.now a 0 < 64) }
-    requires standing { Standing (row next.now) a taken }
-    ensures { result ≡ condition3 (row next.now) a }
-{
-    !bits::has_bit(taken, usize::from(next[a]))
-}
-
-// A condition of agent a, before whom the lower agents have taken their vertices in the next row.
-fn passes(
-    s: Sizes,
-    near: &[u64; 64],
-    which: Condition,
-    stood: u64,
-    taken: u64,
-    here: &[u8],
-    next: &[u8],
-    a: usize,
-) -> bool
-    requires rows { (length here.now ≡ s.k) × (length next.now ≡ s.k) × (a < s.k) }
-    requires inside { Inside here.now × Inside next.now }
-    requires standing { Standing (row here.now) s.k stood × Standing (row next.now) a taken }
-    ensures { result ≡ condition s (joined near.now) (place_of which) (row here.now) (row next.now) a }
-{
-    match which {
-        Condition::Crossing => condition_1(near, here, next, a),
-        Condition::Entering => condition_2(s, stood, here, next, a),
-        Condition::Sharing => condition_3(taken, next, a),
-    }
-}
-
-// The first agent that fails it.
-fn fault(s: Sizes, near: &[u64; 64], which: Condition, here: &[u8], next: &[u8]) -> Option<usize>
-    requires rows { (length here.now ≡ s.k) × (length next.now ≡ s.k) }
-    requires inside { Inside here.now × Inside next.now }
-    ensures { FirstFailing s.k (condition s (joined near.now) (place_of which) (row here.now) (row next.now)) result }
-{
-    let stood = occupied(here);
-    let mut taken = 0u64;
-    for a in 0..s.k {
-        if !passes(s, near, which, stood, taken, here, next, a) {
-            return Some(a);
+    // Condition 2 of agent a: it keeps its vertex, or goes to one on which no agent stood; or, under rule 2, no agent goes from there to
+    // its vertex?
+    fn enters(&self, stood: u64, a: usize) -> bool
+        requires { (a < self.now.sizes.k) × Standing (row self.now.here.now) self.now.sizes.k stood }
+        ensures { result ≡ condition2 self.now.sizes (row self.now.here.now) (row self.now.next.now) a }
+    {
+        let v = self.here[a];
+        let w = self.next[a];
+        if v != w {
+            if self.sizes.rule == 2 {
+                return first_going(self.here, self.next, w, v).is_none();
+            }
+            return !bits::has_bit(stood, usize::from(w));
         }
-        taken = bits::with_bit(taken, usize::from(next[a]));
+        true
     }
-    None
+
+    // Condition 3 of agent a: it shares its vertex in the next row with no lower agent?
+    fn stands_alone(&self, taken: u64, a: usize) -> bool
+        requires { (a < self.now.sizes.k) × Standing (row self.now.next.now) a taken }
+        ensures { result ≡ condition3 (row self.now.next.now) a }
+    {
+        !bits::has_bit(taken, usize::from(self.next[a]))
+    }
+
+    // A condition of agent a, before whom the lower agents have taken their vertices in the next row.
+    fn passes(&self, which: Condition, stood: u64, taken: u64, a: usize) -> bool
+        requires { (a < self.now.sizes.k) × Standing (row self.now.here.now) self.now.sizes.k stood × Standing (row self.now.next.now) a taken }
+        ensures { result ≡ condition self.now.sizes (joined self.now.near.now) (place_of which) (row self.now.here.now) (row self.now.next.now) a }
+    {
+        match which {
+            Condition::Crossing => self.crosses(a),
+            Condition::Entering => self.enters(stood, a),
+            Condition::Sharing => self.stands_alone(taken, a),
+        }
+    }
+
+    // The first agent that fails it. By index: a condition is asked of an agent, in both rows.
+    fn fault(&self, which: Condition) -> Option<usize>
+        ensures { FirstFailing self.now.sizes.k (condition self.now.sizes (joined self.now.near.now) (place_of which) (row self.now.here.now) (row self.now.next.now)) result }
+    {
+        let stood = occupied(self.here);
+        let mut taken = 0u64;
+        for a in 0..self.sizes.k {
+            if !self.passes(which, stood, taken, a) {
+                return Some(a);
+            }
+            taken = bits::with_bit(taken, usize::from(self.next[a]));
+        }
+        None
+    }
 }
 
 // The first agent that fails it between rows t and t + 1 of a plan.
@@ -138,5 +135,11 @@ pub fn step_fault(s: Sizes, near: &[u64; 64], which: Condition, p: &[u8], t: usi
     let row = t * k;
     let next = row + k;
     let end = next + k;
-    fault(s, near, which, &p[row..next], &p[next..end])
+    let rows = Rows {
+        sizes: s,
+        near,
+        here: &p[row..next],
+        next: &p[next..end],
+    };
+    rows.fault(which)
 }

@@ -51,7 +51,7 @@ pub fn place_of(near: &[u64; 64], n: usize, u: usize, v: usize) -> usize
     before + bits_below(bits::above(near[u], u), v)
 }
 
-// The edge at a place.
+// The edge at a place. By index: a vertex is the low end that is told, and says which bits of its word are above it.
 pub fn edge_at(near: &[u64; 64], n: usize, j: usize) -> Edge
     requires { (n ≤ 64) × ((w : ℕ) → w < 64 → get_or near.now w 0 < 2 ^ n) × (j < edges_before (joined near.now) n n 0) }
     ensures { (result.low < n) × (result.high < n) × T (upward (joined near.now) result.low result.high) × (j ≡ edges_before (joined near.now) n result.low result.high) }

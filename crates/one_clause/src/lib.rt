@@ -1,15 +1,15 @@
 // One clause of the formula, asked by number.
 #![tactic(auto)]
 
-ghost use Rattle.std.specs.Prelude.{◌≡◌, [], ◌∷◌, ◌≢◌, ℕ, suc, ◌*◌, ◌-◌, ◌^◌, ◌≤◌, ◌<◌, length, get_or, take};
+ghost use Rattle.std.specs.Prelude.{◌≡◌, [], ◌∷◌, ◌≢◌, ℕ, suc, ◌*◌, ◌-◌, ◌^◌, ◌≤◌, ◌<◌, length, get_or, ℤ};
 ghost use Rattle.lists.specs.Loop.{for, sum, pairs};
 ghost use Rattle.lists.specs.Slice.{Wrote};
 ghost use Rattle.answers.specs.Returned.{answer_of};
 ghost use Rattle.instance.specs.Instance.{HasGoal, joined};
 ghost use Rattle.instance.specs.Ready.{Ready};
 ghost use Rattle.instance.specs.Problem.{checked_of};
-ghost use Rattle.formula.specs.Variables.{X};
-ghost use Rattle.formula.specs.Formula.{line, block_d, block_e, no_following, exchange};
+ghost use Rattle.formula.specs.Variables.{Literal, X};
+ghost use Rattle.formula.specs.Formula.{line, no_two, no_following, exchange};
 ghost use Rattle.formula.specs.Blocks.{times, blocks_at, by_blocks, held, block, family};
 ghost use Rattle.formula.specs.Counts.{clauses_by, total, clause_count};
 ghost use Rattle.calls.specs.Calls.{clause_answer, clause_slice};
@@ -109,35 +109,21 @@ fn put_end_of(f: &mut [i32], s: Shape, t: Step, row: &[u8; 16], a: usize) -> usi
     ensures { Wrote (line (X s.sizes t.0 a (get_or row.now a 0) ∷ [])) f.old f.new result }
 {
     let v = row[a];
-    clauses::put_clause(f, [clauses::positive(s, t, Agent(a), Vertex(usize::from(v)))])
+    clauses::put_clause(
+        f,
+        [clauses::positive(s, t, Agent(a), Vertex(usize::from(v)))],
+    )
 }
 
-// Family D: clause p of time t and agent a.
-fn put_d(f: &mut [i32], s: Shape, t: Step, a: Agent, p: usize) -> usize
-    requires t_le_m { (t.0 ≤ s.sizes.m) × (a.0 < s.sizes.k) × (p < pairs s.sizes.n) }
-    requires p_in_bounds { length (line_at (block_d s.sizes t.0 a.0) p) ≤ length f.old }
-    ensures { Wrote (line_at (block_d s.sizes t.0 a.0) p) f.old f.new result }
+// Families D and E: clause p of those that two different numbers below n are not both true, by the literal of each.
+fn put_two<L: Fn(usize) -> i32>(f: &mut [i32], n: usize, p: usize, literal: L) -> usize
+    requires p_bound { (n ≤ 64) × (p < pairs n) }
+    requires room { (¬x : ℕ → Literal) × (length (line_at (no_two n ¬x) p) ≤ length f.old) }
+    requires callable { (v : ℕ) → v < n → L.pre literal v }
+    ensures { (¬x : ℕ → Literal) → ((v : ℕ) (r : ℤ) → v < n → L.post literal v r → r ≡ ¬x v) → Wrote (line_at (no_two n ¬x) p) f.old f.new result }
 {
-    let pair = pair_of(s.sizes.n, p);
-    let literals = [
-        clauses::negative(s, t, a, Vertex(pair.low)),
-        clauses::negative(s, t, a, Vertex(pair.high)),
-    ];
-    clauses::put_clause(f, literals)
-}
-
-// Family E: clause p of time t and vertex v.
-fn put_e(f: &mut [i32], s: Shape, t: Step, v: Vertex, p: usize) -> usize
-    requires t_le_m { (t.0 ≤ s.sizes.m) × (v.0 < s.sizes.n) × (p < pairs s.sizes.k) }
-    requires p_in_bounds { length (line_at (block_e s.sizes t.0 v.0) p) ≤ length f.old }
-    ensures { Wrote (line_at (block_e s.sizes t.0 v.0) p) f.old f.new result }
-{
-    let pair = pair_of(s.sizes.k, p);
-    let literals = [
-        clauses::negative(s, t, Agent(pair.low), v),
-        clauses::negative(s, t, Agent(pair.high), v),
-    ];
-    clauses::put_clause(f, literals)
+    let pair = pair_of(n, p);
+    clauses::put_clause(f, [literal(pair.low), literal(pair.high)])
 }
 
 // The agent at a place among those other than a.
@@ -160,7 +146,10 @@ fn put_following(f: &mut [i32], s: Shape, t: Step, a: Agent, p: usize) -> usize
     let b = Agent(other(a.0, p / s.sizes.n));
     let v = Vertex(p % s.sizes.n);
     let next = Step(t.0 + 1);
-    let literals = [clauses::negative(s, t, b, v), clauses::negative(s, next, a, v)];
+    let literals = [
+        clauses::negative(s, t, b, v),
+        clauses::negative(s, next, a, v),
+    ];
     clauses::put_clause(f, literals)
 }
 
@@ -217,8 +206,18 @@ fn put_clause(
         Family::A => put_end_of(f, s, Step(0), &problem.starts, x),
         Family::B => put_end_of(f, s, Step(s.sizes.m), &problem.goals, x),
         Family::C => clauses::put_somewhere(f, s, Step(t), Agent(x)),
-        Family::D => put_d(f, s, Step(t), Agent(x), place),
-        Family::E => put_e(f, s, Step(t), Vertex(x), place),
+        Family::D => put_two(
+            f,
+            s.sizes.n,
+            place,
+            |v| clauses::negative(s, Step(t), Agent(x), Vertex(v)),
+        ),
+        Family::E => put_two(
+            f,
+            s.sizes.k,
+            place,
+            |a| clauses::negative(s, Step(t), Agent(a), Vertex(x)),
+        ),
         Family::F => {
             clauses::put_onward(f, s, problem.near[place], Step(t), Agent(x), Vertex(place))
         }

@@ -12,7 +12,7 @@ ghost use Rattle.valuation.specs.Satisfying.{Valuation};
 ghost use Rattle.valuation.specs.Places.{Places};
 ghost use Rattle.satisfaction.specs.Rows.{Failing, Sound, LowestCrossed, goes, crossed};
 
-use crate::{Part, row_at};
+use crate::row_at;
 use conditions::Condition;
 use instance::{Problem, Shape, Sizes};
 
@@ -125,21 +125,13 @@ fn fault_exchange(problem: &Problem, p: &[u8], t: usize) -> Option<usize>
     Some(exchange_place(problem, p, t, u, v))
 }
 
-// Under either rule: the number of clauses, and the place.
-pub fn part_g(problem: &Problem, p: &[u8], t: usize) -> Part
+// Under either rule.
+pub fn fault_g(problem: &Problem, p: &[u8], t: usize) -> Option<usize>
     requires { Sound problem.now.shape.sizes (joined problem.now.near) p.now t }
-    ensures t_len { (length (for (cond (following problem.now.shape.sizes) problem.now.shape.sizes.n problem.now.shape.sizes.k) (block_g problem.now.shape.sizes (joined problem.now.near) t)) ≡ result.size) × (result.size ≤ 483840) }
-    ensures fault { (es : List ℤ) → Valuation (variable_count problem.now.shape.sizes) es → Places problem.now.shape.sizes (true? es) (plan_row problem.now.shape.sizes p.now) → Failing es (for (cond (following problem.now.shape.sizes) problem.now.shape.sizes.n problem.now.shape.sizes.k) (block_g problem.now.shape.sizes (joined problem.now.near) t)) result.fault }
+    ensures { (es : List ℤ) → Valuation (variable_count problem.now.shape.sizes) es → Places problem.now.shape.sizes (true? es) (plan_row problem.now.shape.sizes p.now) → Failing es (for (cond (following problem.now.shape.sizes) problem.now.shape.sizes.n problem.now.shape.sizes.k) (block_g problem.now.shape.sizes (joined problem.now.near) t)) result }
 {
-    let Sizes { n, k, e, rule, .. } = problem.shape.sizes;
-    if rule == 2 {
-        return Part {
-            size: e * (k * (k - 1)),
-            fault: fault_exchange(problem, p, t),
-        };
+    if problem.shape.sizes.rule == 2 {
+        return fault_exchange(problem, p, t);
     }
-    Part {
-        size: k * ((k - 1) * n),
-        fault: fault_following(problem, p, t),
-    }
+    fault_following(problem, p, t)
 }

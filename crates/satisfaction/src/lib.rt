@@ -25,7 +25,7 @@ ghost use Rattle.satisfaction.specs.Rows.{Failing, Stopping, Tallied, says, deni
 
 use conditions::Condition;
 use counts::Family;
-use family_g::part_g;
+use family_g::fault_g;
 use instance::{Problem, Shape, Sizes};
 use variables::{Agent, Step, Variable};
 
@@ -49,13 +49,6 @@ impl Said {
             Said::Several => (n + 1) as u8,
         }
     }
-}
-
-// Of some clauses: their number, and the place of the first without a true literal.
-#[derive(Clone, Copy)]
-pub struct Part {
-    pub size: usize,
-    pub fault: Option<usize>,
 }
 
 // Of the entries of one agent and time: how many are not their variables' negatives, and the sum of their vertices.
@@ -312,41 +305,54 @@ fn fault_f(problem: &Problem, p: &[u8], t: usize) -> Option<usize>
     Some(a * problem.shape.sizes.n + usize::from(row_at(problem.shape, p, t)[a]))
 }
 
+// How many clauses a row of a family has.
+fn row_size(problem: &Problem, family: Family) -> usize
+    ensures { ((t : ℕ) → length (row (held (checked_of problem.now)) (place_of family) t) ≡ result) × (result ≤ 483840) }
+{
+    let Sizes {
+        n,
+        k,
+        e,
+        rule,
+        g,
+        ..
+    } = problem.shape.sizes;
+    match family {
+        Family::A | Family::C => k,
+        Family::B => g,
+        Family::D => k * counts::pair_count(n),
+        Family::E => n * counts::pair_count(k),
+        Family::F => k * n,
+        Family::G => {
+            if rule == 2 {
+                e * (k * (k - 1))
+            } else {
+                k * ((k - 1) * n)
+            }
+        }
+    }
+}
+
 // Row t of a family, where the families before it have a true literal in every clause.
-fn row_fault(problem: &Problem, entries: &[i32], p: &[u8], family: Family, t: usize) -> Part
+fn row_fault(
+    problem: &Problem,
+    entries: &[i32],
+    p: &[u8],
+    family: Family,
+    t: usize,
+) -> Option<usize>
     requires read { Read problem.now.shape.sizes entries.now p.now }
     requires before { (t < times problem.now.shape.sizes (place_of family)) × Before (held (checked_of problem.now)) entries.now (place_of family) }
-    ensures t_len { (length (row (held (checked_of problem.now)) (place_of family) t) ≡ result.size) × (result.size ≤ 483840) }
-    ensures fault { Failing entries.now (row (held (checked_of problem.now)) (place_of family) t) result.fault }
+    ensures { Failing entries.now (row (held (checked_of problem.now)) (place_of family) t) result }
 {
-    let s = problem.shape;
-    let Sizes { n, k, g, .. } = s.sizes;
     match family {
-        Family::A => Part {
-            size: k,
-            fault: fault_a(problem, entries),
-        },
-        Family::B => Part {
-            size: g,
-            fault: fault_b(problem, entries),
-        },
-        Family::C => Part {
-            size: k,
-            fault: fault_c(p, s, t),
-        },
-        Family::D => Part {
-            size: k * counts::pair_count(n),
-            fault: fault_d(entries, p, s, t),
-        },
-        Family::E => Part {
-            size: n * counts::pair_count(k),
-            fault: fault_e(p, s, t),
-        },
-        Family::F => Part {
-            size: k * n,
-            fault: fault_f(problem, p, t),
-        },
-        Family::G => part_g(problem, p, t),
+        Family::A => fault_a(problem, entries),
+        Family::B => fault_b(problem, entries),
+        Family::C => fault_c(p, problem.shape, t),
+        Family::D => fault_d(entries, p, problem.shape, t),
+        Family::E => fault_e(p, problem.shape, t),
+        Family::F => fault_f(problem, p, t),
+        Family::G => fault_g(problem, p, t),
     }
 }
 
@@ -357,12 +363,12 @@ pub fn clause_fault(problem: &Problem, entries: &[i32], p: &[u8]) -> Option<usiz
 {
     let mut at: usize = 0;
     for family in Family::ALL {
+        let size = row_size(problem, family);
         for t in 0..counts::times_of(problem.shape, family) {
-            let row = row_fault(problem, entries, p, family, t);
-            if let Some(fault) = row.fault {
+            if let Some(fault) = row_fault(problem, entries, p, family, t) {
                 return Some(at + fault);
             }
-            at += row.size;
+            at += size;
         }
     }
     None

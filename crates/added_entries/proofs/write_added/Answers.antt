@@ -20,8 +20,8 @@ returns-then-l-eq0 c =
 
 pub marks_of-marks-requires : goal.marks_of-marks-requires
 marks_of-marks-requires c =
-    let known : Added c.args.s c.args.c = added c.args.s c.requires.limits c.args.c in
-    (c.requires.limits.k_most, known.inputs)
+    let known : Added c.args.s.sizes c.args.ceiling.c = added c.args.s.sizes c.args.s.limits c.args.ceiling.c in
+    (c.args.s.limits.k_most, known.inputs)
 
 pub write_entries-requires-clause-n_bound : goal.write_entries-requires-clause-n_bound
 write_entries-requires-clause-n_bound c =

@@ -7,6 +7,7 @@ use borrow.Author.Tests.{ne_eqb}
 use lib.ListN.{get_or}
 use Rattle.instance.specs.Instance.{joined}
 use Rattle.formula.specs.Blocks.{times, blocks_at, block}
+use Rattle.formula.specs.Variables.{¬X}
 use Rattle.formula.specs.Formula.{Clause}
 use Rattle.formula.proofs.Places.{goal_block_lem}
 use Rattle.one_clause.proofs.Clauses.{room_put, wrote_put, onward_clause}
@@ -37,21 +38,37 @@ put_somewhere-requires-clause-a_in_bounds c =
     let z : c.args.place ≡ 0 = omega arith in
     rw (c.in-C.is, z) at c.requires.place_in_bounds
 
-pub put_d-requires-clause-t_le_m : goal.put_d-requires-clause-t_le_m
+pub put_two-requires-clause-p_bound : goal.put_two-requires-clause-p_bound
 unfolding times blocks_at block
-put_d-requires-clause-t_le_m c = let q = rw c.in-D.is at c.requires.x_bound in (omega (arith, q.0), q.1, q.2)
+put_two-requires-clause-p_bound c = let q = rw c.in-D.is at c.requires.x_bound in (omega (arith, c.args.problem.now.ready.limits.n_most), q.2)
 
-pub put_d-requires-clause-p_in_bounds : goal.put_d-requires-clause-p_in_bounds
+pub put_two-requires-clause-room : goal.put_two-requires-clause-room
 unfolding block
-put_d-requires-clause-p_in_bounds c = rw c.in-D.is at c.requires.place_in_bounds
+put_two-requires-clause-room c = ((λ v. ¬X c.args.problem.now.shape.sizes c.args.t c.args.x v), rw c.in-D.is at c.requires.place_in_bounds)
 
-pub put_e-requires-clause-t_le_m : goal.put_e-requires-clause-t_le_m
+pub put_two-requires-clause-callable : goal.put_two-requires-clause-callable
 unfolding times blocks_at block
-put_e-requires-clause-t_le_m c = let q = rw c.in-E.is at c.requires.x_bound in (omega (arith, q.0), q.1, q.2)
+put_two-requires-clause-callable c = let q = rw c.in-D.is at c.requires.x_bound in let t = q.0 in let x = q.1 in search rules
 
-pub put_e-requires-clause-p_in_bounds : goal.put_e-requires-clause-p_in_bounds
+pub returns-in-D : goal.returns-in-D
 unfolding block
-put_e-requires-clause-p_in_bounds c = rw c.in-E.is at c.requires.place_in_bounds
+returns-in-D c = rw c.in-D.is (c.put_two.ensures (λ v. ¬X c.args.problem.now.shape.sizes c.args.t c.args.x v) (λ v r l e. search rules))
+
+pub put_two-requires-in-E-clause-p_bound : goal.put_two-requires-in-E-clause-p_bound
+unfolding times blocks_at block
+put_two-requires-in-E-clause-p_bound c = let q = rw c.in-E.is at c.requires.x_bound in (omega (arith, c.args.problem.now.ready.limits.k_most), q.2)
+
+pub put_two-requires-in-E-clause-room : goal.put_two-requires-in-E-clause-room
+unfolding block
+put_two-requires-in-E-clause-room c = ((λ a. ¬X c.args.problem.now.shape.sizes c.args.t a c.args.x), rw c.in-E.is at c.requires.place_in_bounds)
+
+pub put_two-requires-in-E-clause-callable : goal.put_two-requires-in-E-clause-callable
+unfolding times blocks_at block
+put_two-requires-in-E-clause-callable c = let q = rw c.in-E.is at c.requires.x_bound in let t = q.0 in let x = q.1 in search rules
+
+pub returns-in-E : goal.returns-in-E
+unfolding block
+returns-in-E c = rw c.in-E.is (c.put_two-in-E.ensures (λ a. ¬X c.args.problem.now.shape.sizes c.args.t a c.args.x) (λ v r l e. search rules))
 
 pub put_onward-requires-clause-t_lt_m : goal.put_onward-requires-clause-t_lt_m
 unfolding times blocks_at block
@@ -95,14 +112,6 @@ unfolding block
 returns-in-C c =
     let z : c.args.place ≡ 0 = let q = rw c.in-C.is at c.requires.x_bound in omega arith in
     rw (c.in-C.is, z) c.put_somewhere.ensures
-
-pub returns-in-D : goal.returns-in-D
-unfolding block
-returns-in-D c = rw c.in-D.is c.put_d.ensures
-
-pub returns-in-E : goal.returns-in-E
-unfolding block
-returns-in-E c = rw c.in-E.is c.put_e.ensures
 
 pub returns-in-F : goal.returns-in-F
 unfolding block

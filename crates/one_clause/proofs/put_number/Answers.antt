@@ -1,6 +1,7 @@
 -- `one_clause::put_number` meets its contract. The number is a place of a family, and that, but in G under rule 2, a place of a block.
 -- Assumes nothing.
 use mathlib.Core.Path.{refl}
+use borrow.Author.Rules.{rules}
 use Rattle.formula.specs.Blocks.{family}
 use Rattle.formula.specs.Counts.{clause_count}
 use Rattle.one_clause.proofs.Clauses.{room_put, wrote_put}
@@ -37,7 +38,7 @@ nonzero_rem-block c =
 
 pub nonzero_rem-slot : goal.nonzero_rem-slot
 nonzero_rem-slot c =
-    (by_slot c.args.problem.now _ c.spot_of-family.ensures c.eq.ensures c.if-eq-s.false _ c.blocks_at-width.ensures.0 c.slot_of-slot.ensures).1.some
+    let block = (by_slot c.args.problem.now _ c.spot_of-family.ensures c.eq.ensures c.if-eq-s.false _ c.blocks_at-width.ensures.0 c.slot_of-slot.ensures).1 in search rules
 
 pub put_clause-requires-clause-x_bound : goal.put_clause-requires-clause-x_bound
 put_clause-requires-clause-x_bound c =

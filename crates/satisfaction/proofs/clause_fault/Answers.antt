@@ -21,9 +21,9 @@ loop-t-init c =
     let e = place_at c.loop-family.family-index c.loop-family-test.true in
     (omega (arith, e, c.loop-family.invariant.0), rw e (omega (arith, c.loop-family.invariant.1)), tt)
 
-pub row_fault-row-requires-clause-before : goal.row_fault-row-requires-clause-before
+pub row_fault-requires-clause-before : goal.row_fault-requires-clause-before
 unfolding Before
-row_fault-row-requires-clause-before c =
+row_fault-requires-clause-before c =
     let g = held (checked_of c.args.problem.now) in
     let e = place_at c.loop-family.family-index c.loop-family-test.true in
     (omega (arith, c.loop-t-test.true, c.times_of-t-end.ensures.0), rw e ((for_all (satisfied? c.args.entries.now) c.loop-family.family-index (family g)).0 c.loop-family.invariant.2))
@@ -32,8 +32,8 @@ row_fault-row-requires-clause-before c =
 pub overflow_add-result : goal.overflow_add-result
 overflow_add-result c =
     let e = place_at c.loop-family.family-index c.loop-family-test.true in
-    let here = failing_below c.args.entries.now _ c.in-Some.fault (rw c.in-Some.is at c.row_fault-row.ensures.fault) in
-    omega (arith, e, c.loop-family-test.true, c.loop-t.invariant.0, c.loop-t-test.true, c.times_of-t-end.ensures.1, c.row_fault-row.ensures.t_len, here)
+    let here = failing_below c.args.entries.now _ c.in-Some.fault c.in-Some.ensures in
+    omega (arith, e, c.loop-family-test.true, c.loop-t.invariant.0, c.loop-t-test.true, c.times_of-t-end.ensures.1, c.row_size-size.ensures.1, c.row_size-size.ensures.0 c.loop-t.t, here)
 
 pub returns-in-Some : goal.returns-in-Some
 returns-in-Some c =
@@ -41,22 +41,22 @@ returns-in-Some c =
     let which = c.loop-family.family-index in
     let e = place_at which c.loop-family-test.true in
     let inner = rw e at c.loop-t.invariant in
-    let here = rw (c.in-Some.is, e) at c.row_fault-row.ensures.fault in
+    let here = rw (c.in-Some.is, e) at c.row_fault.ensures in
     in_families g c.args.entries.now which c.loop-t.at c.loop-t.t c.loop-family.invariant.2 inner.1 inner.2 c.in-Some.fault c.loop-family-test.true
     (rw e at (let h : c.loop-t.t < times c.args.problem.now.shape.sizes (place_of (get_or families which A)) = omega (arith, c.loop-t-test.true, c.times_of-t-end.ensures.0) in h)) here
 
 pub overflow_add-at : goal.overflow_add-at
 overflow_add-at c =
     let e = place_at c.loop-family.family-index c.loop-family-test.true in
-    omega (arith, e, c.loop-family-test.true, c.loop-t.invariant.0, c.loop-t-test.true, c.times_of-t-end.ensures.1, c.row_fault-row.ensures.t_len)
+    omega (arith, e, c.loop-family-test.true, c.loop-t.invariant.0, c.loop-t-test.true, c.times_of-t-end.ensures.1, c.row_size-size.ensures.1)
 
 pub loop-t-preserved : goal.loop-t-preserved
 loop-t-preserved c =
     let g = held (checked_of c.args.problem.now) in
     let place = place_of (get_or families c.loop-family.family-index A) in
-    let none = rw c.in_default.is at c.row_fault-row.ensures.fault in (
-      omega (arith, c.loop-t.invariant.0, c.row_fault-row.ensures.t_len.1),
-      rw (add-one, length-append) (omega (arith, c.loop-t.invariant.1, c.row_fault-row.ensures.t_len.0)),
+    let none = rw c.in_default.is at c.row_fault.ensures in (
+      omega (arith, c.loop-t.invariant.0, c.row_size-size.ensures.1),
+      rw (add-one, length-append) (omega (arith, c.loop-t.invariant.1, c.row_size-size.ensures.0 c.loop-t.t)),
       row_passed c.args.entries.now (row g place) c.loop-t.t c.loop-t.invariant.2 none,
     )
 
