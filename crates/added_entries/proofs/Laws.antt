@@ -1,7 +1,7 @@
 -- A loop that writes one entry a turn; the tree by the length of its list; and a plan's entries by the array.
 use mathlib.Core.Path.{◌≡◌, refl, sym, ◌∙◌, ap, ap₂, subst}
 use mathlib.Core.Logic.Iff
-use mathlib.Core.List.{List, [], ◌∷◌, ◌++◌}
+use mathlib.Core.List.{List, [], ◌∷◌, ◌++◌, append-nil}
 use mathlib.Core.Bool.{Bool, true, false, cond}
 use Prim.Native.Nat.{ℕ, zero, suc, ◌+◌, ◌-◌, ◌*◌, ◌/◌, ◌%◌, ◌≤◌, ◌<◌, min}
 use native.Mathlib.Nat.{mod-lt}
@@ -9,7 +9,8 @@ use native.Mathlib.Numerals.{add-one}
 use native.Mathlib.Omega.{arith}
 use borrow.Rule.Slice.PartMut.{put_mid}
 use mir.Val.{bool_byte}
-use lib.ListN.{length, get_or, take, drop, set, replicate, length-replicate, get_or-append}
+use lib.ListN.{length, get_or, take, drop, set, replicate, length-replicate, get_or-append, drop_of_length-le}
+use lib.Seq.{length-take-le}
 use lib.Dec.{ltb, leb}
 use lib.IntN.{ℤ}
 use Rattle.lists.specs.Loop.{for}
@@ -44,6 +45,25 @@ module _ (g : ℕ → Bool) (y n : ℕ) (s : List ℤ) where
 
   pub writing_next : {i : ℕ} {f : List ℤ} {x : ℤ} → Writing i f → i < n → x ≡ entry_of (g i) (y + (i + 1)) → Writing (i + 1) (set f i x)
   writing_next {i} {f} {x} w l e = filling_set w l x (ap (λ (u : ℤ). u ∷ []) (sym (e ∙ ap (λ (j : ℕ). entry_of (g i) (y + j)) (add-one i))))
+
+-- ---- a loop over the first n places of a slice, which writes each
+module _ {A : Type 0} {n : ℕ} (s : List A) (h : n ≤ length s) where
+  part_length : length (take n s) ≡ n
+  part_length = length-take-le n s h
+
+  pub part_within : {i : ℕ} → i < length (take n s) → i < n
+  part_within l = omega (arith, l, part_length)
+
+  pub part_from : {g : ℕ → A} → Filling (λ j. g j ∷ []) n (take n s) 0 0 (take n s)
+  part_from {g} = filling_from 0 (omega arith) refl (omega (arith, for1_length n g, part_length))
+
+  pub part_done : {g : ℕ → A} {i : ℕ} {f : List A} → Filling (λ j. g j ∷ []) n (take n s) i i f → length (take n s) ≤ i
+      → f ++ drop n s ≡ filled (for n λ j. g j ∷ []) s
+  unfolding filled
+  part_done {g} w l =
+      let e = (filling_done w (omega (arith, l, part_length))).1 in
+      let none = drop_of_length-le (take n s) {i = n} (omega (arith, part_length)) in
+      rw (e, for1_length n g, none, append-nil) refl
 
 -- ---- three lists that are written one behind another: the second to the part that starts after the first, the third to the whole slice
 three : List ℤ → List ℤ → List ℤ → ℕ → List ℤ

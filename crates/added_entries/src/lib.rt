@@ -30,8 +30,8 @@ fn rest_times(s: Shape, p: &[u8]) -> [u8; 16]
     let k = s.sizes.k;
     let rows = s.sizes.m + 1;
     let mut rest = [0u8; 16];
-    for a in 0..k {
-        rest[a] = plan_check::rest_time(s.sizes, p, rows, a) as u8;
+    for (a, time) in rest[..k].iter_mut().enumerate() {
+        *time = plan_check::rest_time(s.sizes, p, rows, a) as u8;
     }
     rest
 }
@@ -42,6 +42,7 @@ fn marks_of(rest: &[u8; 16], m: usize, k: usize) -> [bool; 512]
     ensures { result ≡ filled (marks_of rest.now k (m * k)) (replicate 512 false) }
 {
     let mut marks = [false; 512];
+    // By index: of the rows that `chunks_exact_mut` lends, a proof knows no element afterwards.
     for t in 0..m {
         for a in 0..k {
             marks[t * k + a] = t < usize::from(rest[a]);
@@ -68,6 +69,7 @@ fn write_entries<F: Fn(usize) -> bool>(z: &mut [i32], n: usize, y: usize, test: 
     requires callable { (j : ℕ) → j < n → F.pre test j }
     ensures { (g : ℕ → Bool) → ((j : ℕ) (b : Bool) → j < n → F.post test j b → b ≡ g j) → z.new ≡ filled (entries_of g n y) z.old }
 {
+    // By index: j is the place, what is tested and in the variable's number.
     for j in 0..n {
         z[j] = entry_of(test(j), Variable(y + (j + 1)));
     }

@@ -23,6 +23,7 @@ fn write_agent(z: &mut [i32], n: usize, first: Variable, at: Vertex)
     ensures { z.new ≡ filled (for n λ v. cond (eqb at.0 v) (pos (first.0 + v)) (neg_ℤ (pos (first.0 + v))) ∷ []) z.old }
 {
     let vertex = at.0;
+    // By index: v is the place and in the variable's number. Without a branch, so that the compiler takes several entries at a time.
     for v in 0..n {
         z[v] = variables::negation_after(first, v);
     }
@@ -38,6 +39,7 @@ pub fn write_valuation(z: &mut [i32], s: Shape, p: &[u8])
 {
     let Sizes { n, k, m, .. } = s.sizes;
     let rows = m + 1;
+    // By index: the plan's bytes stand time by time, the entries agent by agent.
     for a in 0..k {
         for t in 0..rows {
             let at = variables::first_entry(s, Step(t), Agent(a));

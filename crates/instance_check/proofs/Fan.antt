@@ -1,18 +1,20 @@
 -- A fan of edges: those from one vertex to each from another on.
-use mathlib.Core.Path.{◌≡◌, refl, sym, ◌∙◌, ap, ap₂}
+use mathlib.Core.Path.{◌≡◌, refl, sym, ◌∙◌, ap, ap₂, subst}
 use mathlib.Core.Logic.Iff
 use mathlib.Core.Logic.{◌↔◌, ◌⊎◌, inl, inr, ⊎_elim, by_cases}
-use mathlib.Core.List.{List}
+use mathlib.Core.List.{List, ◌++◌}
 use mathlib.Core.Bool.{Bool, ◌&&◌, ◌||◌, or_assoc}
 use Prim.Native.Nat.{ℕ, zero, suc, ◌+◌, ◌-◌, ◌^◌, ◌≤◌, ◌<◌}
 use native.Mathlib.Nat.{add-zero, add-suc}
 use native.Mathlib.Decide.{ℕ_discrete, dec_lt}
 use native.Mathlib.Omega.{arith}
 use borrow.Author.Tests.{eq-eqb, ne_eqb, le-leb, lt-leb, lt-ltb, le-ltb}
+use borrow.Rule.Slice.PartMut.{put_mid, post_of, mid_len, put_same}
 use lib.Bits.{bit_or}
 use lib.Dec.{T, leb, ltb, eqb}
-use lib.ListN.{length, get_or, set, length-set}
-use lib.Seq.{get_or-set_same, get_or-set_other}
+use lib.ListN.{length, get_or, take, drop, set, length-set, get_or-append}
+use lib.Seq.{get_or-set_same, get_or-set_other, get_or-append-add, length-take-le, set-append_left}
+use Rattle.std.proofs.lemmas.List.{set-append_right}
 use Rattle.lists.specs.Loop.{some}
 use Rattle.lists.proofs.Tests.{or_false, and_true, and_false, T_ext, and_iff, or_iff, eqb_iff, leb_iff, ltb_iff, some_iff}
 use Rattle.bits.specs.Bits.{set?, word}
@@ -21,6 +23,23 @@ use Rattle.instance.specs.Instance.{instance, vertices, edges, low_end, high_end
 use Rattle.instance.proofs.Graph.{rising}
 use Rattle.instance_check.specs.Marked.{Marked, fan}
 
+-- ---- k words from the a-th on, of which one is read or set
+module _ (near ys : List ℕ) (a k j : ℕ) (h : a ≤ length near) (l : j < length ys) where
+  part_get : get_or (put_mid a k near ys) (a + j) 0 ≡ get_or ys j 0
+  part_get =
+      let rest = post_of a k near in
+      ap (λ (n : ℕ). get_or (put_mid a k near ys) (n + j) 0) (sym (length-take-le a near h))
+      ∙ get_or-append-add (take a near) (ys ++ rest) j 0
+      ∙ get_or-append ys rest 0 j l
+
+  part_set : (x : ℕ) → put_mid a k near (set ys j x) ≡ set (put_mid a k near ys) (a + j) x
+  part_set x =
+      let rest = post_of a k near in
+      let e : a + j - a ≡ j = omega arith in
+      sym (set-append_right (take a near) (ys ++ rest) a (a + j) x (length-take-le a near h) (omega arith)
+      ∙ ap (λ (n : ℕ). take a near ++ set (ys ++ rest) n x) e
+      ∙ ap (λ (zs : List ℕ). take a near ++ zs) (set-append_left ys rest j x l))
+
 -- ---- the words: the high ends below w are marked
 pub record Fanned (near₀ : List ℕ) (low high w : ℕ) (near : List ℕ) : Type 0 where
   pub long : length near ≡ 64
@@ -28,12 +47,12 @@ pub record Fanned (near₀ : List ℕ) (low high w : ℕ) (near : List ℕ) : Ty
   pub marked : (v : ℕ) → high ≤ v → v < w → get_or near v 0 ≡ bit_or (get_or near₀ v 0) (2 ^ low)
   pub beyond : (v : ℕ) → w ≤ v → get_or near v 0 ≡ get_or near₀ v 0
 
-pub fanned_none : (near : List ℕ) (low high : ℕ) → length near ≡ 64 → Fanned near low high high near
+fanned_none : (near : List ℕ) (low high : ℕ) → length near ≡ 64 → Fanned near low high high near
 fanned_none near low high n =
     record { long = n; below = λ v l. refl; marked = λ v h l. absurd (let f : ⊥ = omega arith in f); beyond = λ v l. refl }
 
 module _ {near₀ : List ℕ} {low high w : ℕ} {near : List ℕ} (f : Fanned near₀ low high w near) where
-  pub fanned_more : high ≤ w → w < 64 → Fanned near₀ low high (w + 1) (set near w (bit_or (get_or near w 0) (2 ^ low)))
+  fanned_more : high ≤ w → w < 64 → Fanned near₀ low high (w + 1) (set near w (bit_or (get_or near w 0) (2 ^ low)))
   fanned_more h l =
       record {
         long = simp length-set f.long;
@@ -67,6 +86,43 @@ module _ {near₀ : List ℕ} {low high w : ℕ} {near : List ℕ} (f : Fanned n
         by_cases (dec_lt v w)
         (λ r. rw (le-leb high v (omega arith), lt-ltb v w r, and_true, f.marked v (omega arith) r) (set_or (get_or near₀ v 0) (2 ^ low) u ∙ ap (λ (z : Bool). joined near₀ v u || z) (set_pow low u)))
         (λ r. rw (le-ltb v w (omega arith), and_false, and_false, or_false, f.beyond v (omega arith))))))
+
+-- the words from the high end on, up to n, while i of them are marked
+pub record Part (near₀ : List ℕ) (low high n i : ℕ) (words : List ℕ) : Type 0 where
+  pub long : length words ≡ n - high
+  pub within : i ≤ n - high
+  pub fanned : Fanned near₀ low high (high + i) (put_mid high (n - high) near₀ words)
+
+module _ (near : List ℕ) (low high n : ℕ) (h : high ≤ n) (l : n ≤ 64) (e : length near ≡ 64) where
+  pub part_length : length (take (n - high) (drop high near)) ≡ n - high
+  part_length = mid_len high n near (omega (arith, e))
+
+  pub part_none : Part near low high n 0 (take (n - high) (drop high near))
+  part_none =
+      record {
+        long = part_length;
+        within = omega arith;
+        fanned = rw (put_same high (n - high) near, add-zero) (fanned_none near low high e);
+      }
+
+  pub part_more : {i : ℕ} {words : List ℕ} → Part near low high n i words → i < n - high
+      → Part near low high n (i + 1) (set words i (bit_or (get_or words i 0) (2 ^ low)))
+  part_more {i} {words} w k =
+      let a : high ≤ length near = omega (arith, e) in
+      let b : i < length words = omega (arith, k, w.long) in
+      let s : high + (i + 1) ≡ high + i + 1 = omega arith in
+      record {
+        long = length-set words i _ ∙ w.long;
+        within = omega arith;
+        fanned =
+            rw (part_set near words high (n - high) i a b (bit_or (get_or words i 0) (2 ^ low)), s, sym (part_get near words high (n - high) i a b))
+            (fanned_more w.fanned (omega arith) (omega (arith, k)));
+      }
+
+  pub part_all : {i : ℕ} {words : List ℕ} → Part near low high n i words → n - high ≤ i → Fanned near low high n (put_mid high (n - high) near words)
+  part_all {i} {words} w k =
+      let s : high + i ≡ n = omega (arith, k, w.within) in
+      subst (λ (x : ℕ). Fanned near low high x (put_mid high (n - high) near words)) s w.fanned
 
 -- ---- the edges
 ends_iff : (a c v u : ℕ) → T (eqb a v && eqb c u) ↔ ((a ≡ v) × (c ≡ u))

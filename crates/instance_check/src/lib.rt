@@ -60,15 +60,14 @@ fn ask_sizes(b: &[u8], s: Sizes) -> Result<(), Refusal>
 }
 
 // The first of k bytes, from an offset on, that is no vertex or like an earlier one. Where `optional`, as for goals, 255 is passed
-// over.
+// over: a flag, since starts and goals differ in this test alone.
 fn vertex_fault(b: &[u8], offset: usize, k: usize, optional: bool) -> Option<usize>
     requires { (offset + k ≤ length b.now) × (0 < length b.now) × (k ≡ agents b.now) × (vertices b.now ≤ 64) }
     ensures { FirstFailing (agents b.now) (λ a. (optional && free (get_or b.now (offset + a) 0)) || new_vertex b.now (λ c. get_or b.now (offset + c) 0) a) result }
 {
     let n = usize::from(b[0]);
     let mut seen = [false; 64];
-    for a in 0..k {
-        let x = b[offset + a];
+    for (a, &x) in b[offset..offset + k].iter().enumerate() {
         if !(optional & goals::is_free(x)) {
             let v = usize::from(x);
             if n <= v {
@@ -125,8 +124,8 @@ fn mark_fan(near: &mut [u64], low: usize, high: usize, n: usize)
     requires { (low < high) × (high ≤ n) × (n ≤ 64) × (length near.old ≡ 64) }
     ensures { (length near.new ≡ 64) × ((v w : ℕ) → v < 64 → joined near.new v w ≡ joined near.old v w || fan low high n v w) }
 {
-    for w in high..n {
-        near[w] = bits::with_bit(near[w], low);
+    for word in &mut near[high..n] {
+        *word = bits::with_bit(*word, low);
     }
     near[low] = near[low] | bits::bits_from(high, n);
 }
@@ -143,6 +142,7 @@ fn mark_run(near: &mut [u64], edges: &EdgeBytes, from: usize) -> usize
     let low = usize::from(b[4 + from]);
     let mut row = near[low];
     let mut j = from;
+    // By index: an edge has its ends in two parts of the bytes, and the caller goes on where the run ends.
     while j < e {
         if usize::from(b[4 + j]) != low {
             break;
