@@ -63,7 +63,11 @@ fn write_above(f: &mut [i32], run: Run, i: usize) -> usize
 {
     let next = i + 1;
     let x = not_in(run, i);
-    clauses::write_each(f, run.count - next, |f, j| clauses::put_clause(f, [x, not_in(run, next + j)]))
+    clauses::write_each(
+        f,
+        run.count - next,
+        |f, j| clauses::put_clause(f, [x, not_in(run, next + j)]),
+    )
 }
 
 // No two of a run hold.
@@ -112,7 +116,11 @@ fn write_f(f: &mut [i32], problem: &Problem, t: Step, a: Agent) -> usize
     ensures { Wrote (each line (block_f problem.now.shape.sizes (joined problem.now.near) t.0 a.0)) f.old f.new result }
 {
     let s = problem.shape;
-    clauses::write_each(f, s.sizes.n, |f, v| clauses::put_onward(f, s, problem.near[v], t, a, Vertex(v)))
+    clauses::write_each(
+        f,
+        s.sizes.n,
+        |f, v| clauses::put_onward(f, s, problem.near[v], t, a, Vertex(v)),
+    )
 }
 
 // Of G under rule 1, time t and agents a and b: where they are two, a does not go where b was.
@@ -181,7 +189,11 @@ fn write_exchanges(f: &mut [i32], s: Shape, t: Step, u: Vertex, v: Vertex, a: Ag
     let above = below + 1;
     let at = clauses::write_each(f, below, |f, b| put_partner(f, s, t, u, v, x, y, b));
     let more = s.sizes.k - above;
-    at + clauses::write_each(&mut f[at..], more, |f, b| put_partner(f, s, t, u, v, x, y, above + b))
+    at + clauses::write_each(
+        &mut f[at..],
+        more,
+        |f, b| put_partner(f, s, t, u, v, x, y, above + b),
+    )
 }
 
 // The same, of each agent.
@@ -190,7 +202,11 @@ fn write_no_exchange(f: &mut [i32], s: Shape, t: Step, u: Vertex, v: Vertex) -> 
     requires v_in_bounds { length (each line (no_exchange s.sizes t.0 u.0 v.0)) ≤ length f.old }
     ensures { Wrote (each line (no_exchange s.sizes t.0 u.0 v.0)) f.old f.new result }
 {
-    clauses::write_each(f, s.sizes.k, |f, a| write_exchanges(f, s, t, u, v, Agent(a)))
+    clauses::write_each(
+        f,
+        s.sizes.k,
+        |f, a| write_exchanges(f, s, t, u, v, Agent(a)),
+    )
 }
 
 // G under rule 2, of time t and the edges with the low end u: each high end is a neighbour above it, and the neighbours of u are the
@@ -224,13 +240,7 @@ fn write_g(f: &mut [i32], problem: &Problem, t: Step, x: usize) -> usize
 }
 
 // A family's block of t and x.
-pub fn write_block(
-    f: &mut [i32],
-    problem: &Problem,
-    which: Family,
-    t: usize,
-    x: usize,
-) -> usize
+pub fn write_block(f: &mut [i32], problem: &Problem, which: Family, t: usize, x: usize) -> usize
     requires t_lt_times { (t < times problem.now.shape.sizes (place_of which)) × (x < blocks_at problem.now.shape.sizes (place_of which)) }
     requires x_in_bounds { length (each line (block (held (checked_of problem.now)) (place_of which) t x)) ≤ length f.old }
     ensures { Wrote (each line (block (held (checked_of problem.now)) (place_of which) t x)) f.old f.new result }

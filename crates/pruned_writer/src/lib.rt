@@ -47,7 +47,11 @@ fn write_block(f: &mut [i32], problem: &Problem, table: &[[u8; 64]], t: Step, a:
     let s = problem.shape;
     let from = distance_table::row_for(table, &problem.starts, a.0);
     let to = distance_table::goal_row(table, &problem.goals, a.0);
-    clauses::write_each(f, s.sizes.n, |f, v| write_vertex(f, s, t, a, Vertex(v), from[v], to[v]))
+    clauses::write_each(
+        f,
+        s.sizes.n,
+        |f, v| write_vertex(f, s, t, a, Vertex(v), from[v], to[v]),
+    )
 }
 
 // H, of time t.
@@ -56,7 +60,11 @@ fn write_step(f: &mut [i32], problem: &Problem, table: &[[u8; 64]], t: usize) ->
     requires t_in_bounds { length (each line (step_by_table problem.now.shape.sizes table.now problem.now.starts problem.now.goals t)) ≤ length f.old }
     ensures { Wrote (each line (step_by_table problem.now.shape.sizes table.now problem.now.starts problem.now.goals t)) f.old f.new result }
 {
-    clauses::write_each(f, problem.shape.sizes.k, |f, a| write_block(f, problem, table, Step(t), Agent(a)))
+    clauses::write_each(
+        f,
+        problem.shape.sizes.k,
+        |f, a| write_block(f, problem, table, Step(t), Agent(a)),
+    )
 }
 
 // H.

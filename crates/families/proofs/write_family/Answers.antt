@@ -1,5 +1,4 @@
 -- `families::write_family` meets its contract: a family is its blocks. Assumes nothing.
-use native.Mathlib.Omega.{arith}
 use borrow.Author.Rules.{rules}
 use Rattle.instance.specs.Problem.{checked_of}
 use Rattle.counts.specs.Families.{place_of}

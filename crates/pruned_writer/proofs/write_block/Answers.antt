@@ -1,11 +1,10 @@
 -- `pruned_writer::write_block` meets its contract. Assumes nothing.
 use mathlib.Core.Path.{◌≡◌, ap₂}
 use mathlib.Core.List.{List}
-use Prim.Native.Nat.{ℕ, ◌≤◌}
+use Prim.Native.Nat.{ℕ}
 use native.Mathlib.Omega.{arith}
 use borrow.Author.Rules.{rules}
-use lib.ListN.{length, get_or}
-use Rattle.formula.specs.Formula.{Clause, line}
+use lib.ListN.{get_or}
 use Rattle.formula.specs.Pruned.{block_h}
 use Rattle.pruned_writer.specs.ByTable.{block_by_table}
 use Rattle.pruned_writer.proofs.write_block.Goals as goal

@@ -1,5 +1,4 @@
 -- `tree_writer::write_node` meets its contract: a node is its rows. Assumes nothing.
-use native.Mathlib.Omega.{arith}
 use borrow.Author.Rules.{rules}
 use Rattle.tree_writer.proofs.Laws.{node_rows}
 use Rattle.tree_writer.proofs.write_node.Goals as goal

@@ -1,6 +1,4 @@
 -- `tree_writer::write_row` meets its contract: a row is its clauses, if any. Assumes nothing.
-use native.Mathlib.Numerals.{add-one}
-use native.Mathlib.Omega.{arith}
 use borrow.Author.Rules.{rules}
 use Rattle.tree_writer.proofs.Laws.{row_cells}
 use Rattle.tree_writer.proofs.write_row.Goals as goal
