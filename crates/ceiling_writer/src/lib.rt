@@ -7,7 +7,8 @@ ghost use Rattle.calls.specs.Ceiling.{ceiling_write_answer, ceiling_write_slice}
 
 use answers::Refusal;
 
-// Questions 1 to 10, 31, 32 and 12. A refusal changes no word of the slice.
+// Questions 1 to 10, 31, 32 and 12. A refusal changes no word of the slice. (In lines of its own beside `write_formula` and
+// `write_pruned`: one function for the three, lent the number of words and their writer as closures, would leave as many lines to each.)
 pub fn write_ceiling(
     b: &[u8],
     m: usize,

@@ -68,7 +68,7 @@ pub fn pruned_words(s: Shape, more: usize) -> usize
     counts::word_count(s) + 2 * more
 }
 
-// Questions 1 to 10 and 31.
+// Questions 1 to 10 and 31. (Beside `formula_size`, and `ceiling_size`: what the three share is the check, one line by `?`.)
 pub fn pruned_size(b: &[u8], m: usize, rule: usize) -> Result<Extent, Refusal>
     ensures { size_of result ≡ size_answer pruned b.now m rule }
 {

@@ -20,9 +20,9 @@ returns-in_err-ask_room c =
 pub write_all-requires : goal.write_all-requires
 write_all-requires c =
     let found = c.in_ok-problem.ensures.found in
-    rw found.1
-    (room c.args.b.now c.args.m c.args.rule c.args.c c.args.f.now c.in_ok-problem.problem c.in_ok-problem.ensures.answer found.0 c.words-needed.result
-    (c.words-needed.ensures ∙ ap (ceiling_words c.in_ok-problem.problem.shape.sizes) found.1) c.in_ok-ask_room.ensures)
+    let fits = room c.args.b.now c.args.m c.args.rule c.args.c c.args.f.now c.in_ok-problem.problem c.in_ok-problem.ensures.answer found.0 c.words-needed.result
+    (c.words-needed.ensures ∙ ap (ceiling_words c.in_ok-problem.problem.shape.sizes) found.1) c.in_ok-ask_room.ensures in
+    rw (← found.1) at fits
 
 pub returns : goal.returns
 returns c =
