@@ -82,7 +82,7 @@ fn high_crossed(problem: &Problem, p: &[u8], t: usize, u: usize) -> Option<usize
     None
 }
 
-// The lowest u for which there is such a v, and the lowest such v.
+// The lowest u for which there is such a v, and the lowest such v. A loop, since a closure for `find_map` would be asked of numbers beyond n.
 fn lowest_crossed(problem: &Problem, p: &[u8], t: usize) -> Option<(usize, usize)>
     requires { Sound problem.now.shape.sizes (joined problem.now.near) p.now t }
     ensures { LowestCrossed problem.now.shape.sizes.n (crossed problem.now.shape.sizes.k (plan_row problem.now.shape.sizes p.now t) (plan_row problem.now.shape.sizes p.now (suc t))) result }

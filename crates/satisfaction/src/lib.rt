@@ -180,6 +180,7 @@ fn row_at(s: Shape, p: &[u8], t: usize) -> &[u8]
 }
 
 // Families A and B: the first agent that is not at its vertex of the array at time t. Free agents are passed over; as starts there are none.
+// A loop, since a closure for `position` would be asked of agents beyond k.
 fn unit_fault(entries: &[i32], s: Shape, t: usize, ends: &[u8; 16]) -> Option<usize>
     requires valuation { Valuation (variable_count s.sizes) entries.now }
     requires t_le_m { (t ≤ s.sizes.m) × ((a : ℕ) → a < s.sizes.k → (T (free (get_or ends.now a 0)) → ⊥) → get_or ends.now a 0 < s.sizes.n) }
@@ -266,7 +267,7 @@ fn lower(here: &[u8], a: usize, low: Option<usize>, n: usize) -> Option<usize>
     low
 }
 
-// The lowest vertex on which two agents of a row stand.
+// The lowest vertex on which two agents of a row stand. By index, since of each agent the part of the row before it is looked at.
 fn lowest_shared(here: &[u8], n: usize) -> Option<usize>
     ensures { LowestShared (length here.now) (λ i. get_or here.now i 0) n result }
 {
