@@ -47,6 +47,6 @@ pub fn lending<T: Element, F: FnOnce(&mut [T]) -> Result<usize, Refusal>>(
     }
     let z = &mut space[..len];
     fill(z);
-    let result = call(z);
-    Some(Outcome::new(result, hash(z)))
+    let returned = call(z);
+    Some(Outcome::new(returned, hash(z)))
 }

@@ -11,8 +11,8 @@ pub struct Outcome {
 }
 
 impl Outcome {
-    pub fn new(result: Result<usize, Refusal>, hash: u32) -> Outcome {
-        let answer = Answer::from(result);
+    pub fn new(returned: Result<usize, Refusal>, hash: u32) -> Outcome {
+        let answer = Answer::from(returned);
         Outcome {
             number: answer.number,
             second: answer.second,
@@ -24,14 +24,14 @@ impl Outcome {
 
 // A call that is lent nothing: the hash of an empty slice.
 impl From<Result<usize, Refusal>> for Outcome {
-    fn from(result: Result<usize, Refusal>) -> Outcome {
-        Outcome::new(result, 1)
+    fn from(returned: Result<usize, Refusal>) -> Outcome {
+        Outcome::new(returned, 1)
     }
 }
 
 impl From<Result<Extent, Refusal>> for Outcome {
-    fn from(result: Result<Extent, Refusal>) -> Outcome {
-        let size = Size::from(result);
+    fn from(returned: Result<Extent, Refusal>) -> Outcome {
+        let size = Size::from(returned);
         Outcome {
             number: size.number,
             second: size.second,
