@@ -45,7 +45,10 @@ pub fn put_clause<const N: usize>(f: &mut [i32], literals: [i32; N]) -> usize
     requires { N < length f.old }
     ensures { Wrote (line literals.entry) f.old f.new result }
 {
-    f[..N].copy_from_slice(&literals);
+    for i in 0..N {
+        let x = literals[i];
+        f[i] = x;
+    }
     f[N] = 0;
     N + 1
 }

@@ -39,7 +39,8 @@ fn count_for(s: Shape, from: &[u8; 64], to: &[u8; 64]) -> usize
 {
     let times = (s.sizes.m + 1) as u16;
     let mut count: u16 = 0;
-    for (x, y) in from.iter().zip(to).take(s.sizes.n) {
+    let n = s.sizes.n;
+    for (x, y) in from[..n].iter().zip(&to[..n]) {
         count += times_far(times, *x, *y);
     }
     usize::from(count)

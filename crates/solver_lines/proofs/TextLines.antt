@@ -3,15 +3,15 @@ use mathlib.Core.Path.{◌≡◌, refl, sym, ◌∙◌, ap, ap₂}
 use mathlib.Core.Logic.{by_cases, ◌⊎◌, inl, inr, ⊎_elim}
 use mathlib.Core.List.{List, [], ◌∷◌}
 use mathlib.Core.Bool.{Bool, true, false, ◌&&◌, ◌||◌, cond}
-use Prim.Native.Nat.{ℕ, suc, ◌+◌, ◌-◌, ◌≤◌, ◌<◌}
-use native.Mathlib.Nat.{le_refl}
+use Prim.Native.Nat.{ℕ, zero, suc, ◌+◌, ◌-◌, ◌≤◌, ◌<◌}
+use native.Mathlib.Nat.{le_refl, not-suc-le-zero}
 use native.Mathlib.Decide.{dec_lt}
 use native.Mathlib.Omega.{arith}
 use borrow.Author.Tests.{ne_eqb, eqb-true, eqb-false, le-leb, lt-leb, lt-ltb, le-ltb}
 use lib.Dec.{leb, ltb, eqb}
 use lib.ListN.{length, take, drop, length-drop}
-use lib.Seq.{drop-drop}
-use Rattle.std.specs.Prelude.{Option, None, Some, is_some, option_map, unwrap_or}
+use lib.Seq.{drop-drop, take_all}
+use Rattle.std.specs.Prelude.{min, Option, None, Some, is_some, option_map, unwrap_or}
 use Rattle.std.specs.List.{position, position_or_len}
 use Rattle.std.specs.Cmp.Lexicographic.{pointwise}
 use Rattle.std.proofs.lemmas.List.Recursion.{is_position_or_len}
@@ -62,6 +62,25 @@ unfolding ahead
 ahead_taken s [] = refl
 ahead_taken s (x ∷ l) = split (eqb x s) (λ h. rw h) (λ h. rw h (ap (λ (r : List ℕ). x ∷ r) (ahead_taken s l)))
 
+-- the first bytes of a line, found among as many of the text
+ahead_take : (s n : ℕ) (l : List ℕ) → ahead s (take n l) ≡ take n (ahead s l)
+unfolding ahead
+ahead_take s zero l = refl
+ahead_take s (suc n) [] = refl
+ahead_take s (suc n) (x ∷ l) = split (eqb x s) (λ h. rw h) (λ h. rw h (ap (λ (r : List ℕ). x ∷ r) (ahead_take s n l)))
+
+take_most : (n : ℕ) (l : List ℕ) → take (min (length l) n) l ≡ take n l
+take_most n l =
+    by_cases (dec_lt n (length l))
+    (λ h. ap (λ (k : ℕ). take k l) (let e : min (length l) n ≡ n = omega arith in e))
+    (λ h. ap (λ (k : ℕ). take k l) (let e : min (length l) n ≡ length l = omega arith in e) ∙ take_all (length l) l (le_refl (length l)) ∙ sym (take_all n l (omega arith)))
+
+pub line_begun : (text : List ℕ) (at n end : ℕ) (near : List ℕ) → near ≡ take (min (length (drop at text)) n) (drop at text)
+    → end ≡ unwrap_or (position (λ d. eqb d 10) near) (length near) → take end near ≡ take n (line text at)
+unfolding line
+line_begun text at n end near e f =
+    ap (λ (k : ℕ). take k near) (f ∙ line_length near 0) ∙ ahead_taken 10 near ∙ ap (ahead 10) (e ∙ take_most n (drop at text)) ∙ ahead_take 10 n (drop at text)
+
 pub line_taken : (text : List ℕ) (at end : ℕ) → end ≡ at + length (line text at) → take (end - at) (drop at text) ≡ line text at
 unfolding line
 line_taken text at end e =
@@ -78,6 +97,17 @@ same_is [] [] = refl
 same_is [] (y ∷ b) = refl
 same_is (x ∷ a) [] = refl
 same_is (x ∷ a) (y ∷ b) = ap (λ (c : Bool). eqb x y && c) (same_is a b)
+
+-- a word is compared with as much of a line as is longer than it
+same_start : (n : ℕ) (l w : List ℕ) → length w < n → same (take n l) w ≡ same l w
+same_start zero l w h = absurd (not-suc-le-zero h)
+same_start (suc n) [] w h = refl
+same_start (suc n) (x ∷ l) [] h = refl
+same_start (suc n) (x ∷ l) (y ∷ w) h = ap (λ (b : Bool). eqb x y && b) (same_start n l w (omega arith))
+
+pub status_start : (l : List ℕ) → status_of (take 16 l) ≡ status_of l
+unfolding status_of
+status_start l = rw (same_start 16 l satisfiable (omega arith), same_start 16 l unsatisfiable (omega arith), same_start 16 l unknown (omega arith))
 
 abbrev kind_of : Option Status → Kind
 kind_of None = neither

@@ -1,7 +1,7 @@
 // The lines of a solver's text: their tokens are read, the variables given are marked, and what they say is kept.
 #![tactic(auto)]
 
-ghost use Rattle.std.specs.Prelude.{◌≡◌, ◌+◌, ◌≤◌, ℕ, cond, length, eqb, IsSome, IsOk};
+ghost use Rattle.std.specs.Prelude.{◌≡◌, ◌+◌, ◌≤◌, ℕ, cond, length, take, eqb, IsSome, IsOk};
 ghost use Rattle.std.specs.List.{position};
 ghost use Rattle.solver_text.specs.Text.{Kind, values, kind, lines, pieces};
 ghost use Rattle.solver_text.specs.Form.{literals_on, literals_of};
@@ -108,6 +108,17 @@ fn line_end(text: &[u8], from: usize) -> usize
     from + newline(rest).unwrap_or(rest.len())
 }
 
+// The line, or so many of its bytes where it has more. No byte beyond them is looked at.
+fn line_start(text: &[u8], from: usize, most: usize) -> &[u8]
+    requires { from ≤ length text.now }
+    ensures { result.now ≡ take most (line text.now from) }
+{
+    let rest = &text[from..];
+    let near = &rest[..rest.len().min(most)];
+    let end = newline(near).unwrap_or(near.len());
+    &near[..end]
+}
+
 // Which s line it is.
 fn status_of(line: &[u8]) -> Option<Status>
     ensures { result ≡ status_of line.now }
@@ -153,8 +164,8 @@ fn read_s_line(text: &[u8], from: usize, said: Said) -> Option<Line>
     if said.verdict.is_some() {
         return None;
     }
-    let end = line_end(text, from);
-    let status = status_of(&text[from..end])?;
+    // The longest of the three has 15 bytes: no more than one beyond are looked at.
+    let status = status_of(line_start(text, from, 16))?;
     let verdict = Verdict {
         satisfiable: status == Status::Satisfiable,
         place: from,
@@ -163,7 +174,10 @@ fn read_s_line(text: &[u8], from: usize, said: Said) -> Option<Line>
         verdict: Some(verdict),
         closed: said.closed,
     };
-    Some(Line { end, said })
+    Some(Line {
+        end: line_end(text, from),
+        said,
+    })
 }
 
 // A line.
