@@ -1,4 +1,6 @@
 // What a lent slice holds before a call, and a hash of what it holds after one.
+ghost use Rattle.std.specs.Prelude.{◌<◌};
+
 use crate::outcome::Outcome;
 use answers::Refusal;
 
@@ -26,7 +28,9 @@ fn fill<T: Element>(z: &mut [T]) {
     }
 }
 
-pub fn mixed(h: u32, y: u32) -> u32 {
+pub fn mixed(h: u32, y: u32) -> u32
+    ensures { result < 2147483647 }
+{
     ((u64::from(h) * 131 + u64::from(y)) % 2147483647) as u32
 }
 

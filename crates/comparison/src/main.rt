@@ -17,7 +17,6 @@ mod tallies;
 ghost use Rattle.std.specs.Prelude.{◌≡◌, length};
 
 use case::Case;
-use std::io;
 
 // So many zeros. A long array stands in a function of its own, which says no more than its length.
 fn zeros<T: From<u8> + Copy, const N: usize>() -> [T; N]
@@ -26,7 +25,8 @@ fn zeros<T: From<u8> + Copy, const N: usize>() -> [T; N]
     [T::from(0); N]
 }
 
-fn main(rt: HostRuntime) -> io::Result<()> {
+// A line that cannot be written is passed over.
+fn main(rt: HostRuntime) {
     let mut stdin = rt.stdin();
     let mut input = zeros::<u8, 540672>();
     let mut words = zeros::<i32, 65536>();
@@ -35,10 +35,10 @@ fn main(rt: HostRuntime) -> io::Result<()> {
         let Some(case) = Case::read(&mut stdin, &mut input) else {
             break;
         };
-        match call::run(case, &mut words, &mut plan) {
-            Some(outcome) => println!(rt; "{outcome}")?,
-            None => println!(rt; "skip")?,
-        }
+        let written = match call::run(case, &mut words, &mut plan) {
+            Some(outcome) => println!(rt; "{outcome}"),
+            None => println!(rt; "skip"),
+        };
+        written.unwrap_or(());
     }
-    Ok(())
 }

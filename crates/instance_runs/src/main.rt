@@ -2,9 +2,8 @@
 // first, and then the instance. Each prints a line: the number, and the place of a refusal.
 #![tactic(auto)]
 
-ghost use Rattle.std.specs.Prelude.{◌<◌, length, IfSome};
+ghost use Rattle.std.specs.Prelude.{◌<◌, ◌≤◌, length, IfSome};
 
-use std::io;
 use std::io::Read;
 
 #[derive(Clone, Copy)]
@@ -30,16 +29,36 @@ fn split_case(cases: &[u8]) -> Option<(Case<'_>, &[u8])>
     Some((case, rest))
 }
 
-fn main(rt: HostRuntime) -> io::Result<()> {
-    let mut input = Vec::new(rt.alloc());
-    rt.stdin().take(65536).read_to_end(&mut input)?;
-    let mut rest = input.as_slice();
-    while let Some((case, behind)) = split_case(rest) {
-        match instance_check::check_instance(case.instance, case.horizon, case.rule) {
-            Ok(_) => println!(rt; "0 0")?,
-            Err(refusal) => println!(rt; "{} {}", refusal.reason.number(), refusal.place)?,
+// Reads until the space is full or the input ends. A read that fails counts as the end.
+fn read_cases<R: Read>(reader: &mut R, space: &mut [u8]) -> usize
+    ensures { result ≤ length space.new }
+{
+    let mut at: usize = 0;
+    while at < space.len() {
+        let n = reader.read(&mut space[at..]).unwrap_or(0);
+        if n == 0 {
+            break;
         }
+        at += n;
+    }
+    at
+}
+
+// A line is written in four pieces, and one that cannot be written is passed over.
+fn main(rt: HostRuntime) {
+    let mut space = [0u8; 65536];
+    let n = read_cases(&mut rt.stdin(), &mut space);
+    let mut rest = &space[..n];
+    while let Some((case, behind)) = split_case(rest) {
+        let answer = instance_check::check_instance(case.instance, case.horizon, case.rule);
+        let (number, place) = match answer {
+            Ok(_) => (0, 0),
+            Err(refusal) => (refusal.reason.number(), refusal.place),
+        };
+        print!(rt; "{number}").unwrap_or(());
+        print!(rt; " ").unwrap_or(());
+        print!(rt; "{place}").unwrap_or(());
+        print!(rt; "\n").unwrap_or(());
         rest = behind;
     }
-    Ok(())
 }
