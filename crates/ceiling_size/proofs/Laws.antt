@@ -11,15 +11,20 @@ use native.Mathlib.Omega.{arith}
 use borrow.Author.Tests.{le-ltb}
 use lib.Dec.{ltb}
 use lib.ListN.{length}
-use Rattle.std.specs.Prelude.{Ok, Err}
+use Rattle.std.specs.Prelude.{Result, Ok, Err, IsErrAnd}
+use Rattle.std.proofs.lemmas.Result.{err_from_is_err_and}
+use Rattle.answers.specs.declared.Answer.{Answer}
 use Rattle.answers.specs.declared.Refusal.{Refusal}
 use Rattle.answers.specs.Answers.{accept, with_clauses}
 use Rattle.answers.specs.Returned.{refused, size_of}
 use Rattle.answers.proofs.Returned.{refusal_numbered, size_refused}
 use Rattle.instance.specs.declared.Sizes.{Sizes}
+use Rattle.instance.specs.declared.Checked.{Checked}
 use Rattle.instance.specs.declared.problem.Problem.{Problem}
 use Rattle.instance.specs.Problem.{checked_of, ProblemOf}
-use Rattle.instance.specs.Instance.{Instance, instance}
+use Rattle.instance.specs.Instance.{Instance, instance, unchecked}
+use Rattle.counting.specs.declared.Ceiling.{Ceiling}
+use Rattle.ceiling_size.specs.Inspected.{inspected, inspected_instance}
 use Rattle.instance.specs.Limits.{Limits}
 use Rattle.instance.specs.Questions.{instance_answer, instance_checked}
 use Rattle.instance.specs.Accepted.{instance_of}
@@ -106,6 +111,13 @@ module _ (b : List ℕ) (p : Problem) (w : ProblemOf b p) (c : ℕ) where
   words_held =
       ceiling_words_lem (instance_of b (checked_of p)) c (graph b (checked_of p) w) (counted_known b (checked_of p) w)
       ∙ ap (λ (s : Sizes). ceiling_words s c) (sym (sizes_same b (checked_of p) w))
+
+-- what is returned at the exit of a `?` by which the refusal e is passed on
+pub inspected_passed : (e : Refusal) {x : Answer} (r : Result (Problem × Result Ceiling Refusal) Refusal) → IsErrAnd r (λ y. y ≡ e) → refused e ≡ x → inspected r ≡ x
+inspected_passed e r h q = let p = err_from_is_err_and r h in rw (p.1, p.2) q
+
+pub unchecked_passed : (e : Refusal) {x : Checked} (r : Result (Problem × Result Ceiling Refusal) Refusal) → IsErrAnd r (λ y. y ≡ e) → unchecked ≡ x → inspected_instance r ≡ x
+unchecked_passed e r h q = let p = err_from_is_err_and r h in rw p.1 q
 
 -- the check: the instance check's refusal e, or with its problem the ceiling is too high, or neither
 module _ (b : List ℕ) (m rule c : ℕ) where

@@ -7,12 +7,31 @@ ghost use Rattle.instance.specs.Questions.{instance_checked};
 ghost use Rattle.instance.specs.Problem.{checked_of};
 ghost use Rattle.ceiling.specs.Ceiling.{added_variables, added_count, added_words, ceiling_variables, ceiling_words};
 ghost use Rattle.calls.specs.Ceiling.{ceiling_answer, ceiling_size_answer};
+ghost use Rattle.ceiling_size.specs.Inspected.{inspected, inspected_instance};
 
 use answers::{Extent, Reason, Refusal};
 use counting::{Ceiling, Counts};
 use instance::{Problem, Shape, Sizes};
 
-// Questions 1 to 10, 31 and 32.
+// Questions 1 to 10, 31 and 32. Where only 32 is answered no, the accepted instance stands beside its refusal.
+pub fn inspect_ceiling(
+    b: &[u8],
+    m: usize,
+    rule: usize,
+    c: usize,
+) -> Result<(Problem, Result<Ceiling, Refusal>), Refusal>
+    ensures answer { inspected result ≡ ceiling_answer b.now m rule c }
+    ensures checked { inspected_instance result ≡ instance_checked b.now m rule }
+    ensures ceiling { IfOk result (λ r. IfOk r.1 (λ ceiling. ceiling.c ≡ c)) }
+{
+    let problem = instance_check::check_instance(b, m, rule)?;
+    if 128 < c {
+        return Ok((problem, Err(Reason::Ceiling.at(0))));
+    }
+    Ok((problem, Ok(Ceiling { c })))
+}
+
+// The same, for calls that go on only where all are answered yes.
 pub fn check_ceiling(
     b: &[u8],
     m: usize,
@@ -22,11 +41,8 @@ pub fn check_ceiling(
     ensures answer { asked result ≡ ceiling_answer b.now m rule c }
     ensures found { IfOk result (λ r. (checked_of r.0 ≡ instance_checked b.now m rule) × (r.1.c ≡ c)) }
 {
-    let problem = instance_check::check_instance(b, m, rule)?;
-    if 128 < c {
-        return Err(Reason::Ceiling.at(0));
-    }
-    Ok((problem, Ceiling { c }))
+    let (problem, ceiling) = inspect_ceiling(b, m, rule, c)?;
+    Ok((problem, ceiling?))
 }
 
 // What the ceiling adds. At m 0 it adds nothing.

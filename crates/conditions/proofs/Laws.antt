@@ -2,7 +2,7 @@
 use mathlib.Core.Path.{◌≡◌, refl, ap, ◌∙◌}
 use mathlib.Core.Logic.{◌≢◌}
 use mathlib.Core.Bool.{Bool, true, false, not, ◌&&◌, ◌||◌}
-use Prim.Native.Nat.{ℕ, ◌+◌, ◌^◌}
+use Prim.Native.Nat.{ℕ, zero, suc, ◌+◌, ◌^◌}
 use native.Mathlib.Numerals.{add-one}
 use borrow.Author.Tests.{eq-eqb, ne_eqb}
 use lib.Dec.{eqb}
@@ -14,7 +14,7 @@ use Rattle.answers.specs.Fault.{FirstFailing}
 use Rattle.answers.proofs.Faults.{failing_every}
 use Rattle.instance.specs.declared.Sizes.{Sizes}
 use Rattle.conditions.specs.Inside.{Standing}
-use Rattle.plan.specs.Plan.{Row, condition1, condition2, condition3}
+use Rattle.plan.specs.Plan.{Row, condition, condition1, condition2, condition3}
 
 not_or : (x y : Bool) → not (x || y) ≡ not x && not y
 not_or true y = refl
@@ -57,3 +57,9 @@ standing_next here a word v more h e f w =
 -- a bit that was asked for by a number equal to it
 pub unset : (word : ℕ) {v w : ℕ} {r : Bool} → v ≡ w → r ≡ set? word v → not r ≡ not (set? word w)
 unset word e f = rw (f, e)
+
+-- a higher number than 1 is that of condition 3
+pub condition_last : (s : Sizes) (near : ℕ → ℕ → Bool) (which : ℕ) (here next : Row) (a : ℕ) → which ≢ 0 → which ≢ 1 → condition3 next a ≡ condition s near which here next a
+condition_last s near zero here next a d e = absurd (d refl)
+condition_last s near (suc zero) here next a d e = absurd (e refl)
+condition_last s near (suc (suc which)) here next a d e = refl

@@ -1,7 +1,7 @@
 // The three conditions of a valid step, asked of the bytes of a row and of the next row, and of two rows of a plan.
 #![tactic(auto)]
 
-ghost use Rattle.std.specs.Prelude.{◌≡◌, not, ◌&&◌, suc, ◌<◌, length, get_or, eqb};
+ghost use Rattle.std.specs.Prelude.{◌≡◌, not, ◌&&◌, suc, ◌<◌, ◌≤◌, min, length, get_or, eqb};
 ghost use Rattle.answers.specs.Fault.{FirstFailing};
 ghost use Rattle.instance.specs.Instance.{joined};
 ghost use Rattle.plan.specs.Plan.{row, plan_bytes, plan_row, condition, condition1, condition2, condition3};
@@ -18,6 +18,19 @@ pub enum Condition {
     Sharing,
 }
 
+// By its number, from 0; a higher number than 2 counts as 2, as in the definitions.
+impl From<usize> for Condition {
+    ghost from_gives = { λ number which. place_of which ≡ min number 2 };
+
+    fn from(number: usize) -> Condition {
+        match number {
+            0 => Condition::Crossing,
+            1 => Condition::Entering,
+            _ => Condition::Sharing,
+        }
+    }
+}
+
 // The first agent of a row that stands on x.
 pub fn first_on(here: &[u8], x: u8) -> Option<usize>
     ensures { FirstFailing (length here.now) (λ a. not (eqb (row here.now a) x)) result }
@@ -27,7 +40,7 @@ pub fn first_on(here: &[u8], x: u8) -> Option<usize>
 
 // The first agent that goes from x to y.
 pub fn first_going(here: &[u8], next: &[u8], x: u8, y: u8) -> Option<usize>
-    requires { length here.now ≡ length next.now }
+    requires { length here.now ≤ length next.now }
     ensures { FirstFailing (length here.now) (λ a. not (eqb (row here.now a) x && eqb (row next.now a) y)) result }
 {
     here.iter()

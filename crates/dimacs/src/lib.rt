@@ -137,7 +137,7 @@ fn put_numbers(texts: &mut [u8], top: usize)
 }
 
 // The texts of the words from -top to top.
-fn put_texts(texts: &mut [u8], top: usize)
+pub fn put_texts(texts: &mut [u8], top: usize)
     requires { Sized top texts.old }
     ensures { Texts top texts.new }
 {
@@ -158,9 +158,9 @@ fn entry_of(w: i32, top: usize) -> usize
 // A table of texts: those of the words from -top to top, eight bytes for each.
 #[derive(Clone, Copy)]
 pub struct WordTexts<'a> {
-    bytes: &'a [u8],
+    pub bytes: &'a [u8],
     pub top: usize,
-    ghost all: { Texts top bytes.now } by { Texts-prop top bytes.now },
+    pub ghost all: { Texts top bytes.now } by { Texts-prop top bytes.now },
 }
 
 impl<'a> WordTexts<'a> {

@@ -18,14 +18,16 @@ use Rattle.lists.proofs.Slices.{get_or_alike, filled_set}
 use Rattle.answers.specs.declared.Answer.{Answer}
 use Rattle.answers.specs.Answers.{Question, refuse, accept, decide, clear, ask, ask_each}
 use Rattle.answers.specs.declared.Refusal.{Refusal}
-use Rattle.answers.specs.Returned.{refused}
-use Rattle.answers.proofs.Returned.{refused_after}
-use Rattle.std.specs.Prelude.{Option, Some, None, IsSome}
+use Rattle.answers.specs.Returned.{refused, asked}
+use Rattle.answers.proofs.Returned.{refused_after, refusal_numbered}
+use Rattle.std.specs.Prelude.{Option, Some, None, IsSome, Result, IsErrAnd}
+use Rattle.std.proofs.lemmas.Result.{err_from_is_err_and}
 use Rattle.answers.specs.Fault.{FirstFault, FirstFailing}
 use Rattle.answers.proofs.Faults.{holds, fails}
-use Rattle.answers.proofs.Laws.{clear_iff, decide_iff, decide_after, decide_pass, fault_pass, fault_stop, by_number_accepted, ask_nil, ask_all}
+use Rattle.answers.proofs.Laws.{clear_iff, decide_iff, decide_after, decide_pass, fault_pass, fault_stop, by_number_accepted, by_number_refused, ask_nil, ask_all}
 use Rattle.instance.specs.declared.Sizes.{Sizes}
 use Rattle.instance.specs.declared.Checked.{Checked}
+use Rattle.instance.specs.declared.problem.Problem.{Problem}
 use Rattle.instance.specs.Instance.{no_goal, free, goal_count, vertices, agents, edges, goals, goal_of, instance, neighbour_words, for_agents, checked, unchecked, Edges}
 use Rattle.instance.proofs.Goals.{goal_count_ext}
 use Rattle.instance.proofs.Instance.{instance_iff, edges_known, length_known, limits}
@@ -33,6 +35,7 @@ use Rattle.instance.specs.Accepted.{Accepted}
 use Rattle.instance.proofs.Accepted.{for_agents_at, accepted}
 use Rattle.instance.specs.Questions.{question2, question3, question4, question5, question6, question7, question8, question9, question10, question31, proper_edge, later_edge, new_vertex, instance_questions, instance_answer, instance_checked}
 use Rattle.instance_check.specs.Read.{Read}
+use Rattle.instance_check.specs.Returned.{checked_at}
 
 -- one more byte in an array that is filled from a slice
 pub filled_more : (b l row : List ℕ) (from i : ℕ) → row ≡ filled (take i (drop from b)) l → from + i < length b → i < length l
@@ -194,3 +197,13 @@ module _ (b : List ℕ) (m rule : ℕ) where
 
     pub held_accepted : Accepted b held
     held_accepted = accepted b m rule held held_checked (sym (ap (λ (a : Answer). a.number) er))
+
+  -- what is returned shows the checked instance, at a refusal e all zeros
+  pub refused_unchecked : (e : Refusal) → refused e ≡ instance_answer b m rule → unchecked ≡ instance_checked b m rule
+  unfolding instance_checked
+  refused_unchecked e h =
+      sym (by_number_refused (instance_answer b m rule).number (checked b m rule) unchecked (λ z. refusal_numbered e (ap (λ (a : Answer). a.number) h ∙ z)))
+
+  pub passed_unchecked : (e : Refusal) (r : Result Problem Refusal) → IsErrAnd r (λ y. y ≡ e) → asked r ≡ instance_answer b m rule
+      → checked_at r ≡ instance_checked b m rule
+  passed_unchecked e r h q = let p = err_from_is_err_and r h in rw p.1 (refused_unchecked p.0 (rw p.1 at q))

@@ -13,6 +13,7 @@ ghost use Rattle.instance.specs.Instance.{free, instance, vertices, agents, edge
 ghost use Rattle.instance.specs.Questions.{question2, question3, question4, question5, question6, question7, question8, question9, question10, question31, proper_edge, later_edge, new_vertex, instance_answer, instance_checked};
 ghost use Rattle.instance.specs.Problem.{checked_of};
 ghost use Rattle.instance_check.specs.Read.{Read};
+ghost use Rattle.instance_check.specs.Returned.{checked_at};
 ghost use Rattle.instance_check.specs.Marked.{Ends, Marked, fan};
 
 use answers::{Reason, Refusal};
@@ -196,6 +197,7 @@ fn neighbour_words(edges: &EdgeBytes, n: usize) -> [u64; 64]
 pub fn check_instance(b: &[u8], m: usize, rule: usize) -> Result<Problem, Refusal>
     ensures answer { asked result ≡ instance_answer b.now m rule }
     ensures problem { IfOk result (λ p. (checked_of p ≡ instance_checked b.now m rule)) }
+    ensures checked { checked_at result ≡ instance_checked b.now m rule }
 {
     let len = b.len();
     if len < 4 {

@@ -21,7 +21,7 @@ use Rattle.lists.proofs.Blocks.{place_lt}
 use Rattle.lists.proofs.Slices.{for_room}
 use Rattle.lists.proofs.Rising.{when_yes}
 use Rattle.answers.specs.Fault.{FirstFault, FirstFailing}
-use Rattle.answers.proofs.Faults.{T_true, T_false, fault_at, fault_none, fault_first}
+use Rattle.answers.proofs.Faults.{T_true, T_false, fault_at, fault_none, fault_first, fault_of}
 use Rattle.instance.specs.declared.Sizes.{Sizes}
 use Rattle.instance.specs.Instance.{upward, higher, edges_before}
 use Rattle.formula.specs.Formula.{Clause, exchange, no_exchange}
@@ -163,6 +163,23 @@ module _ (s : Sizes) (two : s.rule ≡ 2) (near : ℕ → ℕ → Bool) (P Q : R
   uncrossed e u v t =
       let (o, ((a, l, (x, y)), (b, l', (x', y')))) = (crossed_iff k P Q u v).0 t in
       (second a).0 (f.before a (omega arith)) (λ q. omega arith) b l' (x' ∙ sym y, y' ∙ sym x)
+
+  -- where one does, some two are exchanged
+  pub some_crossed : ((a : ℕ) → a < k → P a < n) → r ≢ k → (u v : ℕ) × (u < n) × (v < n) × T (crossed k P Q u v)
+  some_crossed inside d =
+      let l : r < k = (let w = f.within in omega arith) in
+      let no = f.here l in
+      let moves : P r ≢ Q r = λ e. no ((second r).1 (λ h. absurd (h e))) in
+      let (b, g) = fault_of k (λ b. not (goes P Q (Q r) (P r) b)) in
+      let lb : b < k =
+      by_cases (dec_lt b k) (λ h. h) (λ h. absurd (no ((second r).1 (λ m i o e.
+      (not_iff (goes P Q (Q r) (P r) i)).0 (g.before i (omega arith)) ((going k P Q (Q r) (P r) i).1 e))))) in
+      let (e, e') = first_goes k P Q (Q r) (P r) b g lb in
+      let i = inside r l in
+      let j = inside b lb in
+      by_cases (dec_lt (P r) (Q r))
+      (λ h. (P r, Q r, i, omega arith, (crossed_iff k P Q (P r) (Q r)).1 (h, ((r, l, (refl, refl)), (b, lb, (e, e'))))))
+      (λ h. (Q r, P r, omega arith, i, (crossed_iff k P Q (Q r) (P r)).1 (omega arith, ((b, lb, (e, e')), (r, l, (refl, refl))))))
 
 -- agents that keep their vertices or cross edges exchange vertices across an edge
 pub crossed_upward : (k : ℕ) (near : ℕ → ℕ → Bool) (P Q : Row) → ((a : ℕ) → a < k → T (condition1 near P Q a))

@@ -99,7 +99,7 @@ fn tally_row(entries: &[i32], base: usize, n: usize) -> Undenied
 
 // The first entry from `low` on, below `end`, that is not its variable's negative. A loop, since a closure for `find` would be asked of
 // numbers that have no entry.
-fn first_undenied(entries: &[i32], low: usize, end: usize) -> Option<usize>
+pub fn first_undenied(entries: &[i32], low: usize, end: usize) -> Option<usize>
     requires { (low ≤ end) × (end ≤ length entries.now) × (end ≤ highest) }
     ensures { Stopping (denies entries.now) low end result }
 {

@@ -10,15 +10,22 @@ use Rattle.answers.proofs.Returned.{passed_on}
 use Rattle.instance.specs.Instance.{vertices, agents, edges}
 use Rattle.instance.specs.Questions.{question6, question7, question8, question9, question10, question31, instance_answer}
 use Rattle.instance.proofs.Accepted.{limits_known, ready}
-use Rattle.instance_check.proofs.Laws.{short, sizes_refused, sizes_passed, sizes_known, held_checked, held_accepted, edges_checked}
+use Rattle.instance_check.proofs.Laws.{short, sizes_refused, sizes_passed, sizes_known, held_checked, held_accepted, edges_checked, refused_unchecked, passed_unchecked}
 use Rattle.instance_check.proofs.check_instance.Goals as goal
 
 pub returns-then-len-lt4-clause-answer : goal.returns-then-len-lt4-clause-answer
 returns-then-len-lt4-clause-answer c = ap refused c.at.ensures ∙ short c.args.b.now c.args.m c.args.rule c.if-len-lt4.true
 
+pub returns-then-len-lt4-clause-checked : goal.returns-then-len-lt4-clause-checked
+returns-then-len-lt4-clause-checked c = refused_unchecked c.args.b.now c.args.m c.args.rule _ (returns-then-len-lt4-clause-answer c)
+
 pub returns-in_err-ask_sizes-clause-answer : goal.returns-in_err-ask_sizes-clause-answer
 returns-in_err-ask_sizes-clause-answer c =
     passed_on _ _ c.from_residual.result c.from_residual.ensures.1 (sizes_refused c.args.b.now c.args.m c.args.rule (omega arith) _ c.in_err-ask_sizes.ensures)
+
+pub returns-in_err-ask_sizes-clause-checked : goal.returns-in_err-ask_sizes-clause-checked
+returns-in_err-ask_sizes-clause-checked c =
+    passed_unchecked c.args.b.now c.args.m c.args.rule _ c.from_residual.result c.from_residual.ensures.1 (returns-in_err-ask_sizes-clause-answer c)
 
 pub ask_items-requires : goal.ask_items-requires
 ask_items-requires c =
@@ -32,6 +39,10 @@ returns-in_err-ask_items-clause-answer c =
     (c.in_err-ask_items.ensures
     ∙ ap₂ (λ (m rule : ℕ). decide (question6 b ∷ question7 b ∷ question8 b ∷ question9 b ∷ question10 m ∷ question31 rule ∷ []) 0) c.sizes_of-sizes.ensures.1 c.sizes_of-sizes.ensures.2
     ∙ sizes_passed b c.args.m c.args.rule (omega arith) (accept 0) c.in_ok-ask_sizes.ensures refl)
+
+pub returns-in_err-ask_items-clause-checked : goal.returns-in_err-ask_items-clause-checked
+returns-in_err-ask_items-clause-checked c =
+    passed_unchecked c.args.b.now c.args.m c.args.rule _ c.from_residual-in_err-ask_items.result c.from_residual-in_err-ask_items.ensures.1 (returns-in_err-ask_items-clause-answer c)
 
 pub for_agents-starts-requires : goal.for_agents-starts-requires
 for_agents-starts-requires c =
@@ -93,6 +104,9 @@ returns-clause-problem c =
     ∙ ap₂ (λ (m rule : ℕ). decide (question6 b ∷ question7 b ∷ question8 b ∷ question9 b ∷ question10 m ∷ question31 rule ∷ []) 0) c.sizes_of-sizes.ensures.1 c.sizes_of-sizes.ensures.2
     ∙ sizes_passed b c.args.m c.args.rule (omega arith) (accept 0) c.in_ok-ask_sizes.ensures refl in
     held_checked c.args.b.now c.args.m c.args.rule asked c.sizes_of-sizes.result c.sizes_of-sizes.ensures.0 c.count-g.result c.for_agents-starts.result c.for_agents-goals.result c.neighbour_words-near.result c.for_agents-starts.ensures c.for_agents-goals.ensures (c.neighbour_words-near.ensures c.args.m c.args.rule) c.count-g.ensures.0
+
+pub returns-clause-checked : goal.returns-clause-checked
+returns-clause-checked c = returns-clause-problem c
 
 pub invariant_of-neighbour_words : goal.invariant_of-neighbour_words
 invariant_of-neighbour_words c =
