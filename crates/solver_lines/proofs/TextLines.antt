@@ -362,3 +362,10 @@ module _ (text : List ℕ) where
             (ap (λ (ls : List (List ℕ)). marked ms (literals_of ls)) more
             ∙ marked_append ms (literals_on (kind (line text at))) (literals_of (lines_at text (x.end + 1)))
             ∙ ap (λ (y : List Mark). marked y (literals_of (lines_at text (x.end + 1)))) (sym em))
+
+        -- all three of the lines that are left
+        pub next_line : (ms ms1 : List Mark) → ms1 ≡ marked ms (literals_on (kind (line text at)))
+            → (wrong_lines N (x.end + 1) x.said (lines_at text (x.end + 1)) ≡ wrong_lines N at said (lines_at text at))
+            × (said_after (x.end + 1) x.said (lines_at text (x.end + 1)) ≡ said_after at said (lines_at text at))
+            × (marked ms1 (literals_of (lines_at text (x.end + 1))) ≡ marked ms (literals_of (lines_at text at)))
+        next_line ms ms1 em = (next_wrong, next_said, next_marked ms ms1 em)

@@ -180,20 +180,15 @@ fn read_s_line(text: &[u8], from: usize, said: Said) -> Option<Line>
     })
 }
 
-// A line.
+// A line that is neither empty nor one of c.
 fn read_line(text: &[u8], from: usize, n: usize, said: Said, marks: &mut [Mark]) -> Option<Line>
-    requires { (from ≤ length text.now) × (n ≤ 65536) × (n ≤ length marks.old) }
+    requires { (byte text.now from ≡ 10 → ⊥) × (byte text.now from ≡ 99 → ⊥) × (n ≤ 65536) × (n ≤ length marks.old) }
     ensures value { result ≡ line_of n (line text.now from) from said }
     ensures marks_after { IsSome result → marks.new ≡ marked marks.old (literals_on (kind (line text.now from))) }
 {
     match solver_tokens::byte_at(text, from) {
         b'v' => read_v_line(text, from, n, said, marks),
         b's' => read_s_line(text, from, said),
-        b'c' => Some(Line {
-            end: line_end(text, from),
-            said,
-        }),
-        b'\n' => Some(Line { end: from, said }),
         _ => None,
     }
 }
@@ -210,11 +205,18 @@ pub fn read_lines(text: &[u8], n: usize, marks: &mut [Mark]) -> Result<Said, usi
     };
     let mut at: usize = 0;
     while at <= text.len() {
-        let Some(l) = read_line(text, at, n, said, marks) else {
-            return Err(at);
-        };
-        said = l.said;
-        at = l.end + 1;
+        // An empty line or one of c says nothing: what was said is not touched.
+        match solver_tokens::byte_at(text, at) {
+            b'\n' => at += 1,
+            b'c' => at = line_end(text, at) + 1,
+            _ => {
+                let Some(l) = read_line(text, at, n, said, marks) else {
+                    return Err(at);
+                };
+                said = l.said;
+                at = l.end + 1;
+            }
+        }
     }
     Ok(said)
 }
