@@ -19,7 +19,7 @@ write_tree-left-requires t c =
     let tree = c.args.tree in
     let v = two_variables tree.ceiling.c tree.l c.if-tree-lt2.false in
     let r = filling_room (tree_start tree.ceiling.c tree.l tree.x c.args.y c.if-tree-lt2.false c.args.f.now c.requires.y_in_bounds) (omega arith) in
-    rw (c.left.ensures.0, c.left.ensures.1, c.left.ensures.2) (omega (arith, c.decreases), (omega arith, omega arith))
+    simp (c.left.ensures.0, c.left.ensures.1, c.left.ensures.2) (omega (arith, c.decreases), (omega arith, omega arith))
 
 pub offset_bounds-f-middle : goal.offset_bounds-f-middle
 offset_bounds-f-middle t c =
@@ -48,7 +48,7 @@ write_tree-right-requires t c =
     let left = rw (c.left.ensures.0, c.left.ensures.1, c.left.ensures.2) at c.write_tree-left.ensures in
     let v = two_variables tree.ceiling.c tree.l c.if-tree-lt2.false in
     let r = filling_room (left_done tree.ceiling.c tree.l tree.x c.args.y c.if-tree-lt2.false c.args.f.now c.requires.y_in_bounds left) (omega arith) in
-    rw (c.right.ensures.0, c.right.ensures.1, c.right.ensures.2, left.1)
+    simp (c.right.ensures.0, c.right.ensures.1, c.right.ensures.2, left.1)
     (omega (arith, c.decreases), (omega arith, simp (length-take, length-drop) (omega arith)))
 
 pub overflow_add-end : goal.overflow_add-end
